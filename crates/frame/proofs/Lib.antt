@@ -1,0 +1,14 @@
+-- The laws that several proofs cite, each in a file named for what it speaks of.
+pub mod Marks
+pub mod Shifts
+pub mod Tables
+pub mod Digits
+pub mod Upward
+pub mod Constants
+pub mod Signs
+pub mod Three
+pub mod Verdict
+pub mod Refusals
+pub mod Fronts
+pub mod Counted
+pub mod Sums

@@ -1,0 +1,148 @@
+-- The parts of a reply's word are small enough to add up, and end where the next begins. Assumes nothing.
+use mathlib.Core.Path.{_≡_, refl, sym, ap, _∙_}
+use mathlib.Core.Bool.{Bool, true, false}
+use Prim.Native.Nat.{ℕ, zero, suc, _+_, _-_, _*_, _/_, _%_, _^_, _<_, _≤_, min}
+use native.Mathlib.Nat.{lt-of-lt-of-le, mul-assoc, mul-comm, mul-mod-left}
+use native.Mathlib.Omega.{arith}
+use borrow.Author.Tests.{leb-true}
+use lib.Dec.{leb, lit<, lit≤}
+use lib.Pow.{pow-add, pow-mono, shl-lt, ones-lt}
+use Rattle.frame.specs.declared.Temperature.{Temperature}
+use Rattle.frame.specs.declared.Temperature.the-variants.{Degrees, Above, Below, Absent}
+use Rattle.frame.specs.Pick.{pick}
+use Rattle.frame.specs.Line.{put, mark}
+use Rattle.frame.specs.Level.{Mode, valuesOf, writeRow, modeOf, putLevel, fractionalMode, decimalMode, twentyMetreMode, thirtyMetreMode}
+use Rattle.frame.specs.Temperature.{isPlus, magnitude, putDegrees, putHundreds1900, putDegrees1900, putHeat1900, putDegrees1800, putHeat1800, putHeat, isAbsent}
+use Rattle.frame.specs.declared.Reading.{Reading}
+use Rattle.frame.specs.Reply.{modeIn, is1800, bodyOf}
+use Rattle.frame.specs.Packed.{rowOf, writeBy, digitBits, threeOf}
+use Rattle.frame.proofs.Constants.{fractional-write, decimal-write, metres20-write, metres30-write, fractional-values, decimal-values, metres20-values, metres30-values}
+use Rattle.frame.proofs.Upward.{upward, up-lt, sixteen}
+use Rattle.frame.proofs.Tables.{pick-case}
+use Rattle.frame.proofs.Verdict.{every-mode}
+
+-- a part that begins at bit 27 of the word and stays below bit 53
+pub record Middle (n : ℕ) : Type 0 where
+  pub small : n < 2 ^ 53
+  pub ends : n % 2 ^ 27 ≡ 0
+
+shifted : (a j fill : ℕ) → a < 2 ^ j → j + (27 + fill) ≤ 53 → Middle (a * 2 ^ (27 + fill))
+shifted a j fill h w =
+    record {
+      small = lt-of-lt-of-le (shl-lt j (27 + fill) h) (pow-mono {i = j + (27 + fill)} {j = 53} w);
+      ends = rw (pow-add 2 27 fill, mul-comm (2 ^ 27) (2 ^ fill), ← mul-assoc a (2 ^ fill) (2 ^ 27)) (mul-mod-left (a * 2 ^ fill) (2 ^ 27));
+    }
+
+written-lt : (row digits v : ℕ) → v < valuesOf (rowOf row digits) → writeRow (rowOf row digits) false v < 2 ^ (4 * digits)
+written-lt row digits v h = rw (← upward row digits v h, sixteen digits) (up-lt row digits v)
+
+by-constants : (v digits first fill largest row : ℕ) → largest < valuesOf (rowOf row digits) → 16 ≤ first → first ≤ 17 → fill ≤ 6 → 4 * digits + (27 + fill) ≤ 53 → Middle (writeBy v digits first fill largest row)
+by-constants v digits first fill largest row values low high room total = go (leb v largest) refl
+  where
+    go : (b : Bool) → leb v largest ≡ b → Middle (writeBy v digits first fill largest row)
+    go true e = rw e (shifted (writeRow (rowOf row digits) false v) (4 * digits) fill (written-lt row digits v (omega (arith, leb-true v largest e))) total)
+    go false e = rw e (shifted (2 ^ digitBits first fill - 1) (digitBits first fill) fill (ones-lt (digitBits first fill)) (omega arith))
+
+-- the level's part, in every mode
+pub level-middle : (k v : ℕ) → Middle (putLevel (modeOf k) v)
+level-middle k v =
+    every-mode (λ (m : Mode). Middle (putLevel m v))
+    (rw (← fractional-write v) (by-constants v 4 17 6 15359 0x5432 fractional-values (lit≤ tt) (lit≤ tt) (lit≤ tt) (lit≤ tt)))
+    (rw (← decimal-write v) (by-constants v 4 17 6 7999 0x3332 decimal-values (lit≤ tt) (lit≤ tt) (lit≤ tt) (lit≤ tt)))
+    (rw (← metres20-write v) (by-constants v 5 16 5 19999 0x33330 metres20-values (lit≤ tt) (lit≤ tt) (lit≤ tt) (lit≤ tt)))
+    (rw (← metres30-write v) (by-constants v 5 16 4 32699 0x33331 metres30-values (lit≤ tt) (lit≤ tt) (lit≤ tt) (lit≤ tt)))
+    k
+
+-- a part that begins at bit 9 of the word and stays below bit 25
+pub record Low (n : ℕ) : Type 0 where
+  pub small : n < 2 ^ 25
+  pub ends : n % 2 ^ 9 ≡ 0
+
+-- sign and digits end below bit 24, the hundreds' bits stand above the digits
+degrees-small : (plus : Bool) (m : ℕ) → putDegrees plus m < 2 ^ 23 + 2 ^ 21
+degrees-small true m = omega arith
+degrees-small false m = omega arith
+
+degrees-ends : (plus : Bool) (m : ℕ) → putDegrees plus m % 2 ^ 9 ≡ 0
+degrees-ends true m = omega arith
+degrees-ends false m = omega arith
+
+degrees-low : (plus : Bool) (m : ℕ) → Low (putDegrees plus m)
+degrees-low plus m = record { small = omega (arith, degrees-small plus m); ends = degrees-ends plus m }
+
+with-hundreds : (a b c d : ℕ) → a ≤ 1 → b ≤ 1 → c ≤ 1 → d < 2 ^ 23 + 2 ^ 21 → d % 2 ^ 9 ≡ 0 → Low (a * 2 ^ 24 + b * 2 ^ 22 + c * 2 ^ 21 + d)
+with-hundreds a b c d ha hb hc small ends = record { small = omega arith; ends = omega arith }
+
+all-1900 : (plus : Bool) (m : ℕ) → Low (putDegrees1900 plus m)
+unfolding putDegrees1900
+all-1900 plus m =
+    let h = m / 1000 in
+    with-hundreds (1 - h % 2) (1 - h / 2 % 2) (1 - h / 4 % 2) (putDegrees plus m) (omega arith) (omega arith) (omega arith) (degrees-small plus m) (degrees-ends plus m)
+
+low-1900 : (t : Temperature) → Low (putHeat1900 t)
+unfolding putHeat1900
+low-1900 (Degrees d) = all-1900 (isPlus d) (min (magnitude d) 7999)
+low-1900 Above = all-1900 true 7999
+low-1900 Below = all-1900 false 7999
+low-1900 Absent = record { small = omega arith; ends = omega arith }
+
+low-1800 : (t : Temperature) → Low (putHeat1800 t)
+unfolding putHeat1800 putDegrees1800
+low-1800 (Degrees d) = pick-case Low (leb (magnitude d) 999) (degrees-low (isPlus d) (magnitude d)) (pick-case Low (isPlus d) above below)
+  where
+    above : Low (put 1 41 + put 1 43)
+    above = record { small = omega arith; ends = omega arith }
+
+    below : Low (put 1 40 + put 1 43)
+    below = record { small = omega arith; ends = omega arith }
+low-1800 Above = record { small = omega arith; ends = omega arith }
+low-1800 Below = record { small = omega arith; ends = omega arith }
+low-1800 Absent = record { small = omega arith; ends = omega arith }
+
+pub heat-low : (is1800 : Bool) (t : Temperature) → Low (putHeat is1800 t)
+heat-low is1800 t = pick-case Low is1800 (low-1800 t) (low-1900 t)
+
+-- the whole word without its parity bit: it fits, with room for the parity bit, which stands below all the rest
+pub record Body (n : ℕ) : Type 0 where
+  pub small : n < 2 ^ 63 + 2 ^ 62
+  pub ends : n % 2 ^ 9 ≡ 0
+
+add-up : (h l a b t : ℕ) → h < 2 ^ 12 → Middle l → a ≤ 1 → b ≤ 1 → Low t → Body (2 ^ 63 + h * 2 ^ 49 + l + a * 2 ^ 26 + b * 2 ^ 25 + t)
+add-up h l a b t hh ml ha hb lt = record { small = omega arith; ends = omega arith }
+
+-- the definition of the word, its address digits as one number
+pub body-is : (settings address : ℕ) (r : Reading) → bodyOf settings address r ≡ 2 ^ 63 + threeOf address * 2 ^ 49 + putLevel (modeIn settings) (r .level) + mark (r .alarm1) * 2 ^ 26 + mark (r .alarm0) * 2 ^ 25 + putHeat (is1800 settings) (r .temperature)
+unfolding bodyOf
+body-is settings address r = regroup (address / 100) (address / 10 % 10) (address % 10) (putLevel (modeIn settings) (r .level)) (mark (r .alarm1)) (mark (r .alarm0)) (putHeat (is1800 settings) (r .temperature))
+  where
+    regroup : (x y z l a b t : ℕ) → 1 * 2 ^ 63 + (x * 2 ^ 57 + y * 2 ^ 53 + z * 2 ^ 49) + l + a * 2 ^ 26 + b * 2 ^ 25 + t ≡ 2 ^ 63 + (x * 256 + y * 16 + z) * 2 ^ 49 + l + a * 2 ^ 26 + b * 2 ^ 25 + t
+    regroup x y z l a b t = omega arith
+
+mark-le : (b : Bool) → mark b ≤ 1
+mark-le true = omega arith
+mark-le false = omega arith
+
+pub three-lt : (v : ℕ) → v ≤ 999 → threeOf v < 2 ^ 12
+three-lt v h = omega arith
+
+pub body-right : (settings address : ℕ) (r : Reading) → address ≤ 999 → Body (bodyOf settings address r)
+body-right settings address r h =
+    rw (body-is settings address r)
+    (add-up (threeOf address) (putLevel (modeIn settings) (r .level)) (mark (r .alarm1)) (mark (r .alarm0)) (putHeat (is1800 settings) (r .temperature)) (three-lt address h) (level-middle (settings % 4) (r .level)) (mark-le (r .alarm1)) (mark-le (r .alarm0)) (heat-low (is1800 settings) (r .temperature)))
+
+-- an absent temperature has no bits, so that 40 bits hold the rest
+no-heat : (b : Bool) (t : Temperature) → isAbsent t ≡ true → putHeat b t ≡ 0
+unfolding putHeat1800 putHeat1900
+no-heat b (Degrees d) e = let z : _≡_ {A = ℕ} 0 1 = cc in absurd (omega arith)
+no-heat b Above e = let z : _≡_ {A = ℕ} 0 1 = cc in absurd (omega arith)
+no-heat b Below e = let z : _≡_ {A = ℕ} 0 1 = cc in absurd (omega arith)
+no-heat true Absent e = refl
+no-heat false Absent e = refl
+
+pub body-short : (settings address : ℕ) (r : Reading) → isAbsent (r .temperature) ≡ true → bodyOf settings address r % 2 ^ 24 ≡ 0
+body-short settings address r e =
+    rw (body-is settings address r, no-heat (is1800 settings) (r .temperature) e)
+    (ends (threeOf address) (putLevel (modeIn settings) (r .level)) (mark (r .alarm1)) (mark (r .alarm0)) (level-middle (settings % 4) (r .level)))
+  where
+    ends : (h l a b : ℕ) → Middle l → (2 ^ 63 + h * 2 ^ 49 + l + a * 2 ^ 26 + b * 2 ^ 25 + 0) % 2 ^ 24 ≡ 0
+    ends h l a b m = omega arith

@@ -1,0 +1,158 @@
+-- What a reply answers by the tests that were made: each fault once those before it do not apply, and what the number of a level says
+-- of faults 6, 7 and 8. Assumes nothing.
+use mathlib.Core.Path.{_≡_, refl, sym, ap, _∙_}
+use mathlib.Core.Bool.{Bool, true, false, not, _&&_}
+use mathlib.Core.List.{List, [], _∷_}
+use Prim.Native.Nat.{ℕ, zero, suc, _+_, _*_, _/_, _%_, _^_, _<_, _≤_}
+use native.Mathlib.Omega.{arith}
+use borrow.Author.Tests.{ltb-false, ne-eqb}
+use lib.Dec.{T, eqb, ltb, leb, leb→le, ltb→lt}
+use lib.ListN.{length}
+use Rattle.frame.specs.declared.Reply.{Reply}
+use Rattle.frame.specs.declared.Reply.the-variants.{Read, Refused}
+use Rattle.frame.specs.Pick.{pick}
+use Rattle.frame.specs.Line.{line, bit, threeDecimal, threeDigits}
+use Rattle.frame.specs.Charts.{Chart, sizeOf, isOdd, turned, placeIn, oneBit, twoBits, feetTens, decimal, inches, sixteenths}
+use Rattle.frame.specs.Level.{Level, known, lost, Mode, widthOf, readRow, modeOf, fractionalMode, decimalMode, twentyMetreMode, thirtyMetreMode, levelOf, fillClear, noChart, valueOf, aboveLargest}
+use Rattle.frame.specs.Temperature.{isBad, temperatureOf}
+use Rattle.frame.specs.Faults.{firstOf}
+use Rattle.frame.specs.Reply.{modeIn, heatIn, parityRight, readingAt}
+use Rattle.frame.specs.Packed.{levelNumber, levelCode, lineFault, lineReply, heatReply}
+use Rattle.frame.proofs.Tables.{pick-case}
+
+-- the place of a digit in no chart is within the row
+abbrev LostBelow : ℕ → Level → Type 0
+LostBelow b (known v) = Unit {0}
+LostBelow b (lost k) = k < b
+
+lost-below : (cs : List Chart) (bits : ℕ) (odd : Bool) (sofar place most : ℕ) → place + length cs ≤ most → LostBelow most (readRow cs bits odd sofar place)
+unfolding readRow
+lost-below [] bits odd sofar place most h = tt
+lost-below (c ∷ cs) bits odd sofar place most h =
+    let at = placeIn (bits / 2 ^ widthOf cs % 2 ^ (c .width)) (c .codes) in
+    let d = turned odd (sizeOf c) at in
+    pick-case (LostBelow most) (ltb at (sizeOf c)) (lost-below cs bits (isOdd d) (sofar * sizeOf c + d) (suc place) most (omega arith)) (omega arith)
+
+-- each mode has levels of 16 bits and at most five digits
+pub every-mode : (P : Mode → Type 0) → P fractionalMode → P decimalMode → P twentyMetreMode → P thirtyMetreMode → (k : ℕ) → P (modeOf k)
+unfolding modeOf
+every-mode P a b c d k = pick-case P (eqb k 0) a (pick-case P (eqb k 1) b (pick-case P (eqb k 2) c d))
+
+small-levels : (k : ℕ) → modeOf k .largest < 65536
+unfolding fractionalMode decimalMode twentyMetreMode thirtyMetreMode
+small-levels k = ltb→lt (modeOf k .largest) 65536 (every-mode (λ (m : Mode). T (ltb (m .largest) 65536)) tt tt tt tt k)
+
+few-digits : (k : ℕ) → length (modeOf k .row) ≤ 5
+unfolding fractionalMode decimalMode twentyMetreMode thirtyMetreMode
+few-digits k = leb→le (length (modeOf k .row)) 5 (every-mode (λ (m : Mode). T (leb (length (m .row)) 5)) tt tt tt tt k)
+
+-- faults 6, 7 and 8 in their order, before a rest
+abbrev pub afterLevel : Mode → Bool → Level → ℕ → ℕ
+afterLevel m clear l rest = pick (not clear) 6 (pick (noChart l) 7 (pick (aboveLargest m l) 8 rest))
+
+abbrev numberOf : Mode → Bool → Level → ℕ
+numberOf m clear l = pick clear (levelNumber (m .largest) l) (6 * 65536)
+
+module _ (m : Mode) (small : m .largest < 65536) where
+  refusing : (clear : Bool) (l : Level) → LostBelow 5 l → 65536 ≤ numberOf m clear l → (rest : ℕ) → numberOf m clear l / 65536 ≡ afterLevel m clear l rest
+  refusing false l few h rest = refl
+  refusing true (lost k) few h rest = omega arith
+  refusing true (known v) few h rest = go (ltb (m .largest) v) refl
+    where
+      go : (t : Bool) → ltb (m .largest) v ≡ t → numberOf m true (known v) / 65536 ≡ afterLevel m true (known v) rest
+      go true e = rw e
+      go false e = absurd (omega (arith, ltb-false (m .largest) v e, small, rw e at h))
+
+  number-lt : (clear : Bool) (l : Level) → LostBelow 5 l → numberOf m clear l < 9 * 65536
+  number-lt false l few = omega arith
+  number-lt true (lost k) few = omega arith
+  number-lt true (known v) few = go (ltb (m .largest) v) refl
+    where
+      go : (t : Bool) → ltb (m .largest) v ≡ t → numberOf m true (known v) < 9 * 65536
+      go true e = rw e (omega arith)
+      go false e = rw e (omega (arith, ltb-false (m .largest) v e, small))
+
+  passing : (clear : Bool) (l : Level) → numberOf m clear l < 65536 → (rest : ℕ) → afterLevel m clear l rest ≡ rest
+  passing false l h rest = absurd (omega arith)
+  passing true (lost k) h rest = absurd (omega arith)
+  passing true (known v) h rest = go (ltb (m .largest) v) refl
+    where
+      go : (t : Bool) → ltb (m .largest) v ≡ t → afterLevel m true (known v) rest ≡ rest
+      go true e = absurd (omega (arith, rw e at h))
+      go false e = rw e
+
+  value-is : (clear : Bool) (l : Level) → numberOf m clear l < 65536 → valueOf l ≡ numberOf m clear l
+  value-is false l h = absurd (omega arith)
+  value-is true (lost k) h = absurd (omega arith)
+  value-is true (known v) h = go (ltb (m .largest) v) refl
+    where
+      go : (t : Bool) → ltb (m .largest) v ≡ t → v ≡ numberOf m true (known v)
+      go true e = absurd (omega (arith, rw e at h))
+      go false e = rw e
+
+-- the level of a line in the mode of some settings
+module _ (settings n : ℕ) where
+  few : LostBelow 5 (levelOf (modeIn settings) n)
+  few = lost-below (modeIn settings .row) _ false 0 0 5 (omega (arith, few-digits (settings % 4)))
+
+  pub level-refused : 65536 ≤ levelCode (modeIn settings) n → (rest : ℕ)
+      → levelCode (modeIn settings) n / 65536 ≡ afterLevel (modeIn settings) (fillClear n (modeIn settings .fill)) (levelOf (modeIn settings) n) rest
+  unfolding levelCode
+  level-refused h rest = refusing (modeIn settings) (small-levels (settings % 4)) (fillClear n (modeIn settings .fill)) (levelOf (modeIn settings) n) few h rest
+
+  pub level-lt : levelCode (modeIn settings) n < 9 * 65536
+  unfolding levelCode
+  level-lt = number-lt (modeIn settings) (small-levels (settings % 4)) (fillClear n (modeIn settings .fill)) (levelOf (modeIn settings) n) few
+
+  pub level-passed : levelCode (modeIn settings) n < 65536 → (rest : ℕ)
+      → afterLevel (modeIn settings) (fillClear n (modeIn settings .fill)) (levelOf (modeIn settings) n) rest ≡ rest
+  unfolding levelCode
+  level-passed h rest = passing (modeIn settings) (small-levels (settings % 4)) (fillClear n (modeIn settings .fill)) (levelOf (modeIn settings) n) h rest
+
+  pub level-value : levelCode (modeIn settings) n < 65536 → valueOf (levelOf (modeIn settings) n) ≡ levelCode (modeIn settings) n
+  unfolding levelCode
+  level-value h = value-is (modeIn settings) (small-levels (settings % 4)) (fillClear n (modeIn settings .fill)) (levelOf (modeIn settings) n) h
+
+-- the answer of a reply of the right form and length, by the tests made of it
+module _ (settings address count : ℕ) (s : List ℕ) where
+  abbrev pub right4 : Bool
+  right4 = threeDecimal (line s) 4 && eqb (threeDigits (line s) 4) address
+
+  abbrev fault9 : ℕ
+  fault9 = pick (isBad (heatIn settings count (line s))) 9 0
+
+  answer-is : (f : ℕ) → lineFault settings address count s ≡ f → (f ≡ 0 → ⊥) → lineReply settings address count s ≡ Refused f
+  unfolding lineReply
+  answer-is f e some = rw e (simp (ne-eqb _ _ some))
+
+  pub line-3 : eqb (bit (line s) 1) 0 ≡ true → lineReply settings address count s ≡ Refused 3
+  unfolding lineFault
+  line-3 e3 = answer-is 3 (rw e3) (omega arith)
+
+  module _ (e3 : eqb (bit (line s) 1) 0 ≡ false) where
+    pub line-4 : right4 ≡ false → lineReply settings address count s ≡ Refused 4
+    unfolding lineFault
+    line-4 e4 = answer-is 4 (rw (e3, e4)) (omega arith)
+
+    module _ (e4 : right4 ≡ true) where
+      pub line-5 : parityRight settings s ≡ false → lineReply settings address count s ≡ Refused 5
+      unfolding lineFault
+      line-5 e5 = answer-is 5 (rw (e3, e4, e5)) (omega arith)
+
+      module _ (e5 : parityRight settings s ≡ true) where
+        from-6 : lineFault settings address count s ≡ afterLevel (modeIn settings) (fillClear (line s) (modeIn settings .fill)) (levelOf (modeIn settings) (line s)) fault9
+        unfolding lineFault
+        from-6 = rw (e3, e4, e5)
+
+        pub line-level : 65536 ≤ levelCode (modeIn settings) (line s) → lineReply settings address count s ≡ Refused (levelCode (modeIn settings) (line s) / 65536)
+        line-level h = answer-is (levelCode (modeIn settings) (line s) / 65536) (from-6 ∙ sym (level-refused settings (line s) h fault9)) (omega arith)
+
+        pub line-read : levelCode (modeIn settings) (line s) < 65536 → lineReply settings address count s ≡ heatReply settings count (line s) (levelCode (modeIn settings) (line s))
+        unfolding lineReply heatReply
+        line-read h = rw (from-6 ∙ level-passed settings (line s) h fault9) (go (isBad (heatIn settings count (line s))) refl)
+          where
+            go : (b : Bool) → isBad (heatIn settings count (line s)) ≡ b
+                → pick (eqb (pick (isBad (heatIn settings count (line s))) 9 0) 0) (Read (readingAt settings count (line s))) (Refused (pick (isBad (heatIn settings count (line s))) 9 0))
+                ≡ heatReply settings count (line s) (levelCode (modeIn settings) (line s))
+            go true e = rw e
+            go false e = rw (e, level-value settings (line s) h)

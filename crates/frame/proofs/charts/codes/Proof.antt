@@ -1,0 +1,44 @@
+-- `frame::charts::codes` meets its contract: each word is what the definition computes from its chart. Assumes nothing.
+use borrow.Author.Needs.{needs}
+use Rattle.frame.specs.Charts.{oneBit, twoBits, feetTens, decimal, inches, sixteenths}
+use Rattle.frame.specs.Packed.{chartOf, codesOf}
+use Rattle.frame.proofs.Tables.{else-sixteenths}
+use Rattle.frame.proofs.charts.codes.Statement.{statement}
+use Rattle.frame.proofs.charts.codes.Tie as tie
+use Rattle.frame.proofs.charts.codes.Reads as reads
+use Rattle.frame.proofs.charts.codes.Lts as lts
+
+-- src/charts.rt:51:1
+returns : tie.Need-returns
+unfolding chartOf oneBit codesOf
+returns c = rw (c .match .keys1)
+
+-- src/charts.rt:51:1
+returns-2 : tie.Need-returns-2
+unfolding chartOf twoBits codesOf
+returns-2 c = rw (c .match .keys2)
+
+-- src/charts.rt:51:1
+returns-3 : tie.Need-returns-3
+unfolding chartOf feetTens codesOf
+returns-3 c = rw (c .match .keys3)
+
+-- src/charts.rt:51:1
+returns-4 : tie.Need-returns-4
+unfolding chartOf decimal codesOf
+returns-4 c = rw (c .match .keys4)
+
+-- src/charts.rt:51:1
+returns-5 : tie.Need-returns-5
+unfolding chartOf inches codesOf
+returns-5 c = rw (c .match .keys5)
+
+-- src/charts.rt:51:1
+returns-6 : tie.Need-returns-6
+unfolding sixteenths codesOf
+returns-6 c =
+    let r = c .match .rest in
+    rw (else-sixteenths _ (r .0 .0 .0 .0 .1) (r .0 .0 .0 .1) (r .0 .0 .1) (r .0 .1) (r .1))
+
+pub codes-spec : {M : Type 1} → statement M
+codes-spec = tie.close (tie.spec returns returns-2 returns-3 returns-4 returns-5 returns-6)

@@ -1,0 +1,32 @@
+-- `frame::heat::degrees` meets its contract: a number up to 7,999 and its negative fit 16 bits. Assumes nothing.
+use mathlib.Core.Path.{_≡_, ap, _∙_}
+use native.Mathlib.Omega.{arith}
+use lib.IntN.{ℤ, pos, negℤ, _-ℤ_}
+use mir.Syntax.{w16}
+use mir.Val.{toZ}
+use mir.Facts.{toZ-ofZ, toZ-pos}
+use Rattle.frame.proofs.Signs.{minus-is, minus-small}
+use borrow.Author.Needs.{needs}
+use Rattle.frame.proofs.heat.degrees.Statement.{statement}
+use Rattle.frame.proofs.heat.degrees.Tie as tie
+use Rattle.frame.proofs.heat.degrees.Reads as reads
+use Rattle.frame.proofs.heat.degrees.Lts as lts
+
+cast-d : tie.Need-cast-d
+cast-d c = search needs
+
+returns : tie.Need-returns
+returns c = rw (c .if1 .taken, toZ-pos w16 {n = c .before .args .m} (omega arith))
+
+sub-result : tie.Need-sub-result
+sub-result c =
+    let m = c .before .args .m in
+    rw (toZ-pos w16 {n = m} (omega arith), minus-is m) (minus-small m (c .before .pre))
+
+returns-2 : tie.Need-returns-2
+returns-2 c =
+    let m = c .before .args .m in
+    rw (c .if1 .left, toZ-pos w16 {n = m} (omega arith), minus-is m) (toZ-ofZ {w = w16} (minus-small m (c .before .pre)))
+
+pub degrees-spec : {M : Type 1} → statement M
+degrees-spec = tie.close (tie.spec cast-d returns sub-result returns-2)

@@ -1,0 +1,84 @@
+-- `frame::heat::write_1900` meets its contract: each arm is a case of the definition. Assumes nothing.
+use mathlib.Core.Path.{_≡_, sym, ap, _∙_}
+use mir.Syntax.{w16}
+use mir.Val.{toZ, ofZ}
+use mir.Facts.{toZ-ofZ}
+use Rattle.frame.specs.Temperature.{putHeat1900, putDegrees1900}
+use borrow.Author.Needs.{needs}
+use Rattle.frame.proofs.heat.write_1900.Statement.{statement}
+use Rattle.frame.proofs.heat.write_1900.Tie as tie
+use Rattle.frame.proofs.heat.write_1900.Reads as reads
+use Rattle.frame.proofs.heat.write_1900.Lts as lts
+use Rattle.frame.proofs.heat.is_plus.Reads as is-plus-reads
+use Rattle.frame.proofs.heat.magnitude.Reads as magnitude-reads
+use Rattle.frame.proofs.heat.put_1900.Reads as put-1900-reads
+use Rattle.frame.proofs.heat.within_1900.Reads as within-1900-reads
+
+enum-known-t : tie.Need-enum-known-t
+enum-known-t c = search needs
+
+is-plus-requires : tie.Need-is-plus-requires
+is-plus-requires c κs = search needs
+
+magnitude-requires : tie.Need-magnitude-requires
+magnitude-requires c κs = search needs
+
+within-1900-requires : tie.Need-within-1900-requires
+within-1900-requires c κs = search needs
+
+put-1900-requires : tie.Need-put-1900-requires
+put-1900-requires c κs = search needs
+
+enum-told : tie.Need-enum-told
+enum-told c = search needs
+
+put-1900-requires-2 : tie.Need-put-1900-requires-2
+put-1900-requires-2 c κs = search needs
+
+enum-told-2 : tie.Need-enum-told-2
+enum-told-2 c = search needs
+
+put-1900-requires-3 : tie.Need-put-1900-requires-3
+put-1900-requires-3 c κs = search needs
+
+enum-told-3 : tie.Need-enum-told-3
+enum-told-3 c = search needs
+
+returns : tie.Need-returns
+unfolding putHeat1900
+returns c =
+    let k = c .before .before .before .before in
+    let d = k .before .t .given .0 .0 in
+    let same : toZ w16 (ofZ w16 d) ≡ d = toZ-ofZ {w = w16} {z = d} (record { sfits = k .known-told .given .0 .1 }) in
+    c .put-1900 .ensures ∙ simp (c .before .before .before .is-plus .ensures, c .before .within-1900 .ensures, c .before .before .magnitude .ensures, same, k .before .t .given .1)
+
+returns-2 : tie.Need-returns-2
+unfolding putHeat1900
+returns-2 c = c .put-19002 .ensures ∙ simp (c .before .enum-told .given .1)
+
+returns-3 : tie.Need-returns-3
+unfolding putHeat1900
+returns-3 c = c .put-19003 .ensures ∙ simp (c .before .enum-told2 .given .1)
+
+returns-4 : tie.Need-returns-4
+unfolding putHeat1900
+returns-4 c = simp (c .enum-told3 .given .1)
+
+pub write-1900-spec : {M : Type 1} → statement M
+write-1900-spec =
+    tie.close
+    (tie.spec
+    enum-known-t
+    is-plus-requires
+    magnitude-requires
+    within-1900-requires
+    put-1900-requires
+    enum-told
+    put-1900-requires-2
+    enum-told-2
+    put-1900-requires-3
+    enum-told-3
+    returns
+    returns-2
+    returns-3
+    returns-4)

@@ -1,0 +1,18 @@
+-- `frame::modes::Fractional::read` meets its contract: its constants give what its mode says. Assumes nothing.
+use mathlib.Core.Path.{_∙_}
+use Rattle.frame.proofs.Constants.{fractional-read}
+use borrow.Author.Needs.{needs}
+use Rattle.frame.proofs.modes.Fractional.read.Statement.{statement}
+use Rattle.frame.proofs.modes.Fractional.read.Tie as tie
+use Rattle.frame.proofs.modes.Fractional.read.Reads as reads
+use Rattle.frame.proofs.modes.Fractional.read.Lts as lts
+use Rattle.frame.proofs.level.read_by.Reads as read-by-reads
+
+read-by-requires : tie.Need-read-by-requires
+read-by-requires c κs = search needs
+
+returns : tie.Need-returns
+returns c = c .read-by .ensures ∙ fractional-read (c .before .args .n)
+
+pub read-spec : {M : Type 1} → statement M
+read-spec = tie.close (tie.spec read-by-requires returns)

@@ -1,0 +1,18 @@
+-- `frame::modes::Metres30::write` meets its contract: its constants give what its mode says. Assumes nothing.
+use mathlib.Core.Path.{_∙_}
+use native.Mathlib.Omega.{arith}
+use Rattle.frame.proofs.Constants.{metres30-write, metres30-values}
+use Rattle.frame.proofs.modes.Metres30.write.Statement.{statement}
+use Rattle.frame.proofs.modes.Metres30.write.Tie as tie
+use Rattle.frame.proofs.modes.Metres30.write.Reads as reads
+use Rattle.frame.proofs.modes.Metres30.write.Lts as lts
+use Rattle.frame.proofs.level.write_by.Reads as write-by-reads
+
+write-by-requires : tie.Need-write-by-requires
+write-by-requires c κs = (omega arith, (omega arith, (omega arith, (omega arith, metres30-values))))
+
+returns : tie.Need-returns
+returns c = c .write-by .ensures ∙ metres30-write (c .before .args .v)
+
+pub write-spec : {M : Type 1} → statement M
+write-spec = tie.close (tie.spec write-by-requires returns)

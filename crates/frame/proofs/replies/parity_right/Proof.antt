@@ -1,0 +1,22 @@
+-- `frame::replies::parity_right` meets its contract: the count is that of the definition. Assumes nothing.
+use mathlib.Core.Path.{ap}
+use Prim.Native.Nat.{ℕ, _/_, _%_}
+use lib.Dec.{eqb}
+use borrow.Author.Needs.{needs}
+use Rattle.frame.proofs.replies.parity_right.Statement.{statement}
+use Rattle.frame.proofs.replies.parity_right.Tie as tie
+use Rattle.frame.proofs.replies.parity_right.Reads as reads
+use Rattle.frame.proofs.replies.parity_right.Lts as lts
+use Rattle.frame.proofs.line.marks.Reads as marks-reads
+
+marks-requires : tie.Need-marks-requires
+marks-requires c κs = search needs
+
+cast-result : tie.Need-cast-result
+cast-result c = search needs
+
+returns : tie.Need-returns
+returns c = ap (λ (n : ℕ). eqb (n % 2) (c .before .before .args .settings / 8 % 2)) (c .marks .ensures)
+
+pub parity-right-spec : {M : Type 1} → statement M
+parity-right-spec = tie.close (tie.spec marks-requires cast-result returns)

@@ -1,0 +1,140 @@
+-- `frame::write_reply` meets its contract: a refusal leaves the output, and the bytes stored are those of the reply's line. Assumes nothing.
+use mathlib.Core.Path.{_≡_, refl, sym, ap, _∙_}
+use mathlib.Core.Bool.{Bool, true, false}
+use mathlib.Core.List.{List, _++_}
+use Prim.Native.Nat.{ℕ, _<_, _≤_}
+use native.Mathlib.Omega.{arith}
+use borrow.Author.Tests.{lt-ltb, le-ltb, ne-eqb}
+use lib.Dec.{ltb}
+use lib.ListN.{length, drop}
+use Rattle.frame.specs.declared.Reading.{Reading}
+use Rattle.frame.specs.declared.Written.the-variants.{Bytes, Refused}
+use Rattle.frame.specs.Line.{firstBytes}
+use Rattle.frame.specs.Temperature.{isAbsent}
+use Rattle.frame.specs.Reply.{WritesReply, writeReplyFault, replyLine, sizeFor}
+use borrow.Author.Needs.{needs}
+use Rattle.frame.proofs.write_reply.Statement.{statement}
+use Rattle.frame.proofs.write_reply.Tie as tie
+use Rattle.frame.proofs.write_reply.Reads as reads
+use Rattle.frame.proofs.write_reply.Lts as lts
+use Rattle.frame.proofs.writing.is_absent.Reads as is-absent-reads
+use Rattle.frame.proofs.writing.store_5.Reads as store-5-reads
+use Rattle.frame.proofs.writing.store_7.Reads as store-7-reads
+use Rattle.frame.proofs.writing.whole_line.Reads as whole-line-reads
+
+-- a refusal leaves the output; a success leaves the bytes of the line before what followed them
+module _ (settings address : ℕ) (r : Reading) (out : List ℕ) where
+  refused : (f : ℕ) → writeReplyFault settings address r out ≡ f → (f ≡ 0 → ⊥) → WritesReply settings address r out (Refused f) out
+  refused f e some = record { answers = rw e (simp (ne-eqb _ _ some)); leaves = rw e (simp (ne-eqb _ _ some)) }
+
+  written : (after : List ℕ) → writeReplyFault settings address r out ≡ 0 → after ≡ firstBytes (sizeFor r) (replyLine settings address r) ++ drop (sizeFor r) out
+      → WritesReply settings address r out (Bytes (sizeFor r)) after
+  written after e is = record { answers = rw e; leaves = rw e is }
+
+  module _ (e10 : ltb 15 settings ≡ false) (e11 : ltb 999 address ≡ false) where
+    short : ltb (length out) (sizeFor r) ≡ true → writeReplyFault settings address r out ≡ 15
+    unfolding writeReplyFault
+    short e15 = rw (e10, e11, e15)
+
+    enough : ltb (length out) (sizeFor r) ≡ false → writeReplyFault settings address r out ≡ 0
+    unfolding writeReplyFault
+    enough e15 = rw (e10, e11, e15)
+
+size-5 : (r : Reading) → isAbsent (r .temperature) ≡ true → sizeFor r ≡ 5
+size-5 r e = rw e
+
+size-7 : (r : Reading) → isAbsent (r .temperature) ≡ false → sizeFor r ≡ 7
+size-7 r e = rw e
+
+returns : tie.Need-returns
+unfolding writeReplyFault
+returns c =
+    let a = c .before .before .args in
+    refused (a .settings) (a .address) (a .reading) (a .out .now) 10 (simp (lt-ltb _ _ (c .if1 .taken))) (omega arith)
+
+returns-2 : tie.Need-returns-2
+unfolding writeReplyFault
+returns-2 c =
+    let a = c .before .before .before .args in
+    refused (a .settings) (a .address) (a .reading) (a .out .now) 11 (simp (le-ltb _ _ (c .before .if1 .left), lt-ltb _ _ (c .if2 .taken))) (omega arith)
+
+is-absent-requires : tie.Need-is-absent-requires
+is-absent-requires c κs = search needs
+
+returns-3 : tie.Need-returns-3
+returns-3 c =
+    let b = c .before .before in
+    let a = b .before .before .before .before .args in
+    let size = size-5 (a .reading) (sym (b .is-absent .ensures) ∙ c .before .if3 .taken) in
+    refused (a .settings) (a .address) (a .reading) (a .out .now) 15
+    (short (a .settings) (a .address) (a .reading) (a .out .now) (le-ltb _ _ (b .before .before .if1 .left)) (le-ltb _ _ (b .before .if2 .left)) (lt-ltb (length (a .out .now)) (sizeFor (a .reading)) (rw size (c .if4 .taken))))
+    (omega arith)
+
+whole-line-requires : tie.Need-whole-line-requires
+whole-line-requires c κs = search needs
+
+store-5-requires : tie.Need-store-5-requires
+store-5-requires c κs = search needs
+
+same-length : tie.Need-same-length
+same-length c = search needs
+
+returns-4 : tie.Need-returns-4
+returns-4 c =
+    let b = c .before .before .before .before .before .before .before in
+    let a = b .before .before .before .before .args in
+    let size = size-5 (a .reading) (sym (b .is-absent .ensures) ∙ c .before .before .before .before .before .before .if3 .taken) in
+    let n = c .before .before .before .before .whole-line in
+    let none = enough (a .settings) (a .address) (a .reading) (a .out .now) (le-ltb _ _ (b .before .before .if1 .left)) (le-ltb _ _ (b .before .if2 .left)) (le-ltb (length (a .out .now)) (sizeFor (a .reading)) (rw size (c .before .before .before .before .before .if4 .left))) in
+    let is : c .before .before .store-5 .last .1 .0 ≡ firstBytes 5 (replyLine (a .settings) (a .address) (a .reading)) ++ drop 5 (a .out .now) =
+    c .before .before .store-5 .ensures ∙ ap (λ (w : ℕ). firstBytes 5 w ++ drop 5 (a .out .now)) (n .ensures) in
+    rw size at
+    (written (a .settings) (a .address) (a .reading) (a .out .now) (c .before .before .store-5 .last .1 .0) none (rw size is))
+
+returns-5 : tie.Need-returns-5
+returns-5 c =
+    let b = c .before .before in
+    let a = b .before .before .before .before .args in
+    let size = size-7 (a .reading) (sym (b .is-absent .ensures) ∙ c .before .if3 .left) in
+    refused (a .settings) (a .address) (a .reading) (a .out .now) 15
+    (short (a .settings) (a .address) (a .reading) (a .out .now) (le-ltb _ _ (b .before .before .if1 .left)) (le-ltb _ _ (b .before .if2 .left)) (lt-ltb (length (a .out .now)) (sizeFor (a .reading)) (rw size (c .if5 .taken))))
+    (omega arith)
+
+whole-line-requires-2 : tie.Need-whole-line-requires-2
+whole-line-requires-2 c κs = search needs
+
+store-7-requires : tie.Need-store-7-requires
+store-7-requires c κs = search needs
+
+same-length-2 : tie.Need-same-length-2
+same-length-2 c = search needs
+
+returns-6 : tie.Need-returns-6
+returns-6 c =
+    let b = c .before .before .before .before .before .before .before in
+    let a = b .before .before .before .before .args in
+    let size = size-7 (a .reading) (sym (b .is-absent .ensures) ∙ c .before .before .before .before .before .before .if3 .left) in
+    let n = c .before .before .before .before .whole-line2 in
+    let none = enough (a .settings) (a .address) (a .reading) (a .out .now) (le-ltb _ _ (b .before .before .if1 .left)) (le-ltb _ _ (b .before .if2 .left)) (le-ltb (length (a .out .now)) (sizeFor (a .reading)) (rw size (c .before .before .before .before .before .if5 .left))) in
+    let is : c .before .before .store-7 .last .1 .0 ≡ firstBytes 7 (replyLine (a .settings) (a .address) (a .reading)) ++ drop 7 (a .out .now) =
+    c .before .before .store-7 .ensures ∙ ap (λ (w : ℕ). firstBytes 7 w ++ drop 7 (a .out .now)) (n .ensures) in
+    rw size at
+    (written (a .settings) (a .address) (a .reading) (a .out .now) (c .before .before .store-7 .last .1 .0) none (rw size is))
+
+pub write-reply-spec : {M : Type 1} → statement M
+write-reply-spec =
+    tie.close
+    (tie.spec
+    returns
+    returns-2
+    is-absent-requires
+    returns-3
+    whole-line-requires
+    store-5-requires
+    same-length
+    returns-4
+    returns-5
+    whole-line-requires-2
+    store-7-requires
+    same-length-2
+    returns-6)

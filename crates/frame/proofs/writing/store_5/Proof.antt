@@ -1,0 +1,70 @@
+-- `frame::writing::store_5` meets its contract: the 5 bytes stored are those of the line. Assumes nothing.
+use mathlib.Core.Path.{_∙_}
+use mathlib.Core.List.{[], _∷_}
+use native.Mathlib.Omega.{arith}
+use lib.ListN.{length-set}
+use Rattle.frame.specs.Line.{firstBytes}
+use Rattle.frame.proofs.Fronts.{front}
+use borrow.Author.Needs.{needs}
+use Rattle.frame.proofs.writing.store_5.Statement.{statement}
+use Rattle.frame.proofs.writing.store_5.Tie as tie
+use Rattle.frame.proofs.writing.store_5.Reads as reads
+use Rattle.frame.proofs.writing.store_5.Lts as lts
+use Rattle.frame.proofs.writing.byte.Reads as byte-reads
+
+byte-requires : tie.Need-byte-requires
+byte-requires c κs = search needs
+
+slice-write-out : tie.Need-slice-write-out
+slice-write-out c = search needs
+
+byte-requires-2 : tie.Need-byte-requires-2
+byte-requires-2 c κs = search needs
+
+slice-write-out-2 : tie.Need-slice-write-out-2
+slice-write-out-2 c = simp length-set (omega arith)
+
+byte-requires-3 : tie.Need-byte-requires-3
+byte-requires-3 c κs = search needs
+
+slice-write-out-3 : tie.Need-slice-write-out-3
+slice-write-out-3 c = simp length-set (omega arith)
+
+byte-requires-4 : tie.Need-byte-requires-4
+byte-requires-4 c κs = search needs
+
+slice-write-out-4 : tie.Need-slice-write-out-4
+slice-write-out-4 c = simp length-set (omega arith)
+
+byte-requires-5 : tie.Need-byte-requires-5
+byte-requires-5 c κs = search needs
+
+slice-write-out-5 : tie.Need-slice-write-out-5
+slice-write-out-5 c = search needs
+
+same-length : tie.Need-same-length
+same-length c = search needs
+
+returns : tie.Need-returns
+unfolding firstBytes
+returns c =
+    let b = c .before .before .before .before .before .before in
+    front (c .before .before .before .before .byte .result ∷ c .before .before .before .byte2 .result ∷ c .before .before .byte3 .result ∷ c .before .byte4 .result ∷ c .byte5 .result ∷ []) (b .args .out .now) (b .pre)
+    ∙ rw (c .before .before .before .before .byte .ensures, c .before .before .before .byte2 .ensures, c .before .before .byte3 .ensures, c .before .byte4 .ensures, c .byte5 .ensures)
+
+pub store-5-spec : {M : Type 1} → statement M
+store-5-spec =
+    tie.close
+    (tie.spec
+    byte-requires
+    slice-write-out
+    byte-requires-2
+    slice-write-out-2
+    byte-requires-3
+    slice-write-out-3
+    byte-requires-4
+    slice-write-out-4
+    byte-requires-5
+    slice-write-out-5
+    same-length
+    returns)

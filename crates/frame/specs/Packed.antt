@@ -1,0 +1,134 @@
+-- How the code keeps charts and rows in words. A reader of document 01 need not believe this file: it says what the tables of
+-- `src/charts.rt` and the constants of `src/modes.rt` hold, each worked out from the charts themselves.
+use mathlib.Core.Bool.{Bool, true, false, not, _&&_}
+use mathlib.Core.List.{List, [], _∷_, map}
+use Prim.Native.Nat.{ℕ, zero, suc, _+_, _-_, _*_, _/_, _%_, _^_}
+use lib.Dec.{eqb, ltb, leb}
+use Rattle.frame.specs.declared.heat.Told.{Told}
+use Rattle.frame.specs.declared.heat.Told.the-variants.{Is, Bad}
+use Rattle.frame.specs.declared.Reply.{Reply}
+use Rattle.frame.specs.declared.Reply.the-variants.{Read, Refused}
+use Rattle.frame.specs.Pick.{pick}
+use Rattle.frame.specs.Line.{line, bit, threeDecimal, threeDigits}
+use Rattle.frame.specs.Faults.{_gives_, firstOf}
+use Rattle.frame.specs.Reply.{modeIn, heatIn, parityRight, readingAt}
+use Rattle.frame.specs.Charts.{Chart, oneBit, twoBits, feetTens, decimal, inches, sixteenths, placeIn, sizeOf, isOdd, turned, codeOf}
+use Rattle.frame.specs.Temperature.{Heat, told, bad, isBad, temperatureOf}
+use Rattle.frame.specs.Level.{Level, known, lost, Mode, levelOf, fillClear, noChart, aboveLargest, readRow, writeRow}
+
+-- The chart of a number: 0 one bit, 1 two bits, 2 feet tens, 3 decimal, 4 inches, any other sixteenths.
+unfoldable pub chartOf : ℕ → Chart
+chartOf k =
+    pick (eqb k 0) oneBit
+    (pick (eqb k 1) twoBits (pick (eqb k 2) feetTens (pick (eqb k 3) decimal (pick (eqb k 4) inches sixteenths))))
+
+-- Numbers below 16 in one word, four bits each, the first lowest.
+unfoldable pub nibbles : List ℕ → ℕ
+nibbles [] = 0
+nibbles (x ∷ xs) = x + 16 * nibbles xs
+
+-- For each code from 0 to 15 its place in the chart, or the chart's size where it is in no place.
+unfoldable pub placesOf : Chart → ℕ
+unfolding nibbles
+placesOf c =
+    nibbles
+    (map (λ code. placeIn code (c .codes)) (0 ∷ 1 ∷ 2 ∷ 3 ∷ 4 ∷ 5 ∷ 6 ∷ 7 ∷ 8 ∷ 9 ∷ 10 ∷ 11 ∷ 12 ∷ 13 ∷ 14 ∷ 15 ∷ []))
+
+-- For each place its code.
+unfoldable pub codesOf : Chart → ℕ
+unfolding nibbles
+codesOf c = nibbles (c .codes)
+
+-- A digit read in four bits: the digit, or 16 for a code in no chart.
+unfoldable pub digitOf : Chart → ℕ → Bool → ℕ
+digitOf c code odd =
+    let at = placeIn code (c .codes) in
+    pick (ltb at (sizeOf c)) (turned odd (sizeOf c) at) 16
+
+-- A row of `left` digits, the number of each digit's chart in four bits, the top digit's lowest; every digit is read in four bits.
+unfoldable pub rowOf : ℕ → ℕ → List Chart
+rowOf row zero = []
+rowOf row (suc left) = record { width = 4; codes = chartOf (row % 16) .codes } ∷ rowOf (row / 16) left
+
+-- What the digit reader gives: the level, or 2 ^ 32 and the place of the first digit in no chart.
+abbrev pub readCode : Level → ℕ
+readCode (known v) = v
+readCode (lost k) = 2 ^ 32 + k
+
+-- The digits of a level written from the ones digit up, in four bits each. A digit above is odd exactly if all that stands above is odd,
+-- because every chart has an even number of values.
+unfoldable pub writeUp : ℕ → ℕ → ℕ → ℕ
+writeUp row zero v = 0
+writeUp row (suc left) v =
+    let c = chartOf (row / 16 ^ left % 16) in
+    codeOf (isOdd (v / sizeOf c)) c (v % sizeOf c) + 16 * writeUp row left (v / sizeOf c)
+
+-- What reading a level gives: the level, or 65,536 times the fault, to which 7 adds the place of the digit.
+abbrev pub levelNumber : ℕ → Level → ℕ
+levelNumber largest (known v) = pick (ltb largest v) (8 * 65536) v
+levelNumber largest (lost k) = 7 * 65536 + k
+
+unfoldable pub levelCode : Mode → ℕ → ℕ
+levelCode m n = pick (fillClear n (m .fill)) (levelNumber (m .largest) (levelOf m n)) (6 * 65536)
+
+-- The same by a mode's constants: how many digits, the bit that they begin at, how many fill bits follow them up to bit 37, the largest
+-- level, and the row in a word. Fill bits before the digits are those from bit 16 on.
+abbrev pub fillAt : ℕ → ℕ → ℕ → Bool
+fillAt n first fill = eqb (n / 2 ^ (65 - first) % 2 ^ (first - 16)) 0 && eqb (n / 2 ^ 27 % 2 ^ fill) 0
+
+abbrev pub digitBits : ℕ → ℕ → ℕ
+digitBits first fill = 38 - first - fill
+
+abbrev pub readBy : ℕ → ℕ → ℕ → ℕ → ℕ → ℕ → ℕ
+readBy n digits first fill largest row =
+    pick (fillAt n first fill)
+    (levelNumber largest (readRow (rowOf row digits) (n / 2 ^ (27 + fill) % 2 ^ digitBits first fill) false 0 0))
+    (6 * 65536)
+
+abbrev pub writeBy : ℕ → ℕ → ℕ → ℕ → ℕ → ℕ → ℕ
+writeBy v digits first fill largest row =
+    pick (leb v largest) (writeRow (rowOf row digits) false v) (2 ^ digitBits first fill - 1) * 2 ^ (27 + fill)
+
+-- Three decimal digits whose last bit stands `shift` bits above the word's lowest: their number, or 1000 where one is above 9.
+unfoldable pub threeBy : ℕ → ℕ → ℕ
+threeBy n shift =
+    let hundreds = n / 2 ^ (shift + 8) % 16 in
+    let tens = n / 2 ^ (shift + 4) % 16 in
+    let units = n / 2 ^ shift % 16 in
+    pick (leb hundreds 9 && leb tens 9 && leb units 9) (hundreds * 100 + tens * 10 + units) 1000
+
+-- A number up to 999 as three digits of four bits.
+abbrev pub threeOf : ℕ → ℕ
+threeOf v = v / 100 * 256 + v / 10 % 10 * 16 + v % 10
+
+-- What the code's answer for a temperature means.
+abbrev pub heatFor : Told → Heat
+heatFor (Is t) = told t
+heatFor Bad = bad
+
+-- What is left to test of a reply of the right form and length: faults 3 to 9, and what it answers.
+unfoldable pub lineFault : ℕ → ℕ → ℕ → List ℕ → ℕ
+unfolding firstOf
+lineFault settings address count s =
+    let n = line s in
+    let m = modeIn settings in
+    firstOf
+    (eqb (bit n 1) 0 gives 3
+    ∷ not (threeDecimal n 4 && eqb (threeDigits n 4) address) gives 4
+    ∷ not (parityRight settings s) gives 5
+    ∷ not (fillClear n (m .fill)) gives 6
+    ∷ noChart (levelOf m n) gives 7
+    ∷ aboveLargest m (levelOf m n) gives 8
+    ∷ isBad (heatIn settings count n) gives 9
+    ∷ [])
+
+unfoldable pub lineReply : ℕ → ℕ → ℕ → List ℕ → Reply
+lineReply settings address count s =
+    pick (eqb (lineFault settings address count s) 0) (Read (readingAt settings count (line s)))
+    (Refused (lineFault settings address count s))
+
+-- And once its level is read too: fault 9, or the reading.
+unfoldable pub heatReply : ℕ → ℕ → ℕ → ℕ → Reply
+heatReply settings count n level =
+    pick (isBad (heatIn settings count n)) (Refused 9)
+    (Read (record { level = level; temperature = temperatureOf (heatIn settings count n); alarm1 = eqb (bit n 38) 1; alarm0 = eqb (bit n 39) 1 }))

@@ -1,0 +1,106 @@
+// The charts of the digits as words of sixteen places, four bits each. A chart's number: 0 one bit, 1 two bits, 2 feet tens,
+// 3 decimal, 4 inches, 5 sixteenths.
+ghost use mathlib.Core.Path.{_≡_};
+ghost use Prim.Native.Nat.{_/_, _%_, _<_};
+ghost use lib.ListN.{getD};
+ghost use Rattle.frame.specs.Charts.{sizeOf, placeIn, codeOf};
+ghost use Rattle.frame.specs.Packed.{chartOf, placesOf, codesOf, digitOf};
+
+// How many values a digit has.
+pub(crate) fn size(chart: u64) -> u64
+    ensures { λ r. ⌜ r ≡ sizeOf (chartOf chart) ⌝ }
+{
+    match chart {
+        0 => 2,
+        1 => 4,
+        2 => 8,
+        3 => 10,
+        4 => 12,
+        _ => 16,
+    }
+}
+
+// A number divided by the values of a digit, each divisor written out so that no division is left.
+pub(crate) fn over(chart: u64, v: u64) -> u64
+    ensures { λ r. ⌜ r ≡ v / sizeOf (chartOf chart) ⌝ }
+{
+    match chart {
+        0 => v / 2,
+        1 => v / 4,
+        2 => v / 8,
+        3 => v / 10,
+        4 => v / 12,
+        _ => v / 16,
+    }
+}
+
+// For each code its place in the chart, or the chart's size where it is in no place; code 0 lowest.
+fn places(chart: u64) -> u64
+    ensures { λ r. ⌜ r ≡ placesOf (chartOf chart) ⌝ }
+{
+    match chart {
+        0 => 0x2222222222222210,
+        1 => 0x4444444444442310,
+        2 => 0x8888888854672310,
+        3 => 0xaaa8aaa954672310,
+        4 => 0xab98cccc54672310,
+        _ => 0xab98dcef54672310,
+    }
+}
+
+// For each place of the chart its code; place 0 lowest.
+fn codes(chart: u64) -> u64
+    ensures { λ r. ⌜ r ≡ codesOf (chartOf chart) ⌝ }
+{
+    match chart {
+        0 => 0x10,
+        1 => 0x2310,
+        2 => 0x45762310,
+        3 => 0x8c45762310,
+        4 => 0xefdc45762310,
+        _ => 0x89baefdc45762310,
+    }
+}
+
+// The place of a code in its chart, or the chart's size where it is in no place.
+fn place(chart: u64, code: u64) -> u64
+    requires { ⌜ code < 16 ⌝ }
+    ensures { λ r. ⌜ r ≡ placeIn code (chartOf chart .codes) ⌝ }
+{
+    (places(chart) >> (4 * code)) % 16
+}
+
+// The code at a place of a chart.
+fn code_at(chart: u64, at: u64) -> u64
+    requires { ⌜ at < 16 ⌝ }
+    ensures { λ r. ⌜ r ≡ getD (chartOf chart .codes) at 0 ⌝ }
+{
+    (codes(chart) >> (4 * at)) % 16
+}
+
+// A digit read from its four bits: the chart is read from its other end where the digit above is odd. 16 for a code in no chart.
+pub(crate) fn digit(chart: u64, code: u64, odd: bool) -> u64
+    requires { ⌜ code < 16 ⌝ }
+    ensures { λ r. ⌜ r ≡ digitOf (chartOf chart) code odd ⌝ }
+{
+    let at = place(chart, code);
+    let values = size(chart);
+    if values <= at {
+        return 16;
+    }
+    if odd {
+        return values - 1 - at;
+    }
+    at
+}
+
+// The code of a digit, from the chart's other end where the digit above is odd.
+pub(crate) fn code(chart: u64, d: u64, odd: bool) -> u64
+    requires { ⌜ d < sizeOf (chartOf chart) ⌝ }
+    ensures { λ r. ⌜ r ≡ codeOf odd (chartOf chart) d ⌝ }
+{
+    if odd {
+        return code_at(chart, size(chart) - 1 - d);
+    }
+    code_at(chart, d)
+}

@@ -1,0 +1,147 @@
+// Temperature in tenths of a degree, for types 1900 and 1800. Bit 40 of the line is bit 24 of its word, bit 55 is bit 9.
+ghost use mathlib.Core.Path.{_≡_};
+ghost use Prim.Native.Nat.{_≤_, min};
+ghost use Rattle.frame.specs.Temperature.{signed, isPlus, magnitude, degreesAt, heat1900, heat1800, putDegrees, putDegrees1900, putDegrees1800, putHeat1900, putHeat1800};
+ghost use Rattle.frame.specs.Packed.{heatFor};
+use crate::Temperature;
+use crate::line;
+
+// What the temperature bits read as.
+pub(crate) enum Told {
+    Is(Temperature),
+    Bad,
+}
+
+// A sign and a number of tenths.
+fn degrees(plus: bool, m: u64) -> i16
+    requires { ⌜ m ≤ 7999 ⌝ }
+    ensures { λ r. ⌜ r ≡ signed plus m ⌝ }
+{
+    let d = m as i16;
+    if plus {
+        return d;
+    }
+    -d
+}
+
+fn is_plus(d: i16) -> bool
+    ensures { λ r. ⌜ r ≡ isPlus d ⌝ }
+{
+    0 <= d
+}
+
+fn magnitude(d: i16) -> u64
+    ensures { λ r. ⌜ r ≡ magnitude d ⌝ }
+{
+    let wide = d as i32;
+    if 0 <= wide {
+        return wide as u64;
+    }
+    (0 - wide) as u64
+}
+
+// Sign and digits at bits 41 and 44-55, with these hundreds.
+fn degrees_at(n: u64, hundreds: u64) -> Told
+    requires { ⌜ hundreds ≤ 7 ⌝ }
+    ensures { λ r. ⌜ heatFor r ≡ degreesAt n hundreds ⌝ }
+{
+    let m = line::three(n, 9);
+    if m == 1000 {
+        return Told::Bad;
+    }
+    let d = degrees((n >> 23) % 2 == 1, hundreds * 1000 + m);
+    Told::Is(Temperature::Degrees(d))
+}
+
+// Type 1900: bits 40, 42, 43 are the hundreds' bits 0, 1, 2, each inverted.
+pub(crate) fn read_1900(n: u64) -> Told
+    ensures { λ r. ⌜ heatFor r ≡ heat1900 n ⌝ }
+{
+    let hundreds = (1 - (n >> 24) % 2) + 2 * (1 - (n >> 22) % 2) + 4 * (1 - (n >> 21) % 2);
+    degrees_at(n, hundreds)
+}
+
+// Type 1800: bit 43 is an error, above or, with bit 40, below; sign and digits are then not read. Bit 42 is not read at all.
+pub(crate) fn read_1800(n: u64) -> Told
+    ensures { λ r. ⌜ heatFor r ≡ heat1800 n ⌝ }
+{
+    let below = (n >> 24) % 2;
+    let error = (n >> 21) % 2;
+    if error < below {
+        return Told::Bad;
+    }
+    if error == 1 {
+        if below == 1 {
+            return Told::Is(Temperature::Below);
+        }
+        return Told::Is(Temperature::Above);
+    }
+    degrees_at(n, 0)
+}
+
+// The sign and the last three digits of a number of tenths.
+fn put_degrees(plus: bool, m: u64) -> u64
+    ensures { λ r. ⌜ r ≡ putDegrees plus m ⌝ }
+{
+    let digits = line::three_of(m % 1000) * 512;
+    if plus {
+        return 8388608 + digits;
+    }
+    digits
+}
+
+fn put_1900(plus: bool, m: u64) -> u64
+    ensures { λ r. ⌜ r ≡ putDegrees1900 plus m ⌝ }
+{
+    let h = m / 1000;
+    let hundreds = (1 - h % 2) * 16777216 + (1 - h / 2 % 2) * 4194304 + (1 - h / 4 % 2) * 2097152;
+    hundreds + put_degrees(plus, m)
+}
+
+// The magnitude of a temperature, at most the end of the range of type 1900.
+fn within_1900(m: u64) -> u64
+    ensures { λ r. ⌜ r ≡ min m 7999 ⌝ }
+{
+    if 7999 < m { 7999 } else { m }
+}
+
+// Type 1900: beyond the range, and for above and below, the nearer end.
+pub(crate) fn write_1900(t: Temperature) -> u64
+    ensures { λ r. ⌜ r ≡ putHeat1900 t ⌝ }
+{
+    match t {
+        Temperature::Degrees(d) => put_1900(is_plus(d), within_1900(magnitude(d))),
+        Temperature::Above => put_1900(true, 7999),
+        Temperature::Below => put_1900(false, 7999),
+        Temperature::Absent => 0,
+    }
+}
+
+// Above range sets bit 43 and a plus; below sets bits 43 and 40.
+const ABOVE_1800: u64 = 10485760;
+
+const BELOW_1800: u64 = 18874368;
+
+fn degrees_1800(plus: bool, m: u64) -> u64
+    ensures { λ r. ⌜ r ≡ putDegrees1800 plus m ⌝ }
+{
+    if m <= 999 {
+        return put_degrees(plus, m);
+    }
+    if plus {
+        return ABOVE_1800;
+    }
+    BELOW_1800
+}
+
+// Type 1800: beyond the range is above or below.
+pub(crate) fn write_1800(t: Temperature) -> u64
+    ensures { λ r. ⌜ r ≡ putHeat1800 t ⌝ }
+{
+    match t {
+        Temperature::Degrees(d) => degrees_1800(is_plus(d), magnitude(d)),
+        Temperature::Above => ABOVE_1800,
+        Temperature::Below => BELOW_1800,
+        Temperature::Absent => 0,
+    }
+}

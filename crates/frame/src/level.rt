@@ -1,0 +1,119 @@
+// Level: the digits of a row read one after another from the top, and written from the ones digit up.
+ghost use mathlib.Core.Path.{_≡_};
+ghost use Prim.Native.Nat.{_+_, _-_, _*_, _/_, _%_, _^_, _<_, _≤_};
+ghost use Rattle.frame.specs.Charts.{sizeOf, isOdd, codeOf};
+ghost use lib.Dec.{eqb};
+ghost use mathlib.Core.Bool.{_&&_};
+ghost use Rattle.frame.specs.Level.{readRow, valuesOf};
+ghost use Rattle.frame.specs.Packed.{chartOf, digitOf, rowOf, readCode, writeUp, fillAt, digitBits, readBy, writeBy};
+use crate::charts;
+
+// What the reader gives for a digit in no chart: this, and the digit's place. Every level is below it.
+const LOST: u64 = 4294967296;
+
+// The top one of `left` digits.
+fn top_digit(row: u64, left: u64, bits: u64, odd: bool) -> u64
+    requires { ⌜ 0 < left ⌝ }
+    requires { ⌜ left ≤ 8 ⌝ }
+    ensures { λ r. ⌜ r ≡ digitOf (chartOf (row % 16)) (bits / 2 ^ (4 * (left - 1)) % 16) odd ⌝ }
+{
+    charts::digit(row % 16, (bits >> (4 * (left - 1))) % 16, odd)
+}
+
+// The level of the digits so far and one more below them.
+fn with_digit(row: u64, sofar: u64, d: u64) -> u64
+    requires { ⌜ sofar < 2 ^ 32 ⌝ }
+    requires { ⌜ d < 16 ⌝ }
+    ensures { λ r. ⌜ r ≡ sofar * sizeOf (chartOf (row % 16)) + d ⌝ }
+{
+    sofar * charts::size(row % 16) + d
+}
+
+// The digits are read from the top, fewer left each time. `odd` tells of the digit just above, `sofar` is the level of the digits
+// above, and `place` counts them. All that it carries are numbers, so that it compiles to a loop.
+pub(crate) fn read_digits(row: u64, left: u64, bits: u64, odd: bool, sofar: u64, place: u64) -> u64
+    requires { ⌜ (sofar + 1) * 16 ^ left ≤ 2 ^ 32 ⌝ }
+    requires { ⌜ place + left ≤ 8 ⌝ }
+    ensures { λ r. ⌜ r ≡ readCode (readRow (rowOf row left) bits odd sofar place) ⌝ }
+{
+    if left == 0 {
+        return sofar;
+    }
+    let d = top_digit(row, left, bits, odd);
+    if d == 16 {
+        return LOST + place;
+    }
+    let next = with_digit(row, sofar, d);
+    read_digits(row / 16, left - 1, bits, d % 2 == 1, next, place + 1)
+}
+
+// The code of the ones digit of a level: the digit above is odd exactly if all that stands above is.
+fn ones_code(chart: u64, v: u64) -> u64
+    ensures { λ r. ⌜ r ≡ codeOf (isOdd (v / sizeOf (chartOf chart))) (chartOf chart) (v % sizeOf (chartOf chart)) ⌝ }
+{
+    let above = charts::over(chart, v);
+    charts::code(chart, v - above * charts::size(chart), above % 2 == 1)
+}
+
+// The digits of a level are written from the ones digit up, each in four bits, the ones digit at `shift`.
+pub(crate) fn write_digits(row: u64, left: u64, shift: u64, v: u64) -> u64
+    requires { ⌜ shift + 4 * left ≤ 63 ⌝ }
+    ensures { λ r. ⌜ r ≡ writeUp row left v * 2 ^ shift ⌝ }
+{
+    if left == 0 {
+        return 0;
+    }
+    let chart = (row >> (4 * (left - 1))) % 16;
+    let low = ones_code(chart, v) << shift;
+    low + write_digits(row, left - 1, shift + 4, charts::over(chart, v))
+}
+
+// The fill bits of a mode are 0: those from bit 16 up to its first digit bit, and those after its digits up to bit 37.
+fn fill_clear(n: u64, first: u64, fill: u64) -> bool
+    requires { ⌜ 16 ≤ first ⌝ }
+    requires { ⌜ first ≤ 17 ⌝ }
+    requires { ⌜ fill ≤ 6 ⌝ }
+    ensures { λ r. ⌜ r ≡ fillAt n first fill ⌝ }
+{
+    let head = (n >> (65 - first)) % (1 << (first - 16));
+    let tail = (n >> 27) % (1 << fill);
+    head == 0 && tail == 0
+}
+
+// A level by its mode's constants: the level, or 65,536 times the fault, to which 7 adds the place of the digit in no chart.
+// Fill is tested before code, code before range.
+pub(crate) fn read_by(n: u64, digits: u64, first: u64, fill: u64, largest: u64, start: u64) -> u64
+    requires { ⌜ digits ≤ 5 ⌝ }
+    requires { ⌜ 16 ≤ first ⌝ }
+    requires { ⌜ first ≤ 17 ⌝ }
+    requires { ⌜ fill ≤ 6 ⌝ }
+    ensures { λ r. ⌜ r ≡ readBy n digits first fill largest start ⌝ }
+{
+    if !fill_clear(n, first, fill) {
+        return 6 * 65536;
+    }
+    let bits = (n >> (27 + fill)) % (1 << (38 - first - fill));
+    let v = read_digits(start, digits, bits, false, 0, 0);
+    if LOST <= v {
+        return 7 * 65536 + (v - LOST);
+    }
+    if largest < v {
+        return 8 * 65536;
+    }
+    v
+}
+
+// A level's bits by its mode's constants. A level outside its mode has every digit bit 1; the fill is 0.
+pub(crate) fn write_by(v: u64, digits: u64, first: u64, fill: u64, largest: u64, start: u64) -> u64
+    requires { ⌜ digits ≤ 5 ⌝ }
+    requires { ⌜ 16 ≤ first ⌝ }
+    requires { ⌜ first ≤ 17 ⌝ }
+    requires { ⌜ fill ≤ 6 ⌝ }
+    requires { ⌜ largest < valuesOf (rowOf start digits) ⌝ }
+    ensures { λ r. ⌜ r ≡ writeBy v digits first fill largest start ⌝ }
+{
+    if v <= largest {
+        return write_digits(start, digits, 27 + fill, v);
+    }
+    ((1 << (38 - first - fill)) - 1) << (27 + fill)
+}

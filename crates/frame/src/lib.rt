@@ -1,0 +1,139 @@
+// The frame: polls and replies of the Mark/Space line, read and written. Each call takes every input; a bad one is refused by its
+// number in document 01, and a refused write changes nothing.
+mod charts;
+mod heat;
+mod level;
+mod line;
+mod modes;
+mod polls;
+mod replies;
+mod writing;
+
+ghost use Rattle.frame.specs.Poll.{ReadsPoll, WritesPoll};
+ghost use Rattle.frame.specs.Reply.{ReadsReply, WritesReply};
+pub use line::formed;
+
+// A temperature in tenths of a degree, above or below its range, or absent from the reply.
+pub enum Temperature {
+    Degrees(i16),
+    Above,
+    Below,
+    Absent,
+}
+
+// What an accepted reply tells. The level is in the unit of its mode.
+pub struct Reading {
+    pub level: u16,
+    pub temperature: Temperature,
+    pub alarm1: bool,
+    pub alarm0: bool,
+}
+
+// What reading a reply answers.
+pub enum Reply {
+    Read(Reading),
+    Refused(u8),
+}
+
+pub struct Poll {
+    pub address: u16,
+    pub raise: bool,
+    pub reset: bool,
+}
+
+// What reading a poll answers.
+pub enum PollAnswer {
+    Asked(Poll),
+    Refused(u8),
+}
+
+// What writing answers: the bytes written, or the refusal.
+pub enum Written {
+    Bytes(usize),
+    Refused(u8),
+}
+
+// Reads a poll. Refuses 16.
+pub fn read_poll(poll: &[u8]) -> PollAnswer
+    ensures { λ r. ⌜ ReadsPoll (now (poll .entry)) r ⌝ }
+{
+    if poll.len() != 2 {
+        return PollAnswer::Refused(16);
+    }
+    let n = (line::two(poll[0], poll[1]) as u64) * 281474976710656;
+    if n >> 63 == 0 {
+        return PollAnswer::Refused(16);
+    }
+    let address = line::three(n, 48);
+    if address == 1000 {
+        return PollAnswer::Refused(16);
+    }
+    PollAnswer::Asked(Poll {
+        address: address as u16,
+        raise: (n >> 61) % 2 == 1,
+        reset: (n >> 60) % 2 == 1,
+    })
+}
+
+// Writes a poll into the first 2 bytes. Refuses 11, 15.
+pub fn write_poll(address: u16, raise: bool, reset: bool, out: &mut [u8]) -> Written
+    ensures { λ r. ⌜ WritesPoll address raise reset (now (out .entry)) r (now (out .exit)) ⌝ }
+{
+    if 999 < address {
+        return Written::Refused(11);
+    }
+    if out.len() < 2 {
+        return Written::Refused(15);
+    }
+    let w = polls::word(address, raise, reset);
+    out[0] = (w / 256 % 256) as u8;
+    out[1] = (w % 256) as u8;
+    Written::Bytes(2)
+}
+
+// Reads a reply to a poll of this address, in the mode, type and parity of these settings. Refuses 10, 11, 14, then 1 to 9.
+pub fn read_reply(settings: u8, address: u16, count: usize, reply: &[u8]) -> Reply
+    ensures { λ r. ⌜ ReadsReply settings address count (now (reply .entry)) r ⌝ }
+{
+    if 15 < settings {
+        return Reply::Refused(10);
+    }
+    if 999 < address {
+        return Reply::Refused(11);
+    }
+    if !formed(count, reply) {
+        return Reply::Refused(14);
+    }
+    if count == 0 {
+        return Reply::Refused(1);
+    }
+    if !replies::whole(count) {
+        return Reply::Refused(2);
+    }
+    replies::read_line(settings, address, count, reply)
+}
+
+// Writes a reply: a reading whose temperature is absent into the first 5 bytes, any other into the first 7. Refuses 10, 11, 15.
+pub fn write_reply(settings: u8, address: u16, reading: Reading, out: &mut [u8]) -> Written
+    ensures { λ r. ⌜ WritesReply settings address reading (now (out .entry)) r (now (out .exit)) ⌝ }
+{
+    let t = reading.temperature;
+    if 15 < settings {
+        return Written::Refused(10);
+    }
+    if 999 < address {
+        return Written::Refused(11);
+    }
+    if writing::is_absent(t) {
+        if out.len() < 5 {
+            return Written::Refused(15);
+        }
+        writing::store_5(writing::whole_line(settings, address, reading), out);
+        return Written::Bytes(5);
+    }
+    if out.len() < 7 {
+        return Written::Refused(15);
+    }
+    writing::store_7(writing::whole_line(settings, address, reading), out);
+    Written::Bytes(7)
+}

@@ -1,0 +1,107 @@
+// Bits on the line: the form of what is lent, its bytes as one word, and its marks.
+ghost use mathlib.Core.Path.{_≡_};
+ghost use Prim.Native.Nat.{_+_, _*_, _≤_};
+ghost use mathlib.Core.Logic.{_≢_};
+ghost use lib.ListN.{length};
+ghost use Rattle.frame.specs.Line.{formed, line, marks, mark};
+ghost use Rattle.frame.specs.Packed.{threeBy, threeOf};
+
+// A line is lent in the right form: at most 64 bits, exactly the bytes for its count, pad bits 0.
+pub fn formed(count: usize, reply: &[u8]) -> bool
+    ensures { λ r. ⌜ r ≡ formed count (now (reply .entry)) ⌝ }
+{
+    if 64 < count {
+        return false;
+    }
+    if reply.len() != (count + 7) / 8 {
+        return false;
+    }
+    let over = count % 8;
+    if over == 0 {
+        return true;
+    }
+    let last = reply[count / 8];
+    last % (1u8 << (8 - over)) == 0
+}
+
+// A mark is 1.
+pub(crate) fn mark(b: bool) -> u64
+    ensures { λ r. ⌜ (r ≡ mark b) × (r ≤ 1) ⌝ }
+{
+    if b { 1 } else { 0 }
+}
+
+// The marks of a line, counted over its bytes.
+pub(crate) fn marks(reply: &[u8]) -> u32
+    requires { ⌜ length (now reply) ≤ 8 ⌝ }
+    ensures { λ r. ⌜ r ≡ marks (now (reply .entry)) ⌝ }
+{
+    let mut n: u32 = 0;
+    let mut i = 0;
+    while i < reply.len() {
+        n += u8::count_ones(reply[i]);
+        i += 1;
+    }
+    n
+}
+
+// Two bytes, words or double words as one number, the first of them higher.
+pub(crate) fn two(a: u8, b: u8) -> u16
+    ensures { λ r. ⌜ r ≡ a * 256 + b ⌝ }
+{
+    (a as u16) * 256 + (b as u16)
+}
+
+fn four(a: u16, b: u16) -> u32
+    ensures { λ r. ⌜ r ≡ a * 65536 + b ⌝ }
+{
+    (a as u32) * 65536 + (b as u32)
+}
+
+fn eight(a: u32, b: u32) -> u64
+    ensures { λ r. ⌜ r ≡ a * 4294967296 + b ⌝ }
+{
+    (a as u64) * 4294967296 + (b as u64)
+}
+
+// The 5 or 7 bytes of a reply as one word, bit 1 highest.
+pub(crate) fn pack(reply: &[u8]) -> u64
+    requires { ⌜ 5 ≤ length (now reply) ⌝ }
+    requires { ⌜ length (now reply) ≤ 7 ⌝ }
+    requires { ⌜ length (now reply) ≢ 6 ⌝ }
+    ensures { λ r. ⌜ r ≡ line (now (reply .entry)) ⌝ }
+{
+    let front = four(two(reply[0], reply[1]), two(reply[2], reply[3]));
+    if reply.len() == 7 {
+        return eight(front, four(two(reply[4], reply[5]), two(reply[6], 0)));
+    }
+    eight(front, four(two(reply[4], 0), 0))
+}
+
+// Three decimal digits, the last at `shift` bits above the lowest bit: their number, or 1000 where one is above 9.
+pub(crate) fn three(n: u64, shift: u64) -> u64
+    requires { ⌜ shift ≤ 49 ⌝ }
+    ensures { λ r. ⌜ r ≡ threeBy n shift ⌝ }
+{
+    let hundreds = (n >> (shift + 8)) % 16;
+    let tens = (n >> (shift + 4)) % 16;
+    let units = (n >> shift) % 16;
+    if 9 < hundreds {
+        return 1000;
+    }
+    if 9 < tens {
+        return 1000;
+    }
+    if 9 < units {
+        return 1000;
+    }
+    hundreds * 100 + tens * 10 + units
+}
+
+// A number up to 999 as three digits of four bits.
+pub(crate) fn three_of(v: u64) -> u64
+    requires { ⌜ v ≤ 999 ⌝ }
+    ensures { λ r. ⌜ r ≡ threeOf v ⌝ }
+{
+    v / 100 * 256 + v / 10 % 10 * 16 + v % 10
+}
