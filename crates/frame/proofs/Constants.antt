@@ -1,20 +1,16 @@
 -- The constants of each mode's type give what its mode says: the same fill bits, the same digit bits, the same row. The top digit may be
 -- read in four bits because no bit stands above it. Assumes nothing.
-use mathlib.Core.Path.{_≡_, refl, sym, ap, _∙_}
+use mathlib.Core.Path.{_≡_, refl}
 use mathlib.Core.Bool.{Bool, true, false, _&&_}
 use mathlib.Core.List.{List, [], _∷_}
-use Prim.Native.Nat.{ℕ, zero, suc, _+_, _-_, _*_, _/_, _%_, _^_, _<_, _≤_}
+use Prim.Native.Nat.{ℕ, _-_, _/_, _%_, _^_, _<_, _≤_}
 use native.Mathlib.Nat.{mod-eq-of-lt, mod-one}
 use native.Mathlib.Omega.{arith}
 use borrow.Author.Tests.{eq-eqb, ne-eqb}
 use lib.Dec.{eqb, lit<, lit≤}
-use lib.Pow.{pow-pos}
-use Rattle.frame.specs.Pick.{pick}
-use Rattle.frame.specs.Charts.{Chart, sizeOf, isOdd, turned, placeIn, oneBit, twoBits, feetTens, decimal, inches, sixteenths}
-use Rattle.frame.specs.Level.{Level, known, lost, Mode, widthOf, valuesOf, readRow, writeRow, fractionalMode, decimalMode, twentyMetreMode, thirtyMetreMode, modeOf, levelOf, putLevel}
-use Rattle.frame.specs.Packed.{chartOf, digitOf, rowOf, readCode, levelNumber, levelCode, readBy, writeBy}
-use Rattle.frame.proofs.Digits.{step-lost, step-read, digit-lt}
-use Rattle.frame.proofs.Tables.{size-high}
+use Rattle.frame.specs.Charts.{Chart, oneBit, twoBits, feetTens, decimal, inches, sixteenths}
+use Rattle.frame.specs.Level.{widthOf, valuesOf, readRow, writeRow, fractionalMode, decimalMode, twentyMetreMode, thirtyMetreMode, modeOf, putLevel}
+use Rattle.frame.specs.Packed.{chartOf, rowOf, levelCode, readBy, writeBy}
 
 and-true : (b : Bool) → (b && true) ≡ b
 and-true true = refl

@@ -2,18 +2,16 @@
 -- so far can grow. Assumes nothing.
 use mathlib.Core.Path.{_≡_, refl, sym, ap, _∙_}
 use mathlib.Core.Bool.{Bool, true, false}
-use mathlib.Core.List.{List, [], _∷_}
 use Prim.Native.Nat.{ℕ, zero, suc, _+_, _-_, _*_, _/_, _%_, _^_, _<_, _≤_}
 use native.Mathlib.Nat.{pow-suc, mul-le-mul-left, mul-le-mul-right, le-trans, le-of-eq, mul-assoc, mul-comm, le-mul-of-pos-right, one-le-pow}
 use native.Mathlib.Decide.{ℕ-discrete}
 use native.Mathlib.Omega.{arith}
-use borrow.Author.Tests.{lt-ltb, le-ltb, ltb-true, ltb-false}
+use borrow.Author.Tests.{lt-ltb, le-ltb, ltb-true}
 use lib.Dec.{ltb, lit≤}
-use Rattle.frame.specs.Pick.{pick}
 use Rattle.frame.specs.Charts.{Chart, sizeOf, isOdd, turned, placeIn}
 use Rattle.frame.specs.Level.{Level, known, lost, widthOf, readRow}
 use Rattle.frame.specs.Packed.{chartOf, digitOf, rowOf, readCode, levelNumber}
-use Rattle.frame.proofs.Tables.{size-low, size-high}
+use Rattle.frame.proofs.Tables.{size-high}
 
 -- n and n - 1
 pub down : (P : ℕ → ℕ → Type 0) → ((k : ℕ) → P (suc k) k) → (n : ℕ) → 0 < n → P n (n - 1)

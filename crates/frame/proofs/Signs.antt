@@ -1,17 +1,17 @@
 -- Signed numbers as the machine keeps them, where they are small enough to be themselves. Assumes nothing.
-use mathlib.Core.Path.{_≡_, refl, sym, ap, _∙_}
-use mathlib.Core.Bool.{Bool, true, false}
-use Prim.Native.Nat.{ℕ, zero, suc, _+_, _-_, _^_, _<_, _≤_}
+use mathlib.Core.Path.{_≡_, refl, ap, _∙_}
+use mathlib.Core.Bool.{true, false}
+use Prim.Native.Nat.{ℕ, zero, suc, _-_, _^_, _≤_}
 use native.Mathlib.Nat.{zero-add}
 use native.Mathlib.Omega.{arith}
 use borrow.Author.Tests.{le-leb}
 use lib.IntN.{ℤ, pos, negsuc, negℤ, _-ℤ_, natAbs}
-use lib.Signed.{mag, leZ, nonNeg}
+use lib.Signed.{leZ, nonNeg}
 use lib.Dec.{T, leb·zero}
-use mir.Syntax.{w16, w32, w64}
-use mir.Val.{Fits, SFits, toZ, ofZ}
-use mir.Facts.{toZ-ofZ, toZ-pos, sfits-widen, fits-natAbs}
-use Rattle.frame.specs.Temperature.{signed, isPlus, magnitude}
+use mir.Syntax.{w16, w32}
+use mir.Val.{SFits, toZ, ofZ}
+use mir.Facts.{toZ-ofZ, sfits-widen}
+use Rattle.frame.specs.Temperature.{isPlus, magnitude}
 
 -- a number of 16 bits widened to 32 is itself
 pub widened : (d : ℤ) → SFits w16 d → toZ w32 (ofZ w32 (toZ w16 (ofZ w16 d))) ≡ d

@@ -1,18 +1,17 @@
 -- The parts of a reply's word are small enough to add up, and end where the next begins. Assumes nothing.
-use mathlib.Core.Path.{_≡_, refl, sym, ap, _∙_}
+use mathlib.Core.Path.{_≡_, refl}
 use mathlib.Core.Bool.{Bool, true, false}
-use Prim.Native.Nat.{ℕ, zero, suc, _+_, _-_, _*_, _/_, _%_, _^_, _<_, _≤_, min}
+use Prim.Native.Nat.{ℕ, _+_, _-_, _*_, _/_, _%_, _^_, _<_, _≤_, min}
 use native.Mathlib.Nat.{lt-of-lt-of-le, mul-assoc, mul-comm, mul-mod-left}
 use native.Mathlib.Omega.{arith}
 use borrow.Author.Tests.{leb-true}
-use lib.Dec.{leb, lit<, lit≤}
+use lib.Dec.{leb, lit≤}
 use lib.Pow.{pow-add, pow-mono, shl-lt, ones-lt}
 use Rattle.frame.specs.declared.Temperature.{Temperature}
 use Rattle.frame.specs.declared.Temperature.the-variants.{Degrees, Above, Below, Absent}
-use Rattle.frame.specs.Pick.{pick}
 use Rattle.frame.specs.Line.{put, mark}
-use Rattle.frame.specs.Level.{Mode, valuesOf, writeRow, modeOf, putLevel, fractionalMode, decimalMode, twentyMetreMode, thirtyMetreMode}
-use Rattle.frame.specs.Temperature.{isPlus, magnitude, putDegrees, putHundreds1900, putDegrees1900, putHeat1900, putDegrees1800, putHeat1800, putHeat, isAbsent}
+use Rattle.frame.specs.Level.{Mode, valuesOf, writeRow, modeOf, putLevel}
+use Rattle.frame.specs.Temperature.{isPlus, magnitude, putDegrees, putDegrees1900, putHeat1900, putDegrees1800, putHeat1800, putHeat, isAbsent}
 use Rattle.frame.specs.declared.Reading.{Reading}
 use Rattle.frame.specs.Reply.{modeIn, is1800, bodyOf}
 use Rattle.frame.specs.Packed.{rowOf, writeBy, digitBits, threeOf}

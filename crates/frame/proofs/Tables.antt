@@ -1,14 +1,13 @@
 -- The tables of the charts: what holds of each of the six charts holds of the chart of any number, and the rule of a packed table is one
 -- test that is computed over all its entries. Assumes nothing.
-use mathlib.Core.Path.{_≡_, refl, sym, ap, _∙_, subst}
+use mathlib.Core.Path.{_≡_, sym, subst}
 use mathlib.Core.Bool.{Bool, true, false, _&&_}
-use mathlib.Core.List.{List, [], _∷_}
-use Prim.Native.Nat.{ℕ, zero, suc, _+_, _*_, _/_, _%_, _^_, _<_, _≤_}
+use Prim.Native.Nat.{ℕ, zero, suc, _*_, _/_, _%_, _^_, _<_, _≤_}
 use native.Mathlib.Decide.{ℕ-discrete}
 use native.Mathlib.Omega.{arith}
 use borrow.Author.Tests.{ne-eqb}
 use lib.Dec.{T, eqb, eqb→eq, leb, leb→le}
-use lib.ListN.{getD, length}
+use lib.ListN.{getD}
 use Rattle.frame.specs.Pick.{pick}
 use Rattle.frame.specs.Charts.{Chart, oneBit, twoBits, feetTens, decimal, inches, sixteenths, placeIn, sizeOf}
 use Rattle.frame.specs.Packed.{chartOf, placesOf, codesOf}

@@ -1,12 +1,11 @@
 -- Three digits read as one number: 1000 tells that one of them is above 9, since three decimal digits are at most 999. Assumes nothing.
-use mathlib.Core.Path.{_≡_, refl, sym, ap, _∙_}
+use mathlib.Core.Path.{_≡_, refl}
 use mathlib.Core.Bool.{Bool, true, false, _&&_}
-use Prim.Native.Nat.{ℕ, _+_, _*_, _/_, _%_, _^_, _<_, _≤_}
+use Prim.Native.Nat.{ℕ, _+_, _*_, _≤_}
 use native.Mathlib.Omega.{arith}
 use borrow.Author.Tests.{leb-true, eq-eqb, ne-eqb}
 use lib.Dec.{leb, eqb}
 use Rattle.frame.specs.Pick.{pick}
-use Rattle.frame.specs.Packed.{threeBy}
 
 -- the three digits, each decimal or not
 abbrev pub decimals : ℕ → ℕ → ℕ → Bool

@@ -1,7 +1,7 @@
 -- Writing from the ones digit up gives what writing from the top gives. The row is taken apart at its last digit: the oddness of the digit
 -- above the last one is the oddness of all that stands above it, because every chart has an even number of values. Assumes nothing.
 use mathlib.Core.Path.{_≡_, refl, sym, ap, _∙_}
-use mathlib.Core.Bool.{Bool, true, false}
+use mathlib.Core.Bool.{Bool, false}
 use mathlib.Core.List.{List, [], _∷_, _++_}
 use Prim.Native.Nat.{ℕ, zero, suc, _+_, _-_, _*_, _/_, _%_, _^_, _<_, _≤_}
 use native.Mathlib.Nat.{lt-of-lt-of-le, mul-pos, mul-one, add-zero, zero-mul, zero-add, div-one, div-eq-of-lt, div-div-eq-div-mul, div-add-mod', mod-eq-of-lt, mod-lt, mul-assoc, mul-comm, div-lt-iff-lt-mul, pow-suc}

@@ -1,21 +1,19 @@
 -- What a reply answers by the tests that were made: each fault once those before it do not apply, and what the number of a level says
 -- of faults 6, 7 and 8. Assumes nothing.
-use mathlib.Core.Path.{_≡_, refl, sym, ap, _∙_}
+use mathlib.Core.Path.{_≡_, refl, sym, _∙_}
 use mathlib.Core.Bool.{Bool, true, false, not, _&&_}
 use mathlib.Core.List.{List, [], _∷_}
-use Prim.Native.Nat.{ℕ, zero, suc, _+_, _*_, _/_, _%_, _^_, _<_, _≤_}
+use Prim.Native.Nat.{ℕ, suc, _+_, _*_, _/_, _%_, _^_, _<_, _≤_}
 use native.Mathlib.Omega.{arith}
 use borrow.Author.Tests.{ltb-false, ne-eqb}
 use lib.Dec.{T, eqb, ltb, leb, leb→le, ltb→lt}
 use lib.ListN.{length}
-use Rattle.frame.specs.declared.Reply.{Reply}
 use Rattle.frame.specs.declared.Reply.the-variants.{Read, Refused}
 use Rattle.frame.specs.Pick.{pick}
 use Rattle.frame.specs.Line.{line, bit, threeDecimal, threeDigits}
-use Rattle.frame.specs.Charts.{Chart, sizeOf, isOdd, turned, placeIn, oneBit, twoBits, feetTens, decimal, inches, sixteenths}
+use Rattle.frame.specs.Charts.{Chart, sizeOf, isOdd, turned, placeIn}
 use Rattle.frame.specs.Level.{Level, known, lost, Mode, widthOf, readRow, modeOf, fractionalMode, decimalMode, twentyMetreMode, thirtyMetreMode, levelOf, fillClear, noChart, valueOf, aboveLargest}
-use Rattle.frame.specs.Temperature.{isBad, temperatureOf}
-use Rattle.frame.specs.Faults.{firstOf}
+use Rattle.frame.specs.Temperature.{isBad}
 use Rattle.frame.specs.Reply.{modeIn, heatIn, parityRight, readingAt}
 use Rattle.frame.specs.Packed.{levelNumber, levelCode, lineFault, lineReply, heatReply}
 use Rattle.frame.proofs.Tables.{pick-case}

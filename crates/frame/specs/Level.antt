@@ -1,7 +1,7 @@
 -- Document 01, "Level": any row of digits read and written one after another from the top, and the four modes.
 use mathlib.Core.Bool.{Bool, true, false, _&&_}
 use mathlib.Core.List.{List, [], _∷_}
-use Prim.Native.Nat.{ℕ, zero, suc, _+_, _-_, _*_, _/_, _%_, _^_}
+use Prim.Native.Nat.{ℕ, suc, _+_, _-_, _*_, _/_, _%_, _^_}
 use lib.Dec.{eqb, ltb, leb}
 use Rattle.frame.specs.Pick.{pick}
 use Rattle.frame.specs.Line.{field, put}

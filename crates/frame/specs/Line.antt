@@ -1,7 +1,7 @@
 -- Document 01, "Bits on the line".
 use mathlib.Core.Bool.{Bool, true, false, _&&_}
 use mathlib.Core.List.{List, [], _∷_}
-use Prim.Native.Nat.{ℕ, zero, suc, _+_, _-_, _*_, _/_, _%_, _^_}
+use Prim.Native.Nat.{ℕ, _+_, _-_, _*_, _/_, _%_, _^_}
 use lib.Count.{ones}
 use lib.Dec.{eqb, leb}
 use lib.ListN.{length, getD, take}

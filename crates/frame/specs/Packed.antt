@@ -1,20 +1,21 @@
 -- How the code keeps charts and rows in words. A reader of document 01 need not believe this file: it says what the tables of
 -- `src/charts.rt` and the constants of `src/modes.rt` hold, each worked out from the charts themselves.
-use mathlib.Core.Bool.{Bool, true, false, not, _&&_}
+use mathlib.Core.Bool.{Bool, false, _&&_}
 use mathlib.Core.List.{List, [], _∷_, map}
 use Prim.Native.Nat.{ℕ, zero, suc, _+_, _-_, _*_, _/_, _%_, _^_}
 use lib.Dec.{eqb, ltb, leb}
+use lib.ListN.{drop}
 use Rattle.frame.specs.declared.heat.Told.{Told}
 use Rattle.frame.specs.declared.heat.Told.the-variants.{Is, Bad}
 use Rattle.frame.specs.declared.Reply.{Reply}
 use Rattle.frame.specs.declared.Reply.the-variants.{Read, Refused}
 use Rattle.frame.specs.Pick.{pick}
-use Rattle.frame.specs.Line.{line, bit, threeDecimal, threeDigits}
-use Rattle.frame.specs.Faults.{_gives_, firstOf}
-use Rattle.frame.specs.Reply.{modeIn, heatIn, parityRight, readingAt}
+use Rattle.frame.specs.Line.{line, bit}
+use Rattle.frame.specs.Faults.{firstOf}
+use Rattle.frame.specs.Reply.{replyTests, heatIn, readingAt}
 use Rattle.frame.specs.Charts.{Chart, oneBit, twoBits, feetTens, decimal, inches, sixteenths, placeIn, sizeOf, isOdd, turned, codeOf}
 use Rattle.frame.specs.Temperature.{Heat, told, bad, isBad, temperatureOf}
-use Rattle.frame.specs.Level.{Level, known, lost, Mode, levelOf, fillClear, noChart, aboveLargest, readRow, writeRow}
+use Rattle.frame.specs.Level.{Level, known, lost, Mode, levelOf, fillClear, readRow, writeRow}
 
 -- The chart of a number: 0 one bit, 1 two bits, 2 feet tens, 3 decimal, 4 inches, any other sixteenths.
 unfoldable pub chartOf : ℕ → Chart
@@ -106,21 +107,10 @@ abbrev pub heatFor : Told → Heat
 heatFor (Is t) = told t
 heatFor Bad = bad
 
--- What is left to test of a reply of the right form and length: faults 3 to 9, and what it answers.
+-- What is left to test of a reply of the right form and length, all but the first five tests: faults 3 to 9, and what it answers.
 unfoldable pub lineFault : ℕ → ℕ → ℕ → List ℕ → ℕ
 unfolding firstOf
-lineFault settings address count s =
-    let n = line s in
-    let m = modeIn settings in
-    firstOf
-    (eqb (bit n 1) 0 gives 3
-    ∷ not (threeDecimal n 4 && eqb (threeDigits n 4) address) gives 4
-    ∷ not (parityRight settings s) gives 5
-    ∷ not (fillClear n (m .fill)) gives 6
-    ∷ noChart (levelOf m n) gives 7
-    ∷ aboveLargest m (levelOf m n) gives 8
-    ∷ isBad (heatIn settings count n) gives 9
-    ∷ [])
+lineFault settings address count s = firstOf (drop 5 (replyTests settings address count s))
 
 unfoldable pub lineReply : ℕ → ℕ → ℕ → List ℕ → Reply
 lineReply settings address count s =

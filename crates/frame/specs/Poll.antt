@@ -1,6 +1,6 @@
 -- Document 01, the poll: bit 1 start, 2 unused, 3 raise, 4 reset, then three digits of the address from bit 5.
 use mathlib.Core.Path.{_≡_}
-use mathlib.Core.Bool.{Bool, true, false, not}
+use mathlib.Core.Bool.{Bool, not}
 use mathlib.Core.List.{List, [], _∷_, _++_}
 use Prim.Native.Nat.{ℕ, _+_}
 use lib.Dec.{eqb, ltb}

@@ -1,15 +1,14 @@
 -- Document 01, the reply: bit 1 start, 2-3 unused, address digits from bit 4, level at 16-37, alarm 1 at 38, alarm 0 at 39,
 -- temperature at 40-55 of 56 bits, parity last.
 use mathlib.Core.Path.{_≡_}
-use mathlib.Core.Bool.{Bool, true, false, not, _&&_}
+use mathlib.Core.Bool.{Bool, not, _&&_}
 use mathlib.Core.List.{List, [], _∷_, _++_}
 use Prim.Native.Nat.{ℕ, _+_, _/_, _%_}
-use lib.Dec.{eqb, leb, ltb}
+use lib.Dec.{eqb, ltb}
 use lib.ListN.{length, drop}
 use Rattle.frame.specs.declared.Reading.{Reading}
 use Rattle.frame.specs.declared.Reply.{Reply}
 use Rattle.frame.specs.declared.Reply.the-variants.{Read, Refused}
-use Rattle.frame.specs.declared.Temperature.{Temperature}
 use Rattle.frame.specs.declared.Temperature.the-variants.{Absent}
 use Rattle.frame.specs.declared.Written.{Written}
 use Rattle.frame.specs.declared.Written.the-variants.{Bytes}
@@ -18,7 +17,7 @@ use Rattle.frame.specs.Pick.{pick}
 use Rattle.frame.specs.Line.{line, bit, put, mark, formed, marks, firstBytes, threeDigits, threeDecimal, putThree}
 use Rattle.frame.specs.Level.{Mode, modeOf, levelOf, fillClear, noChart, valueOf, aboveLargest, putLevel}
 use Rattle.frame.specs.Temperature.{Heat, told, heatOf, isBad, temperatureOf, isAbsent, putHeat}
-use Rattle.frame.specs.Faults.{_gives_, firstOf}
+use Rattle.frame.specs.Faults.{Test, _gives_, firstOf}
 
 -- Settings: mode in bits 0-1, bit 2 set for 1800, bit 3 set for odd parity, the rest 0.
 abbrev pub modeIn : ℕ → Mode
@@ -39,13 +38,11 @@ abbrev pub parityRight : ℕ → List ℕ → Bool
 parityRight settings s = eqb (marks s % 2) (oddParity settings)
 
 -- Reading a reply: 10, 11, 14, then 1 to 9 upward.
-unfoldable pub replyFault : ℕ → ℕ → ℕ → List ℕ → ℕ
-unfolding firstOf
-replyFault settings address count s =
+abbrev pub replyTests : ℕ → ℕ → ℕ → List ℕ → List Test
+replyTests settings address count s =
     let n = line s in
     let m = modeIn settings in
-    firstOf
-    (ltb 15 settings gives 10
+    ltb 15 settings gives 10
     ∷ ltb 999 address gives 11
     ∷ not (formed count s) gives 14
     ∷ eqb count 0 gives 1
@@ -57,7 +54,11 @@ replyFault settings address count s =
     ∷ noChart (levelOf m n) gives 7
     ∷ aboveLargest m (levelOf m n) gives 8
     ∷ isBad (heatIn settings count n) gives 9
-    ∷ [])
+    ∷ []
+
+unfoldable pub replyFault : ℕ → ℕ → ℕ → List ℕ → ℕ
+unfolding firstOf
+replyFault settings address count s = firstOf (replyTests settings address count s)
 
 abbrev pub readingAt : ℕ → ℕ → ℕ → Reading
 readingAt settings count n =

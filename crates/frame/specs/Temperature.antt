@@ -1,12 +1,12 @@
 -- Document 01, "Temperature", in tenths of a degree.
-use mathlib.Core.Bool.{Bool, true, false, _&&_}
+use mathlib.Core.Bool.{Bool, true, false}
 use Prim.Native.Nat.{ℕ, suc, _+_, _-_, _*_, _/_, _%_, min}
 use lib.Dec.{eqb, leb}
 use lib.IntN.{ℤ, pos, negsuc, negℤ}
 use Rattle.frame.specs.declared.Temperature.{Temperature}
 use Rattle.frame.specs.declared.Temperature.the-variants.{Degrees, Above, Below, Absent}
 use Rattle.frame.specs.Pick.{pick}
-use Rattle.frame.specs.Line.{field, bit, put, mark, threeDigits, threeDecimal, putThree}
+use Rattle.frame.specs.Line.{bit, put, mark, threeDigits, threeDecimal, putThree}
 
 -- What the temperature bits of a line read as: a temperature, or none that is allowed.
 pub data Heat : Type 0 where

@@ -1,8 +1,8 @@
 -- `frame::read_poll` meets its contract: the two bytes are the top of the line, and each return is the answer by the tests that led there. Assumes nothing.
-use mathlib.Core.Path.{_≡_, refl, sym, ap, _∙_}
-use mathlib.Core.Bool.{Bool, true, false, not, _&&_}
+use mathlib.Core.Path.{_≡_, sym, ap, _∙_}
+use mathlib.Core.Bool.{true, false}
 use mathlib.Core.List.{List}
-use Prim.Native.Nat.{ℕ, _+_, _*_, _/_, _%_, _^_, _<_, _≤_}
+use Prim.Native.Nat.{ℕ, _+_, _*_, _/_, _^_, _<_}
 use native.Mathlib.Omega.{arith}
 use borrow.Author.Tests.{eq-eqb, ne-eqb}
 use lib.Dec.{eqb}
@@ -15,10 +15,6 @@ use Rattle.frame.proofs.Three.{was-bad, was-good, number-le}
 use borrow.Author.Needs.{needs}
 use Rattle.frame.proofs.read_poll.Statement.{statement}
 use Rattle.frame.proofs.read_poll.Tie as tie
-use Rattle.frame.proofs.read_poll.Reads as reads
-use Rattle.frame.proofs.read_poll.Lts as lts
-use Rattle.frame.proofs.line.three.Reads as three-reads
-use Rattle.frame.proofs.line.two.Reads as two-reads
 
 -- the line of two bytes
 two-line : (s : List ℕ) → length s ≡ 2 → line s ≡ (getD s 0 0 * 256 + getD s 1 0) * 2 ^ 48

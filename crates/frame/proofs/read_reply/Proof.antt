@@ -1,19 +1,13 @@
 -- `frame::read_reply` meets its contract: each return is the answer by the tests that led there. Assumes nothing.
-use mathlib.Core.Path.{_≡_, sym, ap, _∙_}
+use mathlib.Core.Path.{_≡_, sym, _∙_}
 use mathlib.Core.Bool.{Bool, true, false, not, _&&_}
-use native.Mathlib.Omega.{arith}
 use borrow.Author.Tests.{lt-ltb, le-ltb, eq-eqb, ne-eqb, not-true, not-false}
-use lib.Dec.{eqb, ltb}
+use lib.Dec.{eqb}
 use Rattle.frame.specs.Line.{formed}
 use Rattle.frame.proofs.Refusals.{reply-10, reply-11, reply-14, reply-1, reply-2, reply-line, five-or-seven}
 use borrow.Author.Needs.{needs}
 use Rattle.frame.proofs.read_reply.Statement.{statement}
 use Rattle.frame.proofs.read_reply.Tie as tie
-use Rattle.frame.proofs.read_reply.Reads as reads
-use Rattle.frame.proofs.read_reply.Lts as lts
-use Rattle.frame.proofs.line.formed.Reads as formed-reads
-use Rattle.frame.proofs.replies.read_line.Reads as read-line-reads
-use Rattle.frame.proofs.replies.whole.Reads as whole-reads
 
 -- the form was right
 in-form : (c : tie.Else3) → formed (c .before .before .before .before .before .args .count) (c .before .before .before .before .before .args .reply .now) ≡ true

@@ -1,19 +1,16 @@
 -- `frame::write_poll` meets its contract: a refusal leaves the output, and the two bytes stored are those of the poll's line. Assumes nothing.
-use mathlib.Core.Path.{_≡_, refl, sym, ap, _∙_}
+use mathlib.Core.Path.{_≡_, ap, _∙_}
 use mathlib.Core.List.{List, [], _∷_, _++_}
-use Prim.Native.Nat.{ℕ, _*_, _/_, _%_, _^_, _≤_}
+use Prim.Native.Nat.{ℕ, _*_, _/_, _%_, _^_}
 use native.Mathlib.Omega.{arith}
 use borrow.Author.Tests.{lt-ltb, le-ltb}
-use lib.ListN.{length, set, drop}
+use lib.ListN.{drop}
 use Rattle.frame.specs.Line.{field, firstBytes}
 use Rattle.frame.specs.Poll.{pollLine, writePollFault}
 use Rattle.frame.proofs.Fronts.{front}
 use borrow.Author.Needs.{needs}
 use Rattle.frame.proofs.write_poll.Statement.{statement}
 use Rattle.frame.proofs.write_poll.Tie as tie
-use Rattle.frame.proofs.write_poll.Reads as reads
-use Rattle.frame.proofs.write_poll.Lts as lts
-use Rattle.frame.proofs.polls.word.Reads as word-reads
 
 -- the two bytes of a word that stands at the top of a line
 two-bytes : (w n : ℕ) → w * 2 ^ 48 ≡ n → (w / 256 % 256 ∷ w % 256 ∷ []) ≡ firstBytes 2 n

@@ -1,8 +1,8 @@
 -- `frame::write_reply` meets its contract: a refusal leaves the output, and the bytes stored are those of the reply's line. Assumes nothing.
-use mathlib.Core.Path.{_≡_, refl, sym, ap, _∙_}
-use mathlib.Core.Bool.{Bool, true, false}
+use mathlib.Core.Path.{_≡_, sym, ap, _∙_}
+use mathlib.Core.Bool.{true, false}
 use mathlib.Core.List.{List, _++_}
-use Prim.Native.Nat.{ℕ, _<_, _≤_}
+use Prim.Native.Nat.{ℕ}
 use native.Mathlib.Omega.{arith}
 use borrow.Author.Tests.{lt-ltb, le-ltb, ne-eqb}
 use lib.Dec.{ltb}
@@ -15,12 +15,6 @@ use Rattle.frame.specs.Reply.{WritesReply, writeReplyFault, replyLine, s
 use borrow.Author.Needs.{needs}
 use Rattle.frame.proofs.write_reply.Statement.{statement}
 use Rattle.frame.proofs.write_reply.Tie as tie
-use Rattle.frame.proofs.write_reply.Reads as reads
-use Rattle.frame.proofs.write_reply.Lts as lts
-use Rattle.frame.proofs.writing.is_absent.Reads as is-absent-reads
-use Rattle.frame.proofs.writing.store_5.Reads as store-5-reads
-use Rattle.frame.proofs.writing.store_7.Reads as store-7-reads
-use Rattle.frame.proofs.writing.whole_line.Reads as whole-line-reads
 
 -- a refusal leaves the output; a success leaves the bytes of the line before what followed them
 module _ (settings address : ℕ) (r : Reading) (out : List ℕ) where

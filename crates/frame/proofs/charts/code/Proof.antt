@@ -1,15 +1,10 @@
 -- `frame::charts::code` meets its contract: straight or turned, the place is below the chart's size, which is at most 16. Assumes nothing.
-use mathlib.Core.Path.{sym}
 use native.Mathlib.Omega.{arith}
 use Rattle.frame.specs.Charts.{turned}
 use Rattle.frame.proofs.Tables.{size-high}
 use borrow.Author.Needs.{needs}
 use Rattle.frame.proofs.charts.code.Statement.{statement}
 use Rattle.frame.proofs.charts.code.Tie as tie
-use Rattle.frame.proofs.charts.code.Reads as reads
-use Rattle.frame.proofs.charts.code.Lts as lts
-use Rattle.frame.proofs.charts.code_at.Reads as code-at-reads
-use Rattle.frame.proofs.charts.size.Reads as size-reads
 
 size-requires : tie.Need-size-requires
 size-requires c κs = search needs

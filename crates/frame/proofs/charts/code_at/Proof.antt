@@ -5,9 +5,6 @@ use Rattle.frame.proofs.Tables.{codes-rule}
 use borrow.Author.Needs.{needs}
 use Rattle.frame.proofs.charts.code_at.Statement.{statement}
 use Rattle.frame.proofs.charts.code_at.Tie as tie
-use Rattle.frame.proofs.charts.code_at.Reads as reads
-use Rattle.frame.proofs.charts.code_at.Lts as lts
-use Rattle.frame.proofs.charts.codes.Reads as codes-reads
 
 codes-requires : tie.Need-codes-requires
 codes-requires c κs = search needs

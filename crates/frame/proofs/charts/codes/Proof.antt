@@ -1,12 +1,9 @@
 -- `frame::charts::codes` meets its contract: each word is what the definition computes from its chart. Assumes nothing.
-use borrow.Author.Needs.{needs}
 use Rattle.frame.specs.Charts.{oneBit, twoBits, feetTens, decimal, inches, sixteenths}
 use Rattle.frame.specs.Packed.{chartOf, codesOf}
 use Rattle.frame.proofs.Tables.{else-sixteenths}
 use Rattle.frame.proofs.charts.codes.Statement.{statement}
 use Rattle.frame.proofs.charts.codes.Tie as tie
-use Rattle.frame.proofs.charts.codes.Reads as reads
-use Rattle.frame.proofs.charts.codes.Lts as lts
 
 -- src/charts.rt:51:1
 returns : tie.Need-returns

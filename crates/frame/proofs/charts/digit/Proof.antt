@@ -6,10 +6,6 @@ use Rattle.frame.specs.Packed.{digitOf}
 use borrow.Author.Needs.{needs}
 use Rattle.frame.proofs.charts.digit.Statement.{statement}
 use Rattle.frame.proofs.charts.digit.Tie as tie
-use Rattle.frame.proofs.charts.digit.Reads as reads
-use Rattle.frame.proofs.charts.digit.Lts as lts
-use Rattle.frame.proofs.charts.place.Reads as place-reads
-use Rattle.frame.proofs.charts.size.Reads as size-reads
 
 place-requires : tie.Need-place-requires
 place-requires c κs = search needs

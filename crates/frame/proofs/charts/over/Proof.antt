@@ -1,12 +1,9 @@
 -- `frame::charts::over` meets its contract: each arm divides by the number of values of its chart. Assumes nothing.
-use borrow.Author.Needs.{needs}
 use Rattle.frame.specs.Charts.{oneBit, twoBits, feetTens, decimal, inches, sixteenths}
 use Rattle.frame.specs.Packed.{chartOf}
 use Rattle.frame.proofs.Tables.{else-sixteenths}
 use Rattle.frame.proofs.charts.over.Statement.{statement}
 use Rattle.frame.proofs.charts.over.Tie as tie
-use Rattle.frame.proofs.charts.over.Reads as reads
-use Rattle.frame.proofs.charts.over.Lts as lts
 
 -- src/charts.rt:23:1
 returns : tie.Need-returns

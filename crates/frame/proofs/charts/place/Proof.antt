@@ -5,9 +5,6 @@ use Rattle.frame.proofs.Tables.{places-rule}
 use borrow.Author.Needs.{needs}
 use Rattle.frame.proofs.charts.place.Statement.{statement}
 use Rattle.frame.proofs.charts.place.Tie as tie
-use Rattle.frame.proofs.charts.place.Reads as reads
-use Rattle.frame.proofs.charts.place.Lts as lts
-use Rattle.frame.proofs.charts.places.Reads as places-reads
 
 places-requires : tie.Need-places-requires
 places-requires c κs = search needs

@@ -1,12 +1,9 @@
 -- `frame::charts::places` meets its contract: each word is what the definition computes from its chart. Assumes nothing.
-use borrow.Author.Needs.{needs}
 use Rattle.frame.specs.Charts.{oneBit, twoBits, feetTens, decimal, inches, sixteenths, placeIn}
 use Rattle.frame.specs.Packed.{chartOf, placesOf}
 use Rattle.frame.proofs.Tables.{else-sixteenths}
 use Rattle.frame.proofs.charts.places.Statement.{statement}
 use Rattle.frame.proofs.charts.places.Tie as tie
-use Rattle.frame.proofs.charts.places.Reads as reads
-use Rattle.frame.proofs.charts.places.Lts as lts
 
 -- src/charts.rt:37:1
 returns : tie.Need-returns

@@ -1,12 +1,9 @@
 -- `frame::charts::size` meets its contract: the number of values of each chart is computed, arm by arm. Assumes nothing.
-use borrow.Author.Needs.{needs}
 use Rattle.frame.specs.Charts.{oneBit, twoBits, feetTens, decimal, inches, sixteenths}
 use Rattle.frame.specs.Packed.{chartOf}
 use Rattle.frame.proofs.Tables.{else-sixteenths}
 use Rattle.frame.proofs.charts.size.Statement.{statement}
 use Rattle.frame.proofs.charts.size.Tie as tie
-use Rattle.frame.proofs.charts.size.Reads as reads
-use Rattle.frame.proofs.charts.size.Lts as lts
 
 -- src/charts.rt:9:1
 returns : tie.Need-returns

@@ -1,16 +1,11 @@
 -- `frame::heat::degrees` meets its contract: a number up to 7,999 and its negative fit 16 bits. Assumes nothing.
-use mathlib.Core.Path.{_≡_, ap, _∙_}
 use native.Mathlib.Omega.{arith}
-use lib.IntN.{ℤ, pos, negℤ, _-ℤ_}
 use mir.Syntax.{w16}
-use mir.Val.{toZ}
 use mir.Facts.{toZ-ofZ, toZ-pos}
 use Rattle.frame.proofs.Signs.{minus-is, minus-small}
 use borrow.Author.Needs.{needs}
 use Rattle.frame.proofs.heat.degrees.Statement.{statement}
 use Rattle.frame.proofs.heat.degrees.Tie as tie
-use Rattle.frame.proofs.heat.degrees.Reads as reads
-use Rattle.frame.proofs.heat.degrees.Lts as lts
 
 cast-d : tie.Need-cast-d
 cast-d c = search needs

@@ -1,13 +1,9 @@
 -- `frame::heat::degrees_1800` meets its contract: each return rewrites the definition with the tests that led there. Assumes nothing.
-use mathlib.Core.Path.{_∙_}
 use borrow.Author.Tests.{le-leb, lt-leb}
 use Rattle.frame.specs.Temperature.{putDegrees1800}
 use borrow.Author.Needs.{needs}
 use Rattle.frame.proofs.heat.degrees_1800.Statement.{statement}
 use Rattle.frame.proofs.heat.degrees_1800.Tie as tie
-use Rattle.frame.proofs.heat.degrees_1800.Reads as reads
-use Rattle.frame.proofs.heat.degrees_1800.Lts as lts
-use Rattle.frame.proofs.heat.put_degrees.Reads as put-degrees-reads
 
 put-degrees-requires : tie.Need-put-degrees-requires
 put-degrees-requires c κs = search needs

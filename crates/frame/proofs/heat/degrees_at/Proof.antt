@@ -1,22 +1,16 @@
 -- `frame::heat::degrees_at` meets its contract: 1000 tells a digit above 9; else the number is that of the three digits, and at most 7,999 with its hundreds. Assumes nothing.
-use mathlib.Core.Path.{_≡_, sym, ap, _∙_}
+use mathlib.Core.Path.{_≡_, sym, _∙_}
 use mathlib.Core.Bool.{true, false}
-use Prim.Native.Nat.{ℕ, _+_, _*_, _≤_}
+use Prim.Native.Nat.{ℕ, _≤_}
 use native.Mathlib.Omega.{arith}
 use mir.Syntax.{w16}
 use mir.Facts.{toZ-ofZ}
 use Rattle.frame.specs.Line.{field, threeDecimal, threeDigits}
-use Rattle.frame.specs.Temperature.{Heat, told, signed}
-use Rattle.frame.specs.declared.Temperature.the-variants.{Degrees}
 use Rattle.frame.specs.Packed.{threeBy}
 use Rattle.frame.proofs.Three.{was-bad, was-good, number-le}
 use borrow.Author.Needs.{needs}
 use Rattle.frame.proofs.heat.degrees_at.Statement.{statement}
 use Rattle.frame.proofs.heat.degrees_at.Tie as tie
-use Rattle.frame.proofs.heat.degrees_at.Reads as reads
-use Rattle.frame.proofs.heat.degrees_at.Lts as lts
-use Rattle.frame.proofs.heat.degrees.Reads as degrees-reads
-use Rattle.frame.proofs.line.three.Reads as three-reads
 
 -- the digits at bits 44 to 55
 is-bad : (n : ℕ) → threeBy n 9 ≡ 1000 → threeDecimal n 44 ≡ false

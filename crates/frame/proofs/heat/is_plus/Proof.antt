@@ -7,8 +7,6 @@ use mir.Facts.{toZ-ofZ}
 use Rattle.frame.proofs.Signs.{plus-is}
 use Rattle.frame.proofs.heat.is_plus.Statement.{statement}
 use Rattle.frame.proofs.heat.is_plus.Tie as tie
-use Rattle.frame.proofs.heat.is_plus.Reads as reads
-use Rattle.frame.proofs.heat.is_plus.Lts as lts
 
 returns : tie.Need-returns
 returns c = ap (λ (z : ℤ). leZ (pos 0) z) (toZ-ofZ {w = w16} (c .fits .d)) ∙ plus-is (c .args .d)

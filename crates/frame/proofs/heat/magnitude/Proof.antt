@@ -2,18 +2,15 @@
 use mathlib.Core.Path.{_≡_, sym, ap, _∙_}
 use mathlib.Core.Bool.{true, false}
 use native.Mathlib.Omega.{arith}
-use lib.IntN.{ℤ, pos, _-ℤ_, natAbs}
-use lib.Signed.{leZ, nonNeg}
-use lib.Dec.{T}
+use lib.IntN.{ℤ, pos}
+use lib.Signed.{leZ}
 use mir.Syntax.{w16, w32, w64}
-use mir.Val.{Fits, SFits, toZ, ofZ}
+use mir.Val.{SFits}
 use mir.Facts.{toZ-ofZ, sfits-widen, fits-natAbs}
 use Rattle.frame.specs.Temperature.{isPlus, magnitude}
 use Rattle.frame.proofs.Signs.{widened, plus-is, turned-plus, magnitude-small, magnitude-plus, natAbs-is}
 use Rattle.frame.proofs.heat.magnitude.Statement.{statement}
 use Rattle.frame.proofs.heat.magnitude.Tie as tie
-use Rattle.frame.proofs.heat.magnitude.Reads as reads
-use Rattle.frame.proofs.heat.magnitude.Lts as lts
 
 -- the number was not plus
 minus : (c : tie.Else1) → isPlus (c .before .args .d) ≡ false

@@ -7,9 +7,6 @@ use Rattle.frame.specs.Temperature.{putDegrees, putHundreds1900, putDegr
 use borrow.Author.Needs.{needs}
 use Rattle.frame.proofs.heat.put_1900.Statement.{statement}
 use Rattle.frame.proofs.heat.put_1900.Tie as tie
-use Rattle.frame.proofs.heat.put_1900.Reads as reads
-use Rattle.frame.proofs.heat.put_1900.Lts as lts
-use Rattle.frame.proofs.heat.put_degrees.Reads as put-degrees-reads
 
 sub-hundreds : tie.Need-sub-hundreds
 sub-hundreds c = search needs

@@ -3,9 +3,6 @@ use native.Mathlib.Omega.{arith}
 use borrow.Author.Needs.{needs}
 use Rattle.frame.proofs.heat.put_degrees.Statement.{statement}
 use Rattle.frame.proofs.heat.put_degrees.Tie as tie
-use Rattle.frame.proofs.heat.put_degrees.Reads as reads
-use Rattle.frame.proofs.heat.put_degrees.Lts as lts
-use Rattle.frame.proofs.line.three_of.Reads as three-of-reads
 
 three-of-requires : tie.Need-three-of-requires
 three-of-requires c κs = search needs

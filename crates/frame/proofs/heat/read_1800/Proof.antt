@@ -1,6 +1,5 @@
 -- `frame::heat::read_1800` meets its contract: each return rewrites the definition with what the two error bits are then. Assumes nothing.
 use mathlib.Core.Path.{_≡_}
-use Prim.Native.Nat.{ℕ, _<_, _≤_}
 use native.Mathlib.Omega.{arith}
 use borrow.Author.Tests.{eq-eqb, ne-eqb}
 use Rattle.frame.specs.Line.{bit}
@@ -8,9 +7,6 @@ use Rattle.frame.specs.Temperature.{heat1800}
 use borrow.Author.Needs.{needs}
 use Rattle.frame.proofs.heat.read_1800.Statement.{statement}
 use Rattle.frame.proofs.heat.read_1800.Tie as tie
-use Rattle.frame.proofs.heat.read_1800.Reads as reads
-use Rattle.frame.proofs.heat.read_1800.Lts as lts
-use Rattle.frame.proofs.heat.degrees_at.Reads as degrees-at-reads
 
 returns : tie.Need-returns
 unfolding heat1800

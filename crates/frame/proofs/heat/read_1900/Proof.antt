@@ -3,9 +3,6 @@ use Rattle.frame.specs.Temperature.{heat1900}
 use borrow.Author.Needs.{needs}
 use Rattle.frame.proofs.heat.read_1900.Statement.{statement}
 use Rattle.frame.proofs.heat.read_1900.Tie as tie
-use Rattle.frame.proofs.heat.read_1900.Reads as reads
-use Rattle.frame.proofs.heat.read_1900.Lts as lts
-use Rattle.frame.proofs.heat.degrees_at.Reads as degrees-at-reads
 
 sub-hundreds : tie.Need-sub-hundreds
 sub-hundreds c = search needs

@@ -1,17 +1,12 @@
 -- `frame::heat::write_1800` meets its contract: each arm is a case of the definition. Assumes nothing.
-use mathlib.Core.Path.{_≡_, sym, ap, _∙_}
+use mathlib.Core.Path.{_≡_, _∙_}
 use mir.Syntax.{w16}
 use mir.Val.{toZ, ofZ}
 use mir.Facts.{toZ-ofZ}
-use Rattle.frame.specs.Temperature.{putHeat1800, putDegrees1800}
+use Rattle.frame.specs.Temperature.{putHeat1800}
 use borrow.Author.Needs.{needs}
 use Rattle.frame.proofs.heat.write_1800.Statement.{statement}
 use Rattle.frame.proofs.heat.write_1800.Tie as tie
-use Rattle.frame.proofs.heat.write_1800.Reads as reads
-use Rattle.frame.proofs.heat.write_1800.Lts as lts
-use Rattle.frame.proofs.heat.degrees_1800.Reads as degrees-1800-reads
-use Rattle.frame.proofs.heat.is_plus.Reads as is-plus-reads
-use Rattle.frame.proofs.heat.magnitude.Reads as magnitude-reads
 
 enum-known-t : tie.Need-enum-known-t
 enum-known-t c = search needs

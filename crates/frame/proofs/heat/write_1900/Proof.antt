@@ -1,18 +1,12 @@
 -- `frame::heat::write_1900` meets its contract: each arm is a case of the definition. Assumes nothing.
-use mathlib.Core.Path.{_≡_, sym, ap, _∙_}
+use mathlib.Core.Path.{_≡_, _∙_}
 use mir.Syntax.{w16}
 use mir.Val.{toZ, ofZ}
 use mir.Facts.{toZ-ofZ}
-use Rattle.frame.specs.Temperature.{putHeat1900, putDegrees1900}
+use Rattle.frame.specs.Temperature.{putHeat1900}
 use borrow.Author.Needs.{needs}
 use Rattle.frame.proofs.heat.write_1900.Statement.{statement}
 use Rattle.frame.proofs.heat.write_1900.Tie as tie
-use Rattle.frame.proofs.heat.write_1900.Reads as reads
-use Rattle.frame.proofs.heat.write_1900.Lts as lts
-use Rattle.frame.proofs.heat.is_plus.Reads as is-plus-reads
-use Rattle.frame.proofs.heat.magnitude.Reads as magnitude-reads
-use Rattle.frame.proofs.heat.put_1900.Reads as put-1900-reads
-use Rattle.frame.proofs.heat.within_1900.Reads as within-1900-reads
 
 enum-known-t : tie.Need-enum-known-t
 enum-known-t c = search needs

@@ -1,6 +1,6 @@
 -- `frame::level::fill_clear` meets its contract: a one shifted is the power of two that the definition has. Assumes nothing.
-use mathlib.Core.Path.{_≡_, ap, _∙_}
-use Prim.Native.Nat.{ℕ, _-_, _*_, _/_, _%_, _^_, _<_}
+use mathlib.Core.Path.{_≡_}
+use Prim.Native.Nat.{_-_, _/_, _%_, _^_, _<_}
 use native.Mathlib.Omega.{arith}
 use borrow.Author.Tests.{eq-eqb, ne-eqb}
 use lib.Pow.{pow-pos}
@@ -8,8 +8,6 @@ use Rattle.frame.proofs.Shifts.{one-shl}
 use borrow.Author.Needs.{needs}
 use Rattle.frame.proofs.level.fill_clear.Statement.{statement}
 use Rattle.frame.proofs.level.fill_clear.Tie as tie
-use Rattle.frame.proofs.level.fill_clear.Reads as reads
-use Rattle.frame.proofs.level.fill_clear.Lts as lts
 
 sub-head : tie.Need-sub-head
 sub-head c = search needs

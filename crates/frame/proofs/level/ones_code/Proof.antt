@@ -1,19 +1,14 @@
 -- `frame::level::ones_code` meets its contract: what is left of the level after the digits above is the ones digit. Assumes nothing.
-use mathlib.Core.Path.{_≡_, ap, sym, _∙_}
-use Prim.Native.Nat.{ℕ, _+_, _-_, _*_, _/_, _%_, _<_}
+use mathlib.Core.Path.{_≡_, _∙_}
+use Prim.Native.Nat.{ℕ, _+_, _-_, _*_, _/_, _%_}
 use native.Mathlib.Nat.{div-add-mod', mod-lt}
 use native.Mathlib.Omega.{arith}
-use Rattle.frame.specs.Charts.{sizeOf, isOdd, codeOf}
+use Rattle.frame.specs.Charts.{sizeOf}
 use Rattle.frame.specs.Packed.{chartOf}
 use Rattle.frame.proofs.Tables.{size-low}
 use borrow.Author.Needs.{needs}
 use Rattle.frame.proofs.level.ones_code.Statement.{statement}
 use Rattle.frame.proofs.level.ones_code.Tie as tie
-use Rattle.frame.proofs.level.ones_code.Reads as reads
-use Rattle.frame.proofs.level.ones_code.Lts as lts
-use Rattle.frame.proofs.charts.code.Reads as code-reads
-use Rattle.frame.proofs.charts.over.Reads as over-reads
-use Rattle.frame.proofs.charts.size.Reads as size-reads
 
 -- a number is its quotient's multiple and its remainder
 split : {q n m : ℕ} (v : ℕ) → q ≡ v / m → n ≡ m → q * n + v % m ≡ v

@@ -1,6 +1,6 @@
 -- `frame::level::read_by` meets its contract: what the digit reader gave is told apart by its size, since every level of at most
 -- five digits is below 2 ^ 32. Assumes nothing.
-use mathlib.Core.Path.{_≡_, sym, ap, _∙_}
+use mathlib.Core.Path.{_≡_, sym, _∙_}
 use mathlib.Core.Bool.{true, false}
 use Prim.Native.Nat.{ℕ, _+_, _-_, _*_, _/_, _%_, _^_, _<_, _≤_}
 use native.Mathlib.Omega.{arith}
@@ -14,10 +14,6 @@ use Rattle.frame.proofs.Upward.{sixteen-le}
 use borrow.Author.Needs.{needs}
 use Rattle.frame.proofs.level.read_by.Statement.{statement}
 use Rattle.frame.proofs.level.read_by.Tie as tie
-use Rattle.frame.proofs.level.read_by.Reads as reads
-use Rattle.frame.proofs.level.read_by.Lts as lts
-use Rattle.frame.proofs.level.fill_clear.Reads as fill-clear-reads
-use Rattle.frame.proofs.level.read_digits.Reads as read-digits-reads
 
 fill-clear-requires : tie.Need-fill-clear-requires
 fill-clear-requires c κs = search needs

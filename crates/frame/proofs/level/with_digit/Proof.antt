@@ -3,15 +3,10 @@ use mathlib.Core.Path.{ap}
 use Prim.Native.Nat.{ℕ, _+_, _*_, _%_, _≤_}
 use native.Mathlib.Nat.{mul-le-mul-left}
 use native.Mathlib.Omega.{arith}
-use Rattle.frame.specs.Charts.{sizeOf}
-use Rattle.frame.specs.Packed.{chartOf}
 use Rattle.frame.proofs.Tables.{size-high}
 use borrow.Author.Needs.{needs}
 use Rattle.frame.proofs.level.with_digit.Statement.{statement}
 use Rattle.frame.proofs.level.with_digit.Tie as tie
-use Rattle.frame.proofs.level.with_digit.Reads as reads
-use Rattle.frame.proofs.level.with_digit.Lts as lts
-use Rattle.frame.proofs.charts.size.Reads as size-reads
 
 size-requires : tie.Need-size-requires
 size-requires c κs = search needs

@@ -1,7 +1,7 @@
 -- `frame::level::write_by` meets its contract: a level within its mode is written from the ones digit up, which is the same as from the
 -- top; the shifted ones of any other fit the word. Assumes nothing.
-use mathlib.Core.Path.{_≡_, sym, ap, _∙_}
-use Prim.Native.Nat.{ℕ, _+_, _-_, _*_, _/_, _%_, _^_, _<_, _≤_}
+use mathlib.Core.Path.{ap, _∙_}
+use Prim.Native.Nat.{ℕ, _+_, _-_, _*_, _^_, _<_, _≤_}
 use native.Mathlib.Omega.{arith}
 use borrow.Author.Tests.{le-leb, lt-leb}
 use lib.Pow.{pow-pos, shl-exact, ones-lt}
@@ -11,9 +11,6 @@ use Rattle.frame.proofs.Upward.{upward}
 use borrow.Author.Needs.{needs}
 use Rattle.frame.proofs.level.write_by.Statement.{statement}
 use Rattle.frame.proofs.level.write_by.Tie as tie
-use Rattle.frame.proofs.level.write_by.Reads as reads
-use Rattle.frame.proofs.level.write_by.Lts as lts
-use Rattle.frame.proofs.level.write_digits.Reads as write-digits-reads
 
 add-write-digits : tie.Need-add-write-digits
 add-write-digits c = search needs

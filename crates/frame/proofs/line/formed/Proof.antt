@@ -1,19 +1,16 @@
 -- `frame::line::formed` meets its contract: each return rewrites the definition with the tests that led there. Where the count fills its
 -- last byte, no byte stands after it, so the definition reads 0 there. Assumes nothing.
-use mathlib.Core.Path.{_≡_, refl, sym, ap, _∙_}
-use mathlib.Core.List.{List}
-use Prim.Native.Nat.{ℕ, _+_, _-_, _*_, _/_, _%_, _^_, _<_, _≤_}
+use mathlib.Core.Path.{_≡_}
+use Prim.Native.Nat.{_-_, _/_, _%_, _<_}
 use native.Mathlib.Omega.{arith}
 use borrow.Author.Needs.{needs}
 use borrow.Author.Tests.{lt-leb, le-leb, eq-eqb, ne-eqb}
-use lib.ListN.{length, getD, List·getD-eq-default}
+use lib.ListN.{getD, List·getD-eq-default}
 use lib.Pow.{pow-pos}
 use Rattle.frame.specs.Line.{formed}
 use Rattle.frame.proofs.Shifts.{one-shl}
 use Rattle.frame.proofs.line.formed.Statement.{statement}
 use Rattle.frame.proofs.line.formed.Tie as tie
-use Rattle.frame.proofs.line.formed.Reads as reads
-use Rattle.frame.proofs.line.formed.Lts as lts
 
 returns : tie.Need-returns
 unfolding formed

@@ -1,6 +1,6 @@
 -- `frame::line::marks` meets its contract. The loop's invariant: `n` counts the marks of the first `i` bytes, and is at most 8 for each.
 -- Assumes nothing.
-use mathlib.Core.Path.{_≡_, refl, sym, ap, _∙_}
+use mathlib.Core.Path.{_≡_, refl, ap, _∙_}
 use Prim.Native.Nat.{_≤_, _+_, _*_, _-_}
 use native.Mathlib.Numerals.{add-one}
 use native.Mathlib.Omega.{arith}
@@ -11,8 +11,6 @@ use Rattle.frame.specs.Line.{marks}
 use Rattle.frame.proofs.Marks.{marks-take-suc}
 use Rattle.frame.proofs.line.marks.Statement.{statement}
 use Rattle.frame.proofs.line.marks.Tie as tie
-use Rattle.frame.proofs.line.marks.Reads as reads
-use Rattle.frame.proofs.line.marks.Lts as lts
 
 abbrev Inv-loop : tie.InvT-loop
 Inv-loop reply n₀ i₀ n i = (i ≤ length reply) × (n ≡ marks (take i reply)) × (n ≤ 8 * i)

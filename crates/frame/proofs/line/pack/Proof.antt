@@ -4,11 +4,6 @@ use lib.ListN.{List·getD-eq-default}
 use Rattle.frame.specs.Line.{line}
 use Rattle.frame.proofs.line.pack.Statement.{statement}
 use Rattle.frame.proofs.line.pack.Tie as tie
-use Rattle.frame.proofs.line.pack.Reads as reads
-use Rattle.frame.proofs.line.pack.Lts as lts
-use Rattle.frame.proofs.line.eight.Reads as eight-reads
-use Rattle.frame.proofs.line.four.Reads as four-reads
-use Rattle.frame.proofs.line.two.Reads as two-reads
 
 -- src/line.rt:66:26
 shared-slice-read-two : tie.Need-shared-slice-read-two

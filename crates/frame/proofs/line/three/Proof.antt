@@ -4,8 +4,6 @@ use Rattle.frame.specs.Packed.{threeBy}
 use borrow.Author.Needs.{needs}
 use Rattle.frame.proofs.line.three.Statement.{statement}
 use Rattle.frame.proofs.line.three.Tie as tie
-use Rattle.frame.proofs.line.three.Reads as reads
-use Rattle.frame.proofs.line.three.Lts as lts
 
 add-hundreds : tie.Need-add-hundreds
 add-hundreds c = search needs

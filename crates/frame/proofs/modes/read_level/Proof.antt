@@ -6,12 +6,6 @@ use Rattle.frame.proofs.Constants.{mode-0, mode-1, mode-2, mode-else}
 use borrow.Author.Needs.{needs}
 use Rattle.frame.proofs.modes.read_level.Statement.{statement}
 use Rattle.frame.proofs.modes.read_level.Tie as tie
-use Rattle.frame.proofs.modes.read_level.Reads as reads
-use Rattle.frame.proofs.modes.read_level.Lts as lts
-use Rattle.frame.proofs.modes.Decimal.read.Reads as modes-Decimal-read-reads
-use Rattle.frame.proofs.modes.Fractional.read.Reads as modes-Fractional-read-reads
-use Rattle.frame.proofs.modes.Metres20.read.Reads as modes-Metres20-read-reads
-use Rattle.frame.proofs.modes.Metres30.read.Reads as modes-Metres30-read-reads
 
 read-requires : tie.Need-read-requires
 read-requires c κs = search needs

@@ -5,12 +5,6 @@ use Rattle.frame.proofs.Constants.{mode-0, mode-1, mode-2, mode-else}
 use borrow.Author.Needs.{needs}
 use Rattle.frame.proofs.modes.write_level.Statement.{statement}
 use Rattle.frame.proofs.modes.write_level.Tie as tie
-use Rattle.frame.proofs.modes.write_level.Reads as reads
-use Rattle.frame.proofs.modes.write_level.Lts as lts
-use Rattle.frame.proofs.modes.Decimal.write.Reads as modes-Decimal-write-reads
-use Rattle.frame.proofs.modes.Fractional.write.Reads as modes-Fractional-write-reads
-use Rattle.frame.proofs.modes.Metres20.write.Reads as modes-Metres20-write-reads
-use Rattle.frame.proofs.modes.Metres30.write.Reads as modes-Metres30-write-reads
 
 write-requires : tie.Need-write-requires
 write-requires c κs = search needs

@@ -5,9 +5,6 @@ use lib.Dec.{eqb}
 use borrow.Author.Needs.{needs}
 use Rattle.frame.proofs.replies.parity_right.Statement.{statement}
 use Rattle.frame.proofs.replies.parity_right.Tie as tie
-use Rattle.frame.proofs.replies.parity_right.Reads as reads
-use Rattle.frame.proofs.replies.parity_right.Lts as lts
-use Rattle.frame.proofs.line.marks.Reads as marks-reads
 
 marks-requires : tie.Need-marks-requires
 marks-requires c κs = search needs

@@ -3,10 +3,6 @@ use borrow.Author.Tests.{eq-eqb, ne-eqb}
 use borrow.Author.Needs.{needs}
 use Rattle.frame.proofs.replies.read_heat.Statement.{statement}
 use Rattle.frame.proofs.replies.read_heat.Tie as tie
-use Rattle.frame.proofs.replies.read_heat.Reads as reads
-use Rattle.frame.proofs.replies.read_heat.Lts as lts
-use Rattle.frame.proofs.heat.read_1800.Reads as read-1800-reads
-use Rattle.frame.proofs.heat.read_1900.Reads as read-1900-reads
 
 returns : tie.Need-returns
 returns c = simp (eq-eqb _ _ (c .if1 .taken))

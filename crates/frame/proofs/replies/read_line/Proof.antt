@@ -1,25 +1,18 @@
 -- `frame::replies::read_line` meets its contract: each return is the answer by the tests that led there. Assumes nothing.
 use mathlib.Core.Path.{_≡_, sym, ap, _∙_}
 use mathlib.Core.Bool.{true, false}
-use Prim.Native.Nat.{ℕ, _/_, _%_, _^_, _<_, _≤_}
+use Prim.Native.Nat.{ℕ, _/_, _^_, _<_, _≤_}
 use native.Mathlib.Omega.{arith}
 use borrow.Author.Tests.{eq-eqb, ne-eqb, not-true, not-false}
 use lib.Dec.{eqb}
 use Rattle.frame.specs.Line.{line, bit, field}
 use Rattle.frame.specs.Reply.{modeIn, parityRight}
-use Rattle.frame.specs.Packed.{threeBy, levelCode, heatReply}
+use Rattle.frame.specs.Packed.{threeBy, levelCode}
 use Rattle.frame.proofs.Three.{matches, differs}
 use Rattle.frame.proofs.Verdict.{right4, level-lt, line-3, line-4, line-5, line-level, line-read}
 use borrow.Author.Needs.{needs}
 use Rattle.frame.proofs.replies.read_line.Statement.{statement}
 use Rattle.frame.proofs.replies.read_line.Tie as tie
-use Rattle.frame.proofs.replies.read_line.Reads as reads
-use Rattle.frame.proofs.replies.read_line.Lts as lts
-use Rattle.frame.proofs.line.pack.Reads as pack-reads
-use Rattle.frame.proofs.line.three.Reads as three-reads
-use Rattle.frame.proofs.modes.read_level.Reads as read-level-reads
-use Rattle.frame.proofs.replies.parity_right.Reads as parity-right-reads
-use Rattle.frame.proofs.replies.with_level.Reads as with-level-reads
 
 -- what the tests passed say of the line
 first-bit : (n : ℕ) → (n / 2 ^ 63 ≡ 0 → ⊥) → n < 2 ^ 64 → eqb (bit n 1) 0 ≡ false

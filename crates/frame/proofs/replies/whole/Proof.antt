@@ -6,8 +6,6 @@ use mathlib.Core.Path.{_≡_, refl}
 use lib.Dec.{eqb}
 use Rattle.frame.proofs.replies.whole.Statement.{statement}
 use Rattle.frame.proofs.replies.whole.Tie as tie
-use Rattle.frame.proofs.replies.whole.Reads as reads
-use Rattle.frame.proofs.replies.whole.Lts as lts
 
 twice : (b : Bool) → not (not b) ≡ b
 twice true = refl

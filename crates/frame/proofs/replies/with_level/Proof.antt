@@ -1,15 +1,11 @@
 -- `frame::replies::with_level` meets its contract: the two cases of the temperature are those of the definition. Assumes nothing.
 use mathlib.Core.Path.{_≡_, sym, ap, _∙_}
-use Rattle.frame.specs.declared.heat.Told.{Told}
-use Rattle.frame.specs.Temperature.{Heat, told, bad}
+use Rattle.frame.specs.Temperature.{told, bad}
 use Rattle.frame.specs.Reply.{heatIn}
 use Rattle.frame.specs.Packed.{heatFor, heatReply}
 use borrow.Author.Needs.{needs}
 use Rattle.frame.proofs.replies.with_level.Statement.{statement}
 use Rattle.frame.proofs.replies.with_level.Tie as tie
-use Rattle.frame.proofs.replies.with_level.Reads as reads
-use Rattle.frame.proofs.replies.with_level.Lts as lts
-use Rattle.frame.proofs.replies.read_heat.Reads as read-heat-reads
 
 read-heat-requires : tie.Need-read-heat-requires
 read-heat-requires c κs = search needs

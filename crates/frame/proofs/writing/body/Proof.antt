@@ -1,6 +1,6 @@
 -- `frame::writing::body` meets its contract: the parts are small enough to add up, and add up to the definition. Assumes nothing.
-use mathlib.Core.Path.{_≡_, sym, ap, _∙_}
-use Prim.Native.Nat.{ℕ, _+_, _*_, _%_, _^_, _<_, _≤_}
+use mathlib.Core.Path.{_≡_, sym, _∙_}
+use Prim.Native.Nat.{ℕ, _+_, _*_, _%_, _^_, _<_}
 use native.Mathlib.Omega.{arith}
 use Rattle.frame.specs.Line.{mark}
 use Rattle.frame.specs.Level.{modeOf, putLevel}
@@ -11,12 +11,6 @@ use Rattle.frame.proofs.Sums.{level-middle, heat-low, three-lt, body-is
 use borrow.Author.Needs.{needs}
 use Rattle.frame.proofs.writing.body.Statement.{statement}
 use Rattle.frame.proofs.writing.body.Tie as tie
-use Rattle.frame.proofs.writing.body.Reads as reads
-use Rattle.frame.proofs.writing.body.Lts as lts
-use Rattle.frame.proofs.line.mark.Reads as mark-reads
-use Rattle.frame.proofs.line.three_of.Reads as three-of-reads
-use Rattle.frame.proofs.modes.write_level.Reads as write-level-reads
-use Rattle.frame.proofs.writing.heat_bits.Reads as heat-bits-reads
 
 -- how large each part can be
 head : (c : tie.After-three-of) → c .three-of .result < 2 ^ 12

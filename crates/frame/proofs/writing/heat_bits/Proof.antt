@@ -3,10 +3,6 @@ use borrow.Author.Tests.{eq-eqb, ne-eqb}
 use borrow.Author.Needs.{needs}
 use Rattle.frame.proofs.writing.heat_bits.Statement.{statement}
 use Rattle.frame.proofs.writing.heat_bits.Tie as tie
-use Rattle.frame.proofs.writing.heat_bits.Reads as reads
-use Rattle.frame.proofs.writing.heat_bits.Lts as lts
-use Rattle.frame.proofs.heat.write_1800.Reads as write-1800-reads
-use Rattle.frame.proofs.heat.write_1900.Reads as write-1900-reads
 
 write-1800-requires : tie.Need-write-1800-requires
 write-1800-requires c κs = search needs

@@ -4,8 +4,6 @@ use lib.Count.{ones-le}
 use borrow.Author.Needs.{needs}
 use Rattle.frame.proofs.writing.parity_bit.Statement.{statement}
 use Rattle.frame.proofs.writing.parity_bit.Tie as tie
-use Rattle.frame.proofs.writing.parity_bit.Reads as reads
-use Rattle.frame.proofs.writing.parity_bit.Lts as lts
 
 cast-result : tie.Need-cast-result
 cast-result c = search needs

@@ -8,9 +8,6 @@ use Rattle.frame.proofs.Fronts.{front}
 use borrow.Author.Needs.{needs}
 use Rattle.frame.proofs.writing.store_7.Statement.{statement}
 use Rattle.frame.proofs.writing.store_7.Tie as tie
-use Rattle.frame.proofs.writing.store_7.Reads as reads
-use Rattle.frame.proofs.writing.store_7.Lts as lts
-use Rattle.frame.proofs.writing.byte.Reads as byte-reads
 
 byte-requires : tie.Need-byte-requires
 byte-requires c κs = search needs

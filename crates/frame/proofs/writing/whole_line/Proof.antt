@@ -1,22 +1,17 @@
 -- `frame::writing::whole_line` meets its contract: the ones of the word are the marks of its bytes, so the parity bit is that of the definition, and it fits below the rest. Assumes nothing.
-use mathlib.Core.Path.{_≡_, sym, ap, _∙_}
+use mathlib.Core.Path.{_≡_, sym, _∙_}
 use mathlib.Core.Bool.{true, false}
-use Prim.Native.Nat.{ℕ, _+_, _*_, _/_, _%_, _^_, _<_, _≤_}
+use Prim.Native.Nat.{_+_, _^_, _<_, _≤_}
 use native.Mathlib.Omega.{arith}
 use lib.Count.{ones}
-use Rattle.frame.specs.Line.{marks, firstBytes}
+use Rattle.frame.specs.Line.{marks}
 use Rattle.frame.specs.Temperature.{isAbsent}
-use Rattle.frame.specs.Reply.{bodyOf, replyLine, oddParity}
+use Rattle.frame.specs.Reply.{bodyOf, replyLine}
 use Rattle.frame.proofs.Counted.{counted-5, counted-7}
 use Rattle.frame.proofs.Sums.{body-right, body-short}
 use borrow.Author.Needs.{needs}
 use Rattle.frame.proofs.writing.whole_line.Statement.{statement}
 use Rattle.frame.proofs.writing.whole_line.Tie as tie
-use Rattle.frame.proofs.writing.whole_line.Reads as reads
-use Rattle.frame.proofs.writing.whole_line.Lts as lts
-use Rattle.frame.proofs.writing.body.Reads as body-reads
-use Rattle.frame.proofs.writing.is_absent.Reads as is-absent-reads
-use Rattle.frame.proofs.writing.parity_bit.Reads as parity-bit-reads
 
 -- the word and its parity bit fit
 small : (c : tie.After-parity-bit) → c .before .body .result < 2 ^ 63 + 2 ^ 62

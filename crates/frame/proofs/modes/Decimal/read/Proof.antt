@@ -4,9 +4,6 @@ use Rattle.frame.proofs.Constants.{decimal-read}
 use borrow.Author.Needs.{needs}
 use Rattle.frame.proofs.modes.Decimal.read.Statement.{statement}
 use Rattle.frame.proofs.modes.Decimal.read.Tie as tie
-use Rattle.frame.proofs.modes.Decimal.read.Reads as reads
-use Rattle.frame.proofs.modes.Decimal.read.Lts as lts
-use Rattle.frame.proofs.level.read_by.Reads as read-by-reads
 
 read-by-requires : tie.Need-read-by-requires
 read-by-requires c κs = search needs

@@ -4,9 +4,6 @@ use native.Mathlib.Omega.{arith}
 use Rattle.frame.proofs.Constants.{decimal-write, decimal-values}
 use Rattle.frame.proofs.modes.Decimal.write.Statement.{statement}
 use Rattle.frame.proofs.modes.Decimal.write.Tie as tie
-use Rattle.frame.proofs.modes.Decimal.write.Reads as reads
-use Rattle.frame.proofs.modes.Decimal.write.Lts as lts
-use Rattle.frame.proofs.level.write_by.Reads as write-by-reads
 
 write-by-requires : tie.Need-write-by-requires
 write-by-requires c κs = (omega arith, (omega arith, (omega arith, (omega arith, decimal-values))))

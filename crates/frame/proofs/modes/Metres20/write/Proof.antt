@@ -4,9 +4,6 @@ use native.Mathlib.Omega.{arith}
 use Rattle.frame.proofs.Constants.{metres20-write, metres20-values}
 use Rattle.frame.proofs.modes.Metres20.write.Statement.{statement}
 use Rattle.frame.proofs.modes.Metres20.write.Tie as tie
-use Rattle.frame.proofs.modes.Metres20.write.Reads as reads
-use Rattle.frame.proofs.modes.Metres20.write.Lts as lts
-use Rattle.frame.proofs.level.write_by.Reads as write-by-reads
 
 write-by-requires : tie.Need-write-by-requires
 write-by-requires c κs = (omega arith, (omega arith, (omega arith, (omega arith, metres20-values))))

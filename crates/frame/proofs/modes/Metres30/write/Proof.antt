@@ -4,9 +4,6 @@ use native.Mathlib.Omega.{arith}
 use Rattle.frame.proofs.Constants.{metres30-write, metres30-values}
 use Rattle.frame.proofs.modes.Metres30.write.Statement.{statement}
 use Rattle.frame.proofs.modes.Metres30.write.Tie as tie
-use Rattle.frame.proofs.modes.Metres30.write.Reads as reads
-use Rattle.frame.proofs.modes.Metres30.write.Lts as lts
-use Rattle.frame.proofs.level.write_by.Reads as write-by-reads
 
 write-by-requires : tie.Need-write-by-requires
 write-by-requires c κs = (omega arith, (omega arith, (omega arith, (omega arith, metres30-values))))
