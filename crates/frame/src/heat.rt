@@ -24,13 +24,15 @@ fn degrees(plus: bool, m: u64) -> i16
     -d
 }
 
-fn is_plus(d: i16) -> bool
+// The sign of a number of tenths: zero is positive.
+pub fn is_plus(d: i16) -> bool
     ensures { λ r. ⌜ r ≡ isPlus d ⌝ }
 {
     0 <= d
 }
 
-fn magnitude(d: i16) -> u64
+// A number of tenths without its sign.
+pub fn magnitude(d: i16) -> u64
     ensures { λ r. ⌜ r ≡ magnitude d ⌝ }
 {
     let wide = d as i32;

@@ -11,6 +11,8 @@ mod writing;
 
 ghost use Rattle.frame.specs.Poll.{ReadsPoll, WritesPoll};
 ghost use Rattle.frame.specs.Reply.{ReadsReply, WritesReply};
+pub use heat::is_plus;
+pub use heat::magnitude;
 pub use line::formed;
 
 // A temperature in tenths of a degree, above or below its range, or absent from the reply.
