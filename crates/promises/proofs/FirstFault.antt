@@ -138,7 +138,7 @@ written-number k f = go (eqb f 0) refl
     go false e = refl
 
 -- An answer that has the first number of a list of tests has the first that applies.
-given : (table : List Test) (order : List ℕ) (number : ℕ) → number ≡ firstOf (asked table order) → FirstThatApplies table order number
+pub given : (table : List Test) (order : List ℕ) (number : ℕ) → number ≡ firstOf (asked table order) → FirstThatApplies table order number
 given table order number e = subst (FirstThatApplies table order) (sym e) (is-first table order)
 
 pub first-fault : FirstFault

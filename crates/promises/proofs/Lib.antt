@@ -30,3 +30,15 @@ pub mod OneOutcome
 pub mod OnlyItsBytes
 pub mod Bench
 pub mod DemandTwo
+-- The month sheet: where stores go, the slot that a save takes, the last used slot, one save, and what becomes of it; then its promises.
+pub mod StorePlaces
+pub mod TakenSlot
+pub mod LastUsedSlot
+pub mod SaveMade
+pub mod Fates
+pub mod OneSave
+pub mod ListAndFull
+pub mod LookAndList
+pub mod SheetFault
+pub mod SheetOutcome
+pub mod DemandThree

@@ -14,3 +14,11 @@ pub mod OneOutcome
 pub mod OnlyItsBytes
 pub mod Bench
 pub mod DemandTwo
+-- The month sheet.
+pub mod History
+pub mod ListAndFull
+pub mod OneSave
+pub mod LookAndList
+pub mod SheetFault
+pub mod SheetOutcome
+pub mod DemandThree

@@ -1,0 +1,9 @@
+-- The laws that several proofs cite, each in a file named for what it speaks of.
+pub mod Numbers
+pub mod Blank
+pub mod Same
+pub mod LastUsed
+pub mod Filling
+pub mod Records
+pub mod Storing
+pub mod Refusals

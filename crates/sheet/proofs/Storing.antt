@@ -1,0 +1,131 @@
+-- Stores made one after another, and which store comes k-th. Assumes nothing.
+use mathlib.Core.Path.{_≡_, refl, sym, ap, _∙_}
+use mathlib.Core.Bool.{Bool, true, false}
+use mathlib.Core.List.{List, [], _∷_, _++_}
+use Prim.Native.Nat.{ℕ, zero, suc, _+_, _-_, _/_, _%_, _<_, _≤_, min}
+use native.Mathlib.Nat.{add-zero}
+use native.Mathlib.Numerals.{add-one}
+use native.Mathlib.Omega.{arith}
+use borrow.Author.Tests.{ltb-true, ltb-false, leb-true, leb-false}
+use lib.Dec.{ltb, leb}
+use lib.ListN.{length, getD, take, replicate, set, length-append, length-set, getD-replicate, List·getD-append}
+use lib.Seq.{take-suc, take-all, take-length, getD-append-add}
+use Rattle.frame.specs.Pick.{pick}
+use Rattle.sheet.specs.Record.{Entry, bodyOf, lengthOf, lengthBytes}
+use Rattle.sheet.specs.InOrder.{inOrder, placeOf}
+use Rattle.sheet.specs.Stores.{Store, _puts_, made, ascending, stores}
+
+pub made-append : (s : List ℕ) (ps qs : List Store) → made s (ps ++ qs) ≡ made (made s ps) qs
+unfolding made
+made-append s [] qs = refl
+made-append s (p ∷ ps) qs = made-append (set s (p .place) (p .byte)) ps qs
+
+pub made-length : (s : List ℕ) (ps : List Store) → length (made s ps) ≡ length s
+unfolding made
+made-length s [] = refl
+made-length s (p ∷ ps) = made-length (set s (p .place) (p .byte)) ps ∙ length-set s (p .place) (p .byte)
+
+-- One store more.
+pub made-more : (s : List ℕ) (ps : List Store) (k : ℕ) (d : Store) → k < length ps
+    → made s (take (k + 1) ps) ≡ set (made s (take k ps)) (getD ps k d .place) (getD ps k d .byte)
+unfolding made
+made-more s ps k d h = rw (add-one, take-suc ps k d) (made-append s (take k ps) (getD ps k d ∷ []))
+
+pub ascending-length : (p : ℕ) (bs : List ℕ) → length (ascending p bs) ≡ length bs
+unfolding ascending
+ascending-length p [] = refl
+ascending-length p (b ∷ bs) = ap suc (ascending-length (p + 1) bs)
+
+-- A record has as many stores as its length says, and two for the length.
+pub stores-length : (at : ℕ) (e : Entry) → length (stores at e) ≡ lengthOf e + 2
+unfolding stores
+stores-length at e = simp (length-append, ascending-length) (omega arith)
+
+ascending-at : (p : ℕ) (bs : List ℕ) (k : ℕ) (d : Store) → k < length bs → getD (ascending p bs) k d ≡ (p + k) puts getD bs k 0
+unfolding ascending
+ascending-at p [] k d h = absurd (omega arith)
+ascending-at p (b ∷ bs) zero d h = ap (λ (n : ℕ). n puts b) (sym (add-zero p))
+ascending-at p (b ∷ bs) (suc k) d h =
+    let further : p + 1 + k ≡ p + suc k = omega arith in
+    ascending-at (p + 1) bs k d (omega arith) ∙ ap (λ (n : ℕ). n puts getD bs k 0) further
+
+pub place-in : (at size k : ℕ) → k < size + 2 → placeOf at size k < at + (size + 2)
+place-in at size k h = go (ltb k size) refl
+  where
+    go : (t : Bool) → ltb k size ≡ t → pick t (at + 2 + k) (at + (size + 1 - k)) < at + (size + 2)
+    go true q = omega (arith, ltb-true k size q)
+    go false q = omega arith
+
+-- No more is taken than there is.
+pub take-min : {A : Type 0} (n : ℕ) (l : List A) → take (min n (length l)) l ≡ take n l
+take-min n l = go (leb n (length l)) refl
+  where
+    go : (t : Bool) → leb n (length l) ≡ t → take (min n (length l)) l ≡ take n l
+    go true q =
+        let all : min n (length l) ≡ n = omega (arith, leb-true n (length l) q) in
+        rw all
+    go false q =
+        let more : length l < n = leb-false n (length l) q in
+        let all : min n (length l) ≡ length l = omega arith in
+        rw all (take-length l ∙ sym (take-all n l (omega arith)))
+
+-- The k-th of stores that ascend from a place and end with two more.
+module _ (at : ℕ) (bs : List ℕ) (low high d : Store) where
+  abbrev L : ℕ
+  L = length bs
+
+  abbrev all : List Store
+  all = ascending (at + 2) bs ++ low ∷ high ∷ []
+
+  before-length : (k : ℕ) → k < L → getD all k d ≡ (at + 2 + k) puts getD bs k 0
+  before-length k h =
+      List·getD-append (ascending (at + 2) bs) (low ∷ high ∷ []) d k (rw ascending-length h) ∙ ascending-at (at + 2) bs k d h
+
+  behind : (k j : ℕ) → k ≡ L + j → getD all k d ≡ getD (low ∷ high ∷ []) j d
+  behind k j e =
+      let same : k ≡ length (ascending (at + 2) bs) + j = e ∙ ap (λ (n : ℕ). n + j) (sym (ascending-length (at + 2) bs)) in
+      ap (λ (n : ℕ). getD all n d) same ∙ getD-append-add (ascending (at + 2) bs) (low ∷ high ∷ []) j d
+
+-- The k-th store of a record: its place, and its byte.
+module _ (at : ℕ) (e : Entry) (d : Store) (short : lengthOf e ≤ 17) where
+  abbrev low : Store
+  low = (at + 1) puts getD (lengthBytes e) 1 0
+
+  abbrev high : Store
+  high = at puts getD (lengthBytes e) 0 0
+
+  abbrev zeros : List ℕ
+  zeros = replicate (9 - length (e .reply)) 0
+
+  byte-behind : (k j : ℕ) → k ≡ lengthOf e + j → getD (inOrder e) k 0 ≡ getD (lengthOf e ∷ zeros) j 0
+  byte-behind k j q = ap (λ (n : ℕ). getD (inOrder e) n 0) q ∙ getD-append-add (bodyOf e) (lengthOf e ∷ zeros) j 0
+
+  last-two : (k j : ℕ) → k ≡ lengthOf e + j → j < 2 → getD (stores at e) k d ≡ (at + (lengthOf e + 1 - k)) puts getD (inOrder e) k 0
+  unfolding stores
+  last-two k zero q h =
+      let place : at + 1 ≡ at + (lengthOf e + 1 - k) = omega arith in
+      let byte : lengthOf e / 1 % 256 ≡ lengthOf e = omega arith in
+      behind at (bodyOf e) low high d k 0 q ∙ (λ i. place i puts byte i)
+      ∙ ap (λ (b : ℕ). (at + (lengthOf e + 1 - k)) puts b) (sym (byte-behind k 0 q))
+  last-two k (suc zero) q h =
+      let place : at ≡ at + (lengthOf e + 1 - k) = omega arith in
+      let none : getD zeros 0 0 ≡ 0 = getD-replicate (9 - length (e .reply)) 0 0 0 (omega arith) in
+      let byte : lengthOf e / 256 % 256 ≡ getD zeros 0 0 = omega arith in
+      behind at (bodyOf e) low high d k 1 q ∙ (λ i. place i puts byte i)
+      ∙ ap (λ (b : ℕ). (at + (lengthOf e + 1 - k)) puts b) (sym (byte-behind k 1 q))
+  last-two k (suc (suc j)) q h = absurd (omega arith)
+
+  first-ones : (k : ℕ) → k < lengthOf e → getD (stores at e) k d ≡ (at + 2 + k) puts getD (inOrder e) k 0
+  unfolding stores
+  first-ones k h =
+      before-length at (bodyOf e) low high d k h
+      ∙ ap (λ (b : ℕ). (at + 2 + k) puts b) (sym (List·getD-append (bodyOf e) (lengthOf e ∷ zeros) 0 k h))
+
+  pub store-at : (k : ℕ) → k < lengthOf e + 2 → getD (stores at e) k d ≡ placeOf at (lengthOf e) k puts getD (inOrder e) k 0
+  store-at k h = go (ltb k (lengthOf e)) refl
+    where
+      go : (t : Bool) → ltb k (lengthOf e) ≡ t → getD (stores at e) k d ≡ pick t (at + 2 + k) (at + (lengthOf e + 1 - k)) puts getD (inOrder e) k 0
+      go true q = first-ones k (ltb-true k (lengthOf e) q)
+      go false q =
+          let past : lengthOf e ≤ k = ltb-false k (lengthOf e) q in
+          last-two k (k - lengthOf e) (omega arith) (omega arith)

@@ -1,0 +1,8 @@
+-- What document 01 says of the month sheet, a file for each of its rules.
+pub mod Bytes
+pub mod Record
+pub mod Slots
+pub mod Stores
+pub mod Save
+pub mod Look
+pub mod InOrder

@@ -1,0 +1,100 @@
+// The month sheet: records of polls kept in slots of 32 bytes, on a sheet that the caller lends. Its public calls are `save` and `look`.
+mod bytes;
+mod next;
+mod record;
+mod slot;
+mod stores;
+
+use next::next_slot;
+use record::check;
+use slot::no_reply;
+use slot::read_slot;
+use stores::make_stores;
+ghost use mathlib.Core.Path.{_≡_};
+ghost use Rattle.sheet.specs.Record.{entryOf};
+ghost use Rattle.sheet.specs.Slots.{lengthAllowed};
+ghost use Rattle.sheet.specs.Save.{Saves};
+ghost use Rattle.sheet.specs.Look.{Looks};
+
+// What a record says beside its reply bytes.
+pub struct Head {
+    pub settings: u8,
+    pub minute: u32,
+    pub address: u16,
+    pub count: usize,
+}
+
+// What a slot reads as, or the number of the refusal.
+pub enum Found {
+    Blank,
+    Spoiled,
+    Foreign,
+    Record(Head),
+    Refused(u8),
+}
+
+// The answer of a look: a record's reply bytes stand beside it, from the first on, and 0 after them.
+pub struct Looked {
+    pub found: Found,
+    pub reply: [u8; 8],
+}
+
+// The answer of a save: the stores made, or the number of the refusal.
+pub enum Saved {
+    Stores(usize),
+    Refused(u8),
+}
+
+// A sheet's length is a multiple of 32, and at most 65,536.
+fn size_allowed(len: usize) -> bool
+    ensures { λ r. ⌜ r ≡ lengthAllowed len ⌝ }
+{
+    if len % 32 == 0 { len <= 65536 } else { false }
+}
+
+// Saves a record into the slot after the last used one, making as many stores as are allowed. Refuses by 12, 10, 11, 14 and 13, in that order, and
+// then changes nothing.
+pub fn save(
+    sheet: &mut [u8],
+    settings: u8,
+    minute: u32,
+    address: u16,
+    count: usize,
+    reply: &[u8],
+    allowance: usize,
+) -> Saved
+    ensures { λ r. ⌜ Saves (now (sheet .entry)) (entryOf settings minute address count (now (reply .entry))) allowance r (now (sheet .exit)) ⌝ }
+{
+    if !size_allowed(sheet.len()) {
+        return Saved::Refused(12);
+    }
+    let fault = check(settings, address, count, reply);
+    if fault != 0 {
+        return Saved::Refused(fault);
+    }
+    let next = next_slot(sheet);
+    if sheet.len() / 32 <= next {
+        return Saved::Refused(13);
+    }
+    let head = Head {
+        settings: settings,
+        minute: minute,
+        address: address,
+        count: count,
+    };
+    Saved::Stores(make_stores(sheet, 32 * next, head, reply, allowance))
+}
+
+// What a slot of a sheet reads as. Refuses by 12.
+pub fn look(sheet: &[u8], slot: usize) -> Looked
+    ensures { λ r. ⌜ Looks (now (sheet .entry)) slot r ⌝ }
+{
+    if !size_allowed(sheet.len()) {
+        return no_reply(Found::Refused(12));
+    }
+    if sheet.len() / 32 <= slot {
+        return no_reply(Found::Refused(12));
+    }
+    let at = 32 * slot;
+    read_slot(&sheet[at..at + 32])
+}
