@@ -42,3 +42,14 @@ pub mod LookAndList
 pub mod SheetFault
 pub mod SheetOutcome
 pub mod DemandThree
+-- The board: places, what a call leaves and tells, then its promises.
+pub mod BoardPlaces
+pub mod BoardAfter
+pub mod BoardTold
+pub mod BoardCalls
+pub mod BoardDone
+pub mod BoardReadings
+pub mod BoardCount
+pub mod BoardHistory
+pub mod BoardFree
+pub mod BoardPromises

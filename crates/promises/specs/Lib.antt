@@ -22,3 +22,9 @@ pub mod LookAndList
 pub mod SheetFault
 pub mod SheetOutcome
 pub mod DemandThree
+-- The board.
+pub mod Board
+pub mod BoardReadings
+pub mod BoardHistory
+pub mod BoardFree
+pub mod BoardPromises

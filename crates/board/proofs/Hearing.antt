@@ -1,0 +1,51 @@
+-- A hearing as a change: refused before the reply is read, or as the frame's answer has it. What the frame answers is opened just so far
+-- that its number and its reading are seen.
+use mathlib.Core.Path.{_≡_, sym, _∙_, ap}
+use mathlib.Core.Bool.{true, false}
+use mathlib.Core.List.{List}
+use Prim.Native.Nat.{ℕ, _<_, _≤_}
+use native.Mathlib.Omega.{arith}
+use lib.Dec.{eqb, leb}
+use lib.ListN.{length, getD}
+use Rattle.frame.specs.declared.Reply.{Reply}
+use Rattle.frame.specs.declared.Reply.the-variants.{Read, Refused}
+use Rattle.frame.specs.Line.{line, formed}
+use Rattle.frame.specs.Pick.{pick}
+use Rattle.frame.specs.Reply.{replyOf, readingAt}
+use Rattle.board.specs.declared.Row.{Row}
+use Rattle.board.specs.declared.value.Change.{Change}
+use Rattle.board.specs.Row.{freeRow}
+use Rattle.board.specs.Rows.{placeOf, rowOf}
+use Rattle.board.specs.Calls.{hearNumber, hearRows}
+use Rattle.board.specs.ByValue.{Changes, refusal, heardChange}
+use Rattle.board.proofs.Numbers.{hear-read}
+use Rattle.board.proofs.OneRow.{unheard, hears}
+
+module _ (board : List Row) (few : length board ≤ 30) (address minute count : ℕ) (reply : List ℕ) (c : Change) where
+  abbrev number : ℕ
+  number = hearNumber board address count reply
+
+  abbrev row : Row
+  row = rowOf address board
+
+  pub hear-refuses : (n : ℕ) → eqb n 0 ≡ false → leb n 9 ≡ false → c ≡ refusal n → number ≡ n → Changes board number (hearRows board address minute count reply) c
+  unfolding hearRows
+  hear-refuses n z l is e = unheard board few (placeOf address board) row minute (readingAt (row .settings) count (line reply)) n number c z l is e
+
+  abbrev by-number : ℕ → Reply
+  by-number n = pick (eqb n 0) (Read (readingAt (row .settings) count (line reply))) (Refused n)
+
+  here : address ≤ 999 → formed count reply ≡ true → placeOf address board < length board → c ≡ heardChange (placeOf address board) row minute (replyOf (row .settings) address count reply) → Changes board number (hearRows board address minute count reply) c
+  unfolding hearRows replyOf
+  here a f l is =
+      hears board few (placeOf address board) row minute (readingAt (row .settings) count (line reply)) number c (replyOf (row .settings) address count reply) is (ap by-number (sym (hear-read board address count reply a f l))) l
+
+  -- the same, of a row at a place that was found, and of an answer that was given
+  pub hear-changes : (at : ℕ) (read : Row) (answer : Reply) → address ≤ 999 → formed count reply ≡ true → at < length board → at ≡ placeOf address board → read ≡ getD board at freeRow → answer ≡ replyOf (read .settings) address count reply → c ≡ heardChange at read minute answer → Changes board number (hearRows board address minute count reply) c
+  hear-changes at read answer a f l e r w is =
+      let same : read ≡ row = r ∙ ap (λ (i : ℕ). getD board i freeRow) e in
+      here a f (omega arith)
+      (is
+      ∙ ap (λ (i : ℕ). heardChange i read minute answer) e
+      ∙ ap (λ (y : Row). heardChange (placeOf address board) y minute answer) same
+      ∙ ap (λ (x : Reply). heardChange (placeOf address board) row minute x) (w ∙ ap (λ (y : Row). replyOf (y .settings) address count reply) same))

@@ -1,0 +1,46 @@
+-- Numbers and lists that the walks over lent rows cite: where a row lies, how many rows count, and a board filled row by row.
+use mathlib.Core.Path.{_≡_, refl, sym, _∙_, ap}
+use mathlib.Core.Bool.{Bool, true, false}
+use mathlib.Core.List.{List, [], _∷_, _++_}
+use Prim.Native.Nat.{ℕ, _+_, _*_, _<_, _≤_, _^_}
+use native.Mathlib.Omega.{arith}
+use native.Mathlib.Numerals.{add-one}
+use lib.Dec.{ltb}
+use lib.ListN.{length, take, set, getD, length-take}
+use lib.Seq.{take-suc, take-all, take-suc-set}
+use borrow.Author.Tests.{ltb-true, ltb-false}
+use Rattle.frame.specs.Pick.{pick}
+use Rattle.board.specs.ByValue.{counted}
+
+-- row i lies within a usize, since the rows have room. A row has 16 bytes
+pub lies : (i n : ℕ) → i < n → n * 16 < 2 ^ 63 → i * 16 < 2 ^ 64
+lies i n l g = omega arith
+
+counted-by : (m : ℕ) (t : Bool) → ltb 30 m ≡ t → (pick t 30 m ≤ m) × (pick t 30 m ≤ 30)
+counted-by m true e = (omega (arith, ltb-true 30 m e), omega arith)
+counted-by m false e = (omega arith, omega (arith, ltb-false 30 m e))
+
+pub counted-le : (m : ℕ) → counted m ≤ m
+counted-le m = counted-by m (ltb 30 m) refl .0
+
+pub counted-few : (m : ℕ) → counted m ≤ 30
+counted-few m = counted-by m (ltb 30 m) refl .1
+
+module _ {A : Type 0} (ys : List A) where
+  take-by : (t : Bool) → ltb 30 (length ys) ≡ t → take (pick t 30 (length ys)) ys ≡ take 30 ys
+  take-by true e = refl
+  take-by false e = take-all (length ys) ys (omega arith) ∙ sym (take-all 30 ys (ltb-false 30 (length ys) e))
+
+  -- the rows that count are the first 30
+  pub take-counted : take (counted (length ys)) ys ≡ take 30 ys
+  take-counted = take-by (ltb 30 (length ys)) refl
+
+  pub length-counted : length (take 30 ys) ≡ counted (length ys)
+  length-counted = ap length (sym take-counted) ∙ simp length-take (omega (arith, counted-le (length ys)))
+
+  -- one row more is copied
+  pub copied : (xs : List A) (i : ℕ) (d : A) → i < length ys → i < length xs → take i xs ≡ take i ys → take (i + 1) (set xs i (getD ys i d)) ≡ take (i + 1) ys
+  copied xs i d l h e =
+      ap (λ (k : ℕ). take k (set xs i (getD ys i d))) (add-one i) ∙ take-suc-set xs i (getD ys i d) h ∙ ap (λ (zs : List A). zs ++ (getD ys i d ∷ [])) e
+      ∙ sym (take-suc ys i d l)
+      ∙ ap (λ (k : ℕ). take k ys) (sym (add-one i))

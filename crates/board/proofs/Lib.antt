@@ -1,0 +1,10 @@
+-- The laws that the proofs of the functions cite.
+pub mod Places
+pub mod Told
+pub mod Numbers
+pub mod OneRow
+pub mod Hearing
+pub mod LentRows
+pub mod Settled
+pub mod LendShared
+pub mod Thin

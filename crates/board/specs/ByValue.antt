@@ -1,0 +1,56 @@
+-- How the code goes about it: the board as an array by value with a count, and a change of one row of it or of none. A reader of
+-- document 01 need not believe this file.
+use mathlib.Core.Path.{_≡_}
+use mathlib.Core.List.{List}
+use Prim.Native.Nat.{ℕ}
+use lib.Dec.{eqb, leb, ltb}
+use lib.ListN.{length, take, set}
+use Rattle.frame.specs.declared.Reply.{Reply}
+use Rattle.frame.specs.declared.Reply.the-variants.{Read, Refused}
+use Rattle.frame.specs.declared.Temperature.{Temperature}
+use Rattle.frame.specs.Pick.{pick}
+use Rattle.board.specs.declared.Row.{Row}
+use Rattle.board.specs.declared.value.Board.{Board}
+use Rattle.board.specs.declared.value.Change.{Change}
+use Rattle.board.specs.Row.{kindOf, tenthsOf, freeRow, withReading, withFault}
+use Rattle.board.specs.Rows.{boardOf}
+
+-- A row with the kind and the tenths of a temperature.
+abbrev pub withTemperature : Row → Temperature → Row
+withTemperature row t =
+    record { minute = row .minute; address = row .address; level = row .level; tenths = tenthsOf t; settings = row .settings; fault = row .fault; used = row .used; kind = kindOf t; alarm1 = row .alarm1; alarm0 = row .alarm0 }
+
+-- The kind of the temperature that a kind stands for.
+abbrev pub kindTold : ℕ → ℕ
+kindTold kind = pick (eqb kind 1) 1 (pick (eqb kind 2) 2 (pick (eqb kind 3) 3 4))
+
+-- The rows that a board by value holds.
+abbrev pub rowsOf : Board → List Row
+rowsOf b = take (b .n) (b .rows)
+
+-- It holds the rows that count of those lent.
+pub record Loaded (rows : List Row) (b : Board) : Type 0 where
+  pub count : b .n ≡ length (boardOf rows)
+  pub held : rowsOf b ≡ boardOf rows
+
+-- How many of so many rows count.
+abbrev pub counted : ℕ → ℕ
+counted n = pick (ltb 30 n) 30 n
+
+-- Row `at` of the first n becomes `row`; no row does where `at` is n or more.
+abbrev pub putIn : ℕ → ℕ → Row → List Row → List Row
+putIn n at row rows = pick (ltb at n) (set rows at row) rows
+
+-- What a change answers, and what it makes of a board.
+pub record Changes (board : List Row) (number : ℕ) (after : List Row) (c : Change) : Type 0 where
+  pub answers : c .number ≡ number
+  pub leaves : putIn (length board) (c .at) (c .row) board ≡ after
+
+-- A change of no row: place 30 is on no board.
+abbrev pub refusal : ℕ → Change
+refusal number = record { at = 30; row = freeRow; number = number }
+
+-- The change that a reply makes of the row at a place.
+abbrev pub heardChange : ℕ → Row → ℕ → Reply → Change
+heardChange at row minute (Read r) = record { at = at; row = withReading row r minute; number = 0 }
+heardChange at row minute (Refused n) = pick (leb n 9) (record { at = at; row = withFault row n; number = n }) (refusal n)

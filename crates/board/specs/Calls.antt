@@ -1,0 +1,95 @@
+-- Document 01, "Fault numbers" and "The board": what each call answers, and what it leaves of the rows. One record for each call
+-- fixes both, for all rows of whatever bytes and number.
+use mathlib.Core.Path.{_≡_}
+use mathlib.Core.Bool.{true, not}
+use mathlib.Core.List.{List, [], _∷_, _++_}
+use Prim.Native.Nat.{ℕ}
+use lib.Dec.{eqb, leb, ltb}
+use lib.IntN.{pos}
+use lib.ListN.{set}
+use Rattle.frame.specs.Faults.{_gives_, firstOf}
+use Rattle.frame.specs.Line.{line, mark, formed}
+use Rattle.frame.specs.Pick.{pick}
+use Rattle.frame.specs.Reply.{replyFault, readingAt}
+use Rattle.board.specs.declared.Looked.{Looked}
+use Rattle.board.specs.declared.Row.{Row}
+use Rattle.board.specs.Row.{Last, none, good, kindOf, tenthsOf, lastBy, lastOf, freeRow, newRow, withReading, withFault}
+use Rattle.board.specs.Rows.{boardOf, beyond, placeOf, onBoard, rowOf, placeFree, hasFree}
+
+-- Enrolling: 10, 11, 18, 19. It takes the first free row; a refused enrolment changes no row.
+unfoldable pub enrolNumber : List Row → ℕ → ℕ → ℕ
+unfolding firstOf
+enrolNumber board settings address =
+    firstOf
+    (ltb 15 settings gives 10 ∷ ltb 999 address gives 11 ∷ onBoard address board gives 18 ∷ not (hasFree board) gives 19 ∷ [])
+
+unfoldable pub enrolRows : List Row → ℕ → ℕ → List Row
+enrolRows board settings address =
+    pick (eqb (enrolNumber board settings address) 0) (set board (placeFree board) (newRow settings address)) board
+
+pub record Enrols (rows : List Row) (settings address : ℕ) (answer : ℕ) (after : List Row) : Type 0 where
+  pub answers : answer ≡ enrolNumber (boardOf rows) settings address
+  pub leaves : after ≡ enrolRows (boardOf rows) settings address ++ beyond rows
+
+-- Hearing: 11, 14, 17, then what reading the reply by the row's own settings byte gives, which is 10 or 1 to 9.
+unfoldable pub hearNumber : List Row → ℕ → ℕ → List ℕ → ℕ
+unfolding firstOf
+hearNumber board address count reply =
+    firstOf
+    (ltb 999 address gives 11
+    ∷ not (formed count reply) gives 14
+    ∷ not (onBoard address board) gives 17
+    ∷ true gives replyFault (rowOf address board .settings) address count reply
+    ∷ [])
+
+-- A good reply sets reading, minute and fault 0. Faults 1 to 9 set only the fault. 10, 11, 14 and 17 change nothing.
+unfoldable pub hearRows : List Row → ℕ → ℕ → ℕ → List ℕ → List Row
+hearRows board address minute count reply =
+    let number = hearNumber board address count reply in
+    let row = rowOf address board in
+    pick (eqb number 0) (set board (placeOf address board) (withReading row (readingAt (row .settings) count (line reply)) minute))
+    (pick (leb number 9) (set board (placeOf address board) (withFault row number)) board)
+
+pub record Hears (rows : List Row) (address minute count : ℕ) (reply : List ℕ) (answer : ℕ) (after : List Row) : Type 0 where
+  pub answers : answer ≡ hearNumber (boardOf rows) address count reply
+  pub leaves : after ≡ hearRows (boardOf rows) address minute count reply ++ beyond rows
+
+-- Removing, or looking at a row: 11, 17.
+unfoldable pub findNumber : List Row → ℕ → ℕ
+unfolding firstOf
+findNumber board address = firstOf (ltb 999 address gives 11 ∷ not (onBoard address board) gives 17 ∷ [])
+
+-- Removing leaves the row free. A refused removal changes no row.
+unfoldable pub removeRows : List Row → ℕ → List Row
+removeRows board address = pick (eqb (findNumber board address) 0) (set board (placeOf address board) freeRow) board
+
+pub record Removes (rows : List Row) (address : ℕ) (answer : ℕ) (after : List Row) : Type 0 where
+  pub answers : answer ≡ findNumber (boardOf rows) address
+  pub leaves : after ≡ removeRows (boardOf rows) address ++ beyond rows
+
+-- What looking tells of a row: its address and settings, the last good reading with its minute, and the last fault. The refusal's
+-- number is 0.
+abbrev pub tellBy : Row → Last → Looked
+tellBy row none =
+    record { minute = 0; address = row .address; level = 0; tenths = pos 0; settings = row .settings; fault = row .fault; number = 0; kind = 0; alarm1 = 0; alarm0 = 0 }
+tellBy row (good r minute) =
+    record { minute = minute; address = row .address; level = r .level; tenths = tenthsOf (r .temperature); settings = row .settings; fault = row .fault; number = 0; kind = kindOf (r .temperature); alarm1 = mark (r .alarm1); alarm0 = mark (r .alarm0) }
+
+abbrev pub told : Row → Looked
+told row = tellBy row (lastOf row)
+
+-- A refusal answers its number alone.
+abbrev pub refusedLook : ℕ → Looked
+refusedLook number =
+    record { minute = 0; address = 0; level = 0; tenths = pos 0; settings = 0; fault = 0; number = number; kind = 0; alarm1 = 0; alarm0 = 0 }
+
+unfoldable pub lookedAt : List Row → ℕ → Looked
+lookedAt board address =
+    pick (eqb (findNumber board address) 0) (told (rowOf address board)) (refusedLook (findNumber board address))
+
+pub record LooksUp (rows : List Row) (address : ℕ) (answer : Looked) : Type 0 where
+  pub answers : answer ≡ lookedAt (boardOf rows) address
+
+-- The last good reading that an answer tells of.
+abbrev pub lastTold : Looked → Last
+lastTold a = lastBy (a .kind) (a .tenths) (a .level) (a .alarm1) (a .alarm0) (a .minute)

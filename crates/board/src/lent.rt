@@ -1,0 +1,43 @@
+// The rows that the host lends: the board is copied out of them, and one row is stored back.
+ghost use mathlib.Core.Path.{_≡_};
+ghost use Prim.Native.Nat.{_≤_};
+ghost use lib.ListN.{length};
+ghost use Rattle.board.specs.ByValue.{Loaded, counted, putIn};
+use crate::Row;
+use crate::rows;
+use crate::value;
+use crate::value::Board;
+use crate::value::Change;
+
+// The first 30 rows count.
+fn counted(len: usize) -> usize
+    ensures { λ r. ⌜ r ≡ counted len ⌝ }
+{
+    if 30 < len { 30 } else { len }
+}
+
+// The rows that count, by value. Each is stored straight into its place: a board handed on row by row would be copied each time.
+pub(crate) fn load(rows: &[Row]) -> Board
+    ensures { λ r. ⌜ Loaded (now (rows .entry)) r ⌝ }
+{
+    let n = counted(rows.len());
+    let mut held = rows::free_rows();
+    let mut i: usize = 0;
+    while i < n {
+        held[i] = rows[i];
+        i = i + 1;
+    }
+    value::of_rows(held, n)
+}
+
+// Makes the change where its place is below n, the number of rows that count, so never past the thirtieth; and answers its number.
+pub(crate) fn put(rows: &mut [Row], n: usize, c: Change) -> u8
+    requires { ⌜ n ≤ length (now rows) ⌝ }
+    ensures { λ r. ⌜ (r ≡ c .number) × (now (rows .exit) ≡ putIn n (c .at) (c .row) (now (rows .entry))) ⌝ }
+{
+    let at = c.at;
+    if at < n {
+        rows[at] = c.row;
+    }
+    c.number
+}

@@ -1,0 +1,88 @@
+// The board of last good readings: the calls over rows that the host lends. Every call takes every input. The first 30 rows count,
+// or all where they are fewer; rows past the thirtieth are never read or written, and no answer names a row's place. The calls are
+// exported, so their names bear a prefix: C has a `remove` of its own.
+mod lent;
+mod rows;
+mod value;
+
+ghost use Rattle.board.specs.Calls.{Enrols, Hears, Removes, LooksUp};
+
+// A row as the host lends it: 16 bytes with no hole, integers alone, so that every bit pattern is a row. All zeros is a free row.
+#[repr(C)]
+pub struct Row {
+    pub minute: u32,
+    pub address: u16,
+    pub level: u16,
+    pub tenths: i16,
+    pub settings: u8,
+    pub fault: u8,
+    // 0 for a free row, any other number for one in use
+    pub used: u8,
+    // The last good reading: 0 none yet; else by its temperature, 1 degrees, 2 above, 3 below, 4 or any other number absent.
+    pub kind: u8,
+    // 0 for no alarm, any other number for an alarm
+    pub alarm1: u8,
+    pub alarm0: u8,
+}
+
+// What looking answers: the refusal's number alone, or number 0 and what the row holds. It is laid out as a row is; its kind is at
+// most 4 and its alarms are 0 or 1.
+#[repr(C)]
+pub struct Looked {
+    pub minute: u32,
+    pub address: u16,
+    pub level: u16,
+    pub tenths: i16,
+    pub settings: u8,
+    pub fault: u8,
+    pub number: u8,
+    pub kind: u8,
+    pub alarm1: u8,
+    pub alarm0: u8,
+}
+
+// Enrols a transmitter in the first free row: 0; or 10 settings, 11 asked address, 18 twice, 19 no row.
+#[no_mangle]
+pub extern "C" fn sisal_board_enrol(rows: &mut [Row], settings: u8, address: u16) -> u8
+    ensures { λ r. ⌜ Enrols (now (rows .entry)) settings address r (now (rows .exit)) ⌝ }
+{
+    let b = lent::load(rows);
+    let c = value::enrol(b, settings, address);
+    lent::put(rows, b.n, c)
+}
+
+// Hears a reply: 0, reading, minute and fault 0 are set; 1 to 9, the row's fault is set and its reading stays; or 11 asked address,
+// 14 form, 17 unknown, 10 the row's own settings, and nothing changes.
+#[no_mangle]
+pub extern "C" fn sisal_board_hear<'r, 'b>(
+    rows: &'r mut [Row],
+    address: u16,
+    minute: u32,
+    count: usize,
+    reply: &'b [u8],
+) -> u8
+    ensures { λ r. ⌜ Hears (now (rows .entry)) address minute count (now (reply .entry)) r (now (rows .exit)) ⌝ }
+{
+    let b = lent::load(rows);
+    let c = value::hear(b, address, minute, count, reply);
+    lent::put(rows, b.n, c)
+}
+
+// Removes a transmitter and leaves its row free: 0; or 11 asked address, 17 unknown.
+#[no_mangle]
+pub extern "C" fn sisal_board_remove(rows: &mut [Row], address: u16) -> u8
+    ensures { λ r. ⌜ Removes (now (rows .entry)) address r (now (rows .exit)) ⌝ }
+{
+    let b = lent::load(rows);
+    let c = value::remove(b, address);
+    lent::put(rows, b.n, c)
+}
+
+// Looks at a transmitter's row: what stands in it; or 11 asked address, 17 unknown.
+#[no_mangle]
+pub extern "C" fn sisal_board_look_up(rows: &[Row], address: u16) -> Looked
+    ensures { λ r. ⌜ LooksUp (now (rows .entry)) address r ⌝ }
+{
+    let b = lent::load(rows);
+    value::look(b, address)
+}

@@ -1,0 +1,3 @@
+-- What the walks of the desk share.
+pub mod Three
+pub mod HadBack

@@ -1,0 +1,122 @@
+-- What each call leaves of the board, by the number that it answers; and what the frame answers for a row, by its number. Each law puts the number
+-- into the definition and takes the tests of it.
+use mathlib.Core.Path.{_≡_, refl, sym, _∙_, ap}
+use mathlib.Core.Bool.{Bool, true, false, not, _&&_}
+use mathlib.Core.List.{List, [], _∷_}
+use Prim.Native.Nat.{ℕ, _<_, _≤_}
+use native.Mathlib.Omega.{arith}
+use lib.Dec.{eqb, leb}
+use lib.ListN.{set, drop}
+use borrow.Author.Tests.{lt-ltb, le-ltb, eqb-true}
+use Rattle.frame.specs.declared.Reading.{Reading}
+use Rattle.frame.specs.declared.Reply.the-variants.{Read, Refused}
+use Rattle.frame.specs.Faults.{Test, _gives_, firstOf}
+use Rattle.frame.specs.Line.{line, bit, formed, threeDecimal, threeDigits}
+use Rattle.frame.specs.Pick.{pick}
+use Rattle.frame.specs.Reply.{ReadsReply, replyTests, replyFault, replyOf, readingAt}
+use Rattle.board.specs.declared.Row.{Row}
+use Rattle.board.specs.Row.{freeRow, newRow, withReading, withFault}
+use Rattle.board.specs.Rows.{placeOf, placeFree, rowOf}
+use Rattle.board.specs.Calls.{enrolNumber, enrolRows, hearNumber, hearRows, findNumber, removeRows, lookedAt, told, refusedLook}
+
+module _ (board : List Row) (settings address : ℕ) where
+  pub enrol-keeps : eqb (enrolNumber board settings address) 0 ≡ false → enrolRows board settings address ≡ board
+  unfolding enrolRows
+  enrol-keeps e = ap (λ (t : Bool). pick t (set board (placeFree board) (newRow settings address)) board) e
+
+  pub enrol-sets : enrolNumber board settings address ≡ 0 → enrolRows board settings address ≡ set board (placeFree board) (newRow settings address)
+  unfolding enrolRows
+  enrol-sets e = ap (λ (n : ℕ). pick (eqb n 0) (set board (placeFree board) (newRow settings address)) board) e
+
+module _ (board : List Row) (address : ℕ) where
+  pub remove-keeps : eqb (findNumber board address) 0 ≡ false → removeRows board address ≡ board
+  unfolding removeRows
+  remove-keeps e = ap (λ (t : Bool). pick t (set board (placeOf address board) freeRow) board) e
+
+  pub remove-sets : findNumber board address ≡ 0 → removeRows board address ≡ set board (placeOf address board) freeRow
+  unfolding removeRows
+  remove-sets e = ap (λ (n : ℕ). pick (eqb n 0) (set board (placeOf address board) freeRow) board) e
+
+  pub look-refused : (n : ℕ) → findNumber board address ≡ n → eqb n 0 ≡ false → lookedAt board address ≡ refusedLook n
+  unfolding lookedAt
+  look-refused n e z = ap (λ (m : ℕ). pick (eqb m 0) (told (rowOf address board)) (refusedLook m)) e ∙ ap (λ (t : Bool). pick t (told (rowOf address board)) (refusedLook n)) z
+
+  pub look-told : findNumber board address ≡ 0 → lookedAt board address ≡ told (rowOf address board)
+  unfolding lookedAt
+  look-told e = ap (λ (m : ℕ). pick (eqb m 0) (told (rowOf address board)) (refusedLook m)) e
+
+module _ (board : List Row) (address minute count : ℕ) (reply : List ℕ) where
+  abbrev number : ℕ
+  number = hearNumber board address count reply
+
+  abbrev row : Row
+  row = rowOf address board
+
+  abbrev good-rows : List Row
+  good-rows = set board (placeOf address board) (withReading row (readingAt (row .settings) count (line reply)) minute)
+
+  abbrev fault-rows : ℕ → List Row
+  fault-rows n = set board (placeOf address board) (withFault row n)
+
+  pub hear-keeps : eqb number 0 ≡ false → leb number 9 ≡ false → hearRows board address minute count reply ≡ board
+  unfolding hearRows
+  hear-keeps e f = ap (λ (t : Bool). pick t good-rows (pick (leb number 9) (fault-rows number) board)) e ∙ ap (λ (t : Bool). pick t (fault-rows number) board) f
+
+  pub hear-faults : eqb number 0 ≡ false → leb number 9 ≡ true → hearRows board address minute count reply ≡ fault-rows number
+  unfolding hearRows
+  hear-faults e f = ap (λ (t : Bool). pick t good-rows (pick (leb number 9) (fault-rows number) board)) e ∙ ap (λ (t : Bool). pick t (fault-rows number) board) f
+
+  pub hear-sets : number ≡ 0 → hearRows board address minute count reply ≡ good-rows
+  unfolding hearRows
+  hear-sets e = ap (λ (n : ℕ). pick (eqb n 0) good-rows (pick (leb n 9) (fault-rows n) board)) e
+
+-- Where each number of a list of tests is at most 9, the first that applies is.
+abbrev AllSmall : List Test → Type 0
+AllSmall [] = Unit {0}
+AllSmall (t ∷ ts) = (t .number ≤ 9) × AllSmall ts
+
+first-small : (ts : List Test) → AllSmall ts → firstOf ts ≤ 9
+unfolding firstOf
+first-small [] h = omega arith
+first-small (t ∷ ts) h = by (t .applies) (first-small ts (h .1))
+  where
+    by : (b : Bool) → firstOf ts ≤ 9 → pick b (t .number) (firstOf ts) ≤ 9
+    by true k = h .0
+    by false k = k
+
+-- What the frame answers: a reading and number 0, or a number that is not 0.
+module _ (settings address count : ℕ) (reply : List ℕ) where
+  refused-by : (t : Bool) (f n : ℕ) (r : Reading) → Refused f ≡ pick t (Read r) (Refused n) → (t ≡ false) × (n ≡ f)
+  refused-by true f n r e = let z : _≡_ {A = ℕ} 0 1 = cc in absurd (omega arith)
+  refused-by false f n r e = (refl, cc)
+
+  read-by : (t : Bool) (n : ℕ) (r got : Reading) → Read got ≡ pick t (Read r) (Refused n) → (t ≡ true) × (got ≡ r)
+  read-by true n r got e = (refl, cc)
+  read-by false n r got e = let z : _≡_ {A = ℕ} 0 1 = cc in absurd (omega arith)
+
+  pub refused-is : (f : ℕ) → ReadsReply settings address count reply (Refused f) → (replyFault settings address count reply ≡ f) × (eqb f 0 ≡ false)
+  unfolding replyOf
+  refused-is f e =
+      let p = refused-by (eqb (replyFault settings address count reply) 0) f (replyFault settings address count reply) (readingAt settings count (line reply)) (e .answers) in
+      (p .1, ap (λ (n : ℕ). eqb n 0) (sym (p .1)) ∙ p .0)
+
+  pub read-is : (r : Reading) → ReadsReply settings address count reply (Read r) → (replyFault settings address count reply ≡ 0) × (r ≡ readingAt settings count (line reply))
+  unfolding replyOf
+  read-is r e =
+      let p = read-by (eqb (replyFault settings address count reply) 0) (replyFault settings address count reply) (readingAt settings count (line reply)) r (e .answers) in
+      (eqb-true (replyFault settings address count reply) 0 (p .0), p .1)
+
+  pub reads : replyFault settings address count reply ≡ 0 → ReadsReply settings address count reply (Read (readingAt settings count (line reply)))
+  unfolding replyOf
+  reads e = record { answers = sym (ap (λ (n : ℕ). pick (eqb n 0) (Read (readingAt settings count (line reply))) (Refused n)) e) }
+
+  -- settings above 15 are refused by 10; else, of an address up to 999 and a reply in the right form, the number is at most 9
+  pub settings-10 : 15 < settings → replyFault settings address count reply ≡ 10
+  unfolding replyFault
+  settings-10 l = simp (lt-ltb 15 settings l)
+
+  pub at-most-9 : settings ≤ 15 → address ≤ 999 → formed count reply ≡ true → replyFault settings address count reply ≤ 9
+  unfolding replyFault
+  at-most-9 s a f =
+      rw (le-ltb 15 settings s, le-ltb 999 address a, f)
+      (first-small (drop 3 (replyTests settings address count reply)) (omega arith, (omega arith, (omega arith, (omega arith, (omega arith, (omega arith, (omega arith, (omega arith, (omega arith, tt))))))))))

@@ -1,0 +1,122 @@
+-- The board's calls: of each call, case by case, what it answers, what becomes of its own row, and that every other row stays. The cases are those of
+-- document 01 in its order, and they leave no input out. Places are said here by what stands in the rows and not by a search.
+use mathlib.Core.Path.{_≡_}
+use mathlib.Core.Bool.{true, false}
+use mathlib.Core.List.{List}
+use Prim.Native.Nat.{ℕ, _<_, _≤_}
+use lib.ListN.{length, getD}
+use Rattle.frame.specs.declared.Reading.{Reading}
+use Rattle.frame.specs.declared.Reply.the-variants.{Read, Refused}
+use Rattle.frame.specs.Line.{formed}
+use Rattle.frame.specs.Reply.{ReadsReply}
+use Rattle.board.specs.declared.Looked.{Looked}
+use Rattle.board.specs.declared.Row.{Row}
+use Rattle.board.specs.Row.{isFree, inUse, lastOf, freeRow, newRow, withReading, withFault}
+use Rattle.board.specs.Calls.{Enrols, Hears, Removes, LooksUp, refusedLook, lastTold}
+
+-- The row at a place, counted from 0; a free row past the last.
+abbrev pub rowAt : List Row → ℕ → Row
+rowAt rows i = getD rows i freeRow
+
+-- A place on the board: among the first 30 rows, and a row that was lent.
+pub record OnBoard (rows : List Row) (i : ℕ) : Type 0 where
+  pub counts : i < 30
+  pub lent : i < length rows
+
+-- A row in use holds this address.
+pub record Holds (row : Row) (address : ℕ) : Type 0 where
+  pub used : inUse row ≡ true
+  pub same : row .address ≡ address
+
+-- The row of an address: if two rows in use hold it, the first counts.
+pub record IsRowOf (rows : List Row) (address : ℕ) (i : ℕ) : Type 0 where
+  pub place : OnBoard rows i
+  pub here : Holds (rowAt rows i) address
+  pub first : (j : ℕ) → j < i → Holds (rowAt rows j) address → ⊥
+
+-- No row of the board holds the address.
+abbrev pub Unknown : List Row → ℕ → Type 0
+Unknown rows address = (i : ℕ) → OnBoard rows i → Holds (rowAt rows i) address → ⊥
+
+-- The first free row, and no free row.
+pub record IsFirstFree (rows : List Row) (i : ℕ) : Type 0 where
+  pub place : OnBoard rows i
+  pub free : isFree (rowAt rows i) ≡ true
+  pub first : (j : ℕ) → j < i → inUse (rowAt rows j) ≡ true
+
+abbrev pub NoFree : List Row → Type 0
+NoFree rows = (i : ℕ) → OnBoard rows i → inUse (rowAt rows i) ≡ true
+
+-- The cases leave nothing out: an address has a row or is unknown, and a board has a first free row or none.
+pub data Known (rows : List Row) (address : ℕ) : Type 0 where
+  at-row : (i : ℕ) → IsRowOf rows address i → Known rows address
+  unknown : Unknown rows address → Known rows address
+
+pub data Vacant (rows : List Row) : Type 0 where
+  at-free : (i : ℕ) → IsFirstFree rows i → Vacant rows
+  none-free : NoFree rows → Vacant rows
+
+pub record BoardCases : Type 0 where
+  pub address : (rows : List Row) (address : ℕ) → Known rows address
+  pub row : (rows : List Row) → Vacant rows
+
+-- One row has changed: it is now this row, and every other row, past the thirtieth too, is what it was.
+pub record OnlyRow (rows : List Row) (i : ℕ) (row : Row) (after : List Row) : Type 0 where
+  pub own : rowAt after i ≡ row
+  pub others : (j : ℕ) → (j ≡ i → ⊥) → rowAt after j ≡ rowAt rows j
+  pub as-many : length after ≡ length rows
+
+-- Enrolling: 10, 11, 18, 19, and no row changes; or 0, and the first free row is in use with this address and these settings, no reading and fault 0.
+pub record EnrolPromise (rows : List Row) (settings address answer : ℕ) (after : List Row) : Type 0 where
+  pub bad-settings : 15 < settings → (answer ≡ 10) × (after ≡ rows)
+  pub bad-address : settings ≤ 15 → 999 < address → (answer ≡ 11) × (after ≡ rows)
+  pub twice : settings ≤ 15 → address ≤ 999 → (i : ℕ) → IsRowOf rows address i → (answer ≡ 18) × (after ≡ rows)
+  pub no-row : settings ≤ 15 → address ≤ 999 → Unknown rows address → NoFree rows → (answer ≡ 19) × (after ≡ rows)
+  pub enrolled : settings ≤ 15 → address ≤ 999 → Unknown rows address → (i : ℕ) → IsFirstFree rows i → (answer ≡ 0) × OnlyRow rows i (newRow settings address) after
+
+-- Hearing: 11, 14, 17, 10 by the row's own settings, and no row changes; 1 to 9, and of the row only the fault is set; or 0, and its reading, minute
+-- and fault 0 are set.
+pub record HearPromise (rows : List Row) (address minute count : ℕ) (reply : List ℕ) (answer : ℕ) (after : List Row) : Type 0 where
+  pub bad-address : 999 < address → (answer ≡ 11) × (after ≡ rows)
+  pub bad-form : address ≤ 999 → formed count reply ≡ false → (answer ≡ 14) × (after ≡ rows)
+  pub unknown : address ≤ 999 → formed count reply ≡ true → Unknown rows address → (answer ≡ 17) × (after ≡ rows)
+  pub bad-settings : address ≤ 999 → formed count reply ≡ true → (i : ℕ) → IsRowOf rows address i → 15 < rowAt rows i .settings → (answer ≡ 10) × (after ≡ rows)
+  pub faulty : address ≤ 999 → formed count reply ≡ true → (i : ℕ) → IsRowOf rows address i → rowAt rows i .settings ≤ 15
+      → (fault : ℕ) → ReadsReply (rowAt rows i .settings) address count reply (Refused fault)
+      → (answer ≡ fault) × (1 ≤ fault) × (fault ≤ 9) × OnlyRow rows i (withFault (rowAt rows i) fault) after
+  pub heard : address ≤ 999 → formed count reply ≡ true → (i : ℕ) → IsRowOf rows address i
+      → (r : Reading) → ReadsReply (rowAt rows i .settings) address count reply (Read r)
+      → (answer ≡ 0) × OnlyRow rows i (withReading (rowAt rows i) r minute) after
+
+-- Removing: 11, 17, and no row changes; or 0, and the row is free, all zeros.
+pub record RemovePromise (rows : List Row) (address answer : ℕ) (after : List Row) : Type 0 where
+  pub bad-address : 999 < address → (answer ≡ 11) × (after ≡ rows)
+  pub unknown : address ≤ 999 → Unknown rows address → (answer ≡ 17) × (after ≡ rows)
+  pub removed : address ≤ 999 → (i : ℕ) → IsRowOf rows address i → (answer ≡ 0) × OnlyRow rows i freeRow after
+
+-- What is told of a row.
+pub record Tells (row : Row) (answer : Looked) : Type 0 where
+  pub number : answer .number ≡ 0
+  pub address : answer .address ≡ row .address
+  pub settings : answer .settings ≡ row .settings
+  pub fault : answer .fault ≡ row .fault
+  pub reading : lastTold answer ≡ lastOf row
+
+-- Looking: 11, 17, and the number alone is answered; or what stands in the row.
+pub record LookPromise (rows : List Row) (address : ℕ) (answer : Looked) : Type 0 where
+  pub bad-address : 999 < address → answer ≡ refusedLook 11
+  pub unknown : address ≤ 999 → Unknown rows address → answer ≡ refusedLook 17
+  pub found : address ≤ 999 → (i : ℕ) → IsRowOf rows address i → Tells (rowAt rows i) answer
+
+-- Whatever a contract allows keeps these promises, and it allows one outcome.
+pub record BoardCalls : Type 0 where
+  pub enrol : (rows : List Row) (settings address answer : ℕ) (after : List Row) → Enrols rows settings address answer after → EnrolPromise rows settings address answer after
+  pub hear : (rows : List Row) (address minute count : ℕ) (reply : List ℕ) (answer : ℕ) (after : List Row) → Hears rows address minute count reply answer after → HearPromise rows address minute count reply answer after
+  pub remove : (rows : List Row) (address answer : ℕ) (after : List Row) → Removes rows address answer after → RemovePromise rows address answer after
+  pub look-up : (rows : List Row) (address : ℕ) (answer : Looked) → LooksUp rows address answer → LookPromise rows address answer
+
+pub record BoardOneOutcome : Type 0 where
+  pub enrol : (rows : List Row) (settings address a b : ℕ) (after later : List Row) → Enrols rows settings address a after → Enrols rows settings address b later → (a ≡ b) × (after ≡ later)
+  pub hear : (rows : List Row) (address minute count : ℕ) (reply : List ℕ) (a b : ℕ) (after later : List Row) → Hears rows address minute count reply a after → Hears rows address minute count reply b later → (a ≡ b) × (after ≡ later)
+  pub remove : (rows : List Row) (address a b : ℕ) (after later : List Row) → Removes rows address a after → Removes rows address b later → (a ≡ b) × (after ≡ later)
+  pub look-up : (rows : List Row) (address : ℕ) (a b : Looked) → LooksUp rows address a → LooksUp rows address b → a ≡ b
