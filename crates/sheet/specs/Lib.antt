@@ -6,3 +6,4 @@ pub mod Stores
 pub mod Save
 pub mod Look
 pub mod InOrder
+pub mod View

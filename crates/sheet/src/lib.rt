@@ -4,6 +4,7 @@ mod next;
 mod record;
 mod slot;
 mod stores;
+pub mod view;
 
 use next::next_slot;
 use record::check;

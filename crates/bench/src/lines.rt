@@ -1,0 +1,59 @@
+// The bench checks of polls and replies.
+use crate::print;
+use frame::Reading;
+use frame::Temperature;
+use frame::Written;
+
+// The reply of address 7 at decimal 30.00 with no alarms, in even parity.
+pub(crate) fn thirty_feet(temperature: Temperature) -> Reading {
+    Reading {
+        level: 3000,
+        temperature: temperature,
+        alarm1: false,
+        alarm0: false,
+    }
+}
+
+// Writes a temperature at these settings, and prints its bits.
+pub(crate) fn temperature(settings: u8, tenths: i16) {
+    let mut out = [0u8; 7];
+    match frame::write_reply(
+        settings,
+        7,
+        thirty_feet(Temperature::Degrees(tenths)),
+        &mut out,
+    ) {
+        Written::Bytes(_) => print::temperature_bits(&out),
+        Written::Refused(n) => print::fault(n),
+    }
+}
+
+// Reads these bytes as a reply of this count, polled at address 7 in decimal.
+pub(crate) fn count(bits: usize, bytes: &[u8]) {
+    print::words(b"count ");
+    print::number(bits as u64);
+    print::words(b": ");
+    print::reply(frame::read_reply(1, 7, bits, bytes));
+}
+
+// A poll of this address, and a reply asked of it.
+pub(crate) fn address(asked: u16, reply: &[u8]) {
+    print::words(b"address ");
+    print::number(asked as u64);
+    print::words(b": poll");
+    let mut out = [0u8; 2];
+    match frame::write_poll(asked, false, false, &mut out) {
+        Written::Bytes(_) => {
+            print::bytes(&out);
+            print::words(b"\n");
+        }
+        Written::Refused(n) => {
+            print::words(b" ");
+            print::fault(n);
+        }
+    }
+    print::words(b"address ");
+    print::number(asked as u64);
+    print::words(b": reply ");
+    print::reply(frame::read_reply(1, asked, 40, reply));
+}

@@ -1,0 +1,33 @@
+// Runs the bench checks of document 01 that are not proved as one table, through the public calls, and prints what each call answered.
+mod lines;
+mod print;
+mod slots;
+
+fn main() {
+    print::words(b"1900, 799.9:");
+    lines::temperature(1, 7999);
+    print::words(b"1800, 100.0:");
+    lines::temperature(5, 1000);
+    let good: &[u8] = b"\x80\x0e\x50\x00\x00";
+    print::words(b"last byte 01: ");
+    print::reply(frame::read_reply(1, 7, 40, b"\x80\x0e\x50\x00\x01"));
+    lines::count(0, &good[..0]);
+    lines::count(39, good);
+    lines::count(40, good);
+    lines::count(41, b"\x80\x0e\x50\x00\x00\x00");
+    lines::count(56, b"\x80\x0e\x50\x00\x01\x62\x47");
+    lines::count(64, b"\x80\x0e\x50\x00\x00\x00\x00\x00");
+    lines::count(65, b"\x80\x0e\x50\x00\x00\x00\x00\x00\x00");
+    lines::address(999, b"\x93\x32\x50\x00\x01");
+    lines::address(1000, good);
+    let empty = [0xffu8; 32];
+    slots::first(&empty[..0]);
+    slots::first(&empty[..31]);
+    slots::first(&empty);
+    let mut whole = [0xffu8; 32];
+    slots::save(&mut whole, 16);
+    let mut cut = [0xffu8; 32];
+    slots::save(&mut cut, 15);
+    let mut two = [0xffu8; 64];
+    slots::listing(&mut two);
+}

@@ -1,0 +1,74 @@
+-- Document 01, the program "list": the lines that show a sheet.
+use mathlib.Core.Bool.{Bool}
+use mathlib.Core.List.{List, [], _++_}
+use Prim.Native.Nat.{ℕ, zero, suc}
+use lib.ListN.{length}
+use Rattle.frame.specs.declared.Reading.{Reading}
+use Rattle.frame.specs.declared.Reply.{Reply}
+use Rattle.frame.specs.declared.Reply.the-variants.{Read, Refused}
+use Rattle.frame.specs.declared.Temperature.{Temperature}
+use Rattle.frame.specs.declared.Temperature.the-variants.{Degrees, Above, Below, Absent}
+use Rattle.frame.specs.Pick.{pick}
+use Rattle.frame.specs.Line.{mark}
+use Rattle.frame.specs.Temperature.{isPlus, magnitude}
+use Rattle.frame.specs.Reply.{replyOf}
+use Rattle.sheet.specs.Record.{Entry}
+use Rattle.sheet.specs.Slots.{Slot, blank, spoiled, foreign, holds, sizeAllowed, slots, slotAt, slotOf, listOf}
+use Rattle.listing.specs.Text.{ascii, decimal}
+
+-- The first line counts slots.
+unfoldable pub headLine : List ℕ → List ℕ
+headLine s = ascii "sheet " ++ decimal (slots s) ++ ascii "\n"
+
+-- Degrees in tenths, "above", "below", and "-" where it is absent.
+abbrev pub temperatureText : Temperature → List ℕ
+temperatureText (Degrees d) = pick (isPlus d) [] (ascii "-") ++ decimal (magnitude d)
+temperatureText Above = ascii "above"
+temperatureText Below = ascii "below"
+temperatureText Absent = ascii "-"
+
+abbrev pub alarmText : Bool → List ℕ
+alarmText on = decimal (mark on)
+
+-- Level in the mode's unit, temperature, alarm 1, alarm 0.
+unfoldable pub readingText : Reading → List ℕ
+readingText r =
+    decimal (r .level) ++ ascii " " ++ temperatureText (r .temperature) ++ ascii " " ++ alarmText (r .alarm1) ++ ascii " "
+    ++ alarmText (r .alarm0)
+
+-- A faulty reply ends after the address with "fault" and its number.
+abbrev pub replyText : Reply → List ℕ
+replyText (Read r) = readingText r
+replyText (Refused n) = ascii "fault " ++ decimal n
+
+-- Minute, address, and what the reply reads as.
+unfoldable pub recordText : Entry → List ℕ
+recordText e =
+    decimal (e .minute) ++ ascii " " ++ decimal (e .address) ++ ascii " "
+    ++ replyText (replyOf (e .settings) (e .address) (e .count) (e .reply))
+
+-- Each slot not blank has a line, which begins with the slot, counted from 0.
+abbrev pub lineOf : ℕ → Slot → List ℕ
+lineOf k blank = []
+lineOf k spoiled = decimal k ++ ascii " spoiled\n"
+lineOf k foreign = decimal k ++ ascii " foreign\n"
+lineOf k (holds e) = decimal k ++ ascii " " ++ recordText e ++ ascii "\n"
+
+abbrev pub slotLine : List ℕ → ℕ → List ℕ
+slotLine s k = lineOf k (slotOf (slotAt s k))
+
+-- The lines of the first k slots, in slot order.
+unfoldable pub linesUpTo : List ℕ → ℕ → List ℕ
+linesUpTo s zero = []
+linesUpTo s (suc k) = linesUpTo s k ++ slotLine s k
+
+-- The last line counts the records, faulty replies included.
+unfoldable pub countLine : ℕ → List ℕ
+countLine n = ascii "records " ++ decimal n ++ ascii "\n"
+
+abbrev pub lastLine : List ℕ → List ℕ
+lastLine s = countLine (length (listOf s))
+
+-- The listing of a sheet; a bad size prints only "fault 12".
+unfoldable pub listingOf : List ℕ → List ℕ
+listingOf s = pick (sizeAllowed s) (headLine s ++ linesUpTo s (slots s) ++ lastLine s) (ascii "fault 12\n")

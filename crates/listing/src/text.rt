@@ -1,0 +1,70 @@
+// Text put into an output from a place on. Each call answers the place after what it put.
+ghost use mathlib.Core.Path.{_≡_};
+ghost use mathlib.Core.List.{[], _∷_};
+ghost use Prim.Native.Nat.{_+_, _≤_, _<_};
+ghost use lib.ListN.{length};
+ghost use Rattle.listing.specs.Text.{decimal};
+ghost use Rattle.listing.specs.Puts.{Puts};
+
+pub(crate) fn put_byte(out: &mut [u8], at: usize, byte: u8) -> usize
+    requires { ⌜ at < length (now out) ⌝ }
+    ensures { λ r. ⌜ Puts (byte ∷ []) 1 (now (out .entry)) at r (now (out .exit)) ⌝ }
+{
+    out[at] = byte;
+    at + 1
+}
+
+pub(crate) fn put_word(out: &mut [u8], at: usize, word: &[u8]) -> usize
+    requires { ⌜ at + length (now word) ≤ length (now out) ⌝ }
+    ensures { λ r. ⌜ Puts (now (word .entry)) (length (now (word .entry))) (now (out .entry)) at r (now (out .exit)) ⌝ }
+{
+    let mut i = 0;
+    while i < word.len() {
+        out[at + i] = word[i];
+        i += 1;
+    }
+    at + word.len()
+}
+
+// How many digits a number has.
+fn digits_in(n: u32) -> usize
+    ensures { λ r. ⌜ r ≡ length (decimal n) ⌝ }
+{
+    match n {
+        0..=9 => 1,
+        10..=99 => 2,
+        100..=999 => 3,
+        1_000..=9_999 => 4,
+        10_000..=99_999 => 5,
+        100_000..=999_999 => 6,
+        1_000_000..=9_999_999 => 7,
+        10_000_000..=99_999_999 => 8,
+        100_000_000..=999_999_999 => 9,
+        _ => 10,
+    }
+}
+
+// A number in decimal, put from its last digit forward.
+pub(crate) fn put_number(out: &mut [u8], at: usize, n: u32) -> usize
+    requires { ⌜ at + length (decimal n) ≤ length (now out) ⌝ }
+    ensures { λ r. ⌜ Puts (decimal n) 10 (now (out .entry)) at r (now (out .exit)) ⌝ }
+{
+    let end = at + digits_in(n);
+    let mut left = n;
+    let mut i = end;
+    while 10 <= left {
+        i -= 1;
+        out[i] = 48 + (left % 10) as u8;
+        left = left / 10;
+    }
+    out[at] = 48 + left as u8;
+    end
+}
+
+// A number of 16 bits: at most five digits.
+pub(crate) fn put_short(out: &mut [u8], at: usize, n: u16) -> usize
+    requires { ⌜ at + 5 ≤ length (now out) ⌝ }
+    ensures { λ r. ⌜ Puts (decimal n) 5 (now (out .entry)) at r (now (out .exit)) ⌝ }
+{
+    put_number(out, at, n as u32)
+}

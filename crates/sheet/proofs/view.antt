@@ -1,0 +1,3 @@
+-- The laws that the view's proofs cite.
+pub mod Part
+pub mod Spans
