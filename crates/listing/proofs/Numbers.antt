@@ -1,7 +1,7 @@
 -- Numbers in decimal: one digit more, and how many digits. Each law is an induction over the digits, and is then taken at ten. Assumes nothing.
 use mathlib.Core.Path.{_≡_, refl, sym, ap, _∙_}
 use mathlib.Core.List.{List, [], _∷_, _++_}
-use Prim.Native.Nat.{ℕ, zero, suc, _+_, _-_, _*_, _/_, _%_, _^_, _<_, _≤_}
+use Prim.Native.Nat.{ℕ, zero, suc, _*_, _/_, _%_, _^_, _<_, _≤_}
 use native.Mathlib.Decide.{decLt}
 use native.Mathlib.Nat.{pow-suc, one-le-pow}
 use native.Mathlib.Omega.{arith}
@@ -10,16 +10,16 @@ use lib.Dec.{lit<}
 use lib.ListN.{length, length-append}
 use Rattle.listing.specs.Text.{digit, digitsUpTo, decimal}
 
-one-of : (most n : ℕ) → n < 10 → digitsUpTo (suc most) n ≡ digit n ∷ []
+pub one-of : (most n : ℕ) → n < 10 → digitsUpTo (suc most) n ≡ digit n ∷ []
 unfolding digitsUpTo
 one-of most n small = simp (lt-ltb n 10 small)
 
-more-of : (most n : ℕ) → 10 ≤ n → digitsUpTo (suc most) n ≡ digitsUpTo most (n / 10) ++ digit (n % 10) ∷ []
+pub more-of : (most n : ℕ) → 10 ≤ n → digitsUpTo (suc most) n ≡ digitsUpTo most (n / 10) ++ digit (n % 10) ∷ []
 unfolding digitsUpTo
 more-of most n large = simp (le-ltb n 10 large)
 
 -- what is left without its last digit
-less : (k n : ℕ) → n < 10 ^ suc k → n / 10 < 10 ^ k
+pub less : (k n : ℕ) → n < 10 ^ suc k → n / 10 < 10 ^ k
 less k n small =
     let power : 10 ^ suc k ≡ 10 ^ k * 10 = pow-suc 10 k in
     omega arith
@@ -35,7 +35,7 @@ enough (suc j) n small = go (decLt n 10) (enough j (n / 10) (less (suc j) n smal
         more-of (suc (suc j)) n (omega arith) ∙ ap (λ (t : List ℕ). t ++ digit (n % 10) ∷ []) ih ∙ sym (more-of (suc j) n (omega arith))
 
 -- the digits of a number below a power of ten
-none-of : (n : ℕ) → digitsUpTo 0 n ≡ []
+pub none-of : (n : ℕ) → digitsUpTo 0 n ≡ []
 unfolding digitsUpTo
 none-of n = refl
 
@@ -72,9 +72,12 @@ few-digits k n small = few-of k 10 n small
 pub digits-are : (k n : ℕ) → k ≤ 9 → (0 < k → 10 ^ k ≤ n) → n < 10 ^ suc k → suc k ≡ length (decimal n)
 digits-are k n h from small = sym (counted-of k 9 n h from small)
 
-pub some-digit : (n : ℕ) → 0 < length (decimal n)
-some-digit n = go (decLt n 10)
+pub some-of : (most n : ℕ) → 0 < length (digitsUpTo (suc most) n)
+some-of most n = go (decLt n 10)
   where
-    go : Dec (n < 10) → 0 < length (decimal n)
-    go (yes p) = rw (one-of 9 n p) (omega arith)
-    go (no q) = rw (more-of 9 n (omega arith)) (simp length-append (omega arith))
+    go : Dec (n < 10) → 0 < length (digitsUpTo (suc most) n)
+    go (yes p) = rw (one-of most n p) (omega arith)
+    go (no q) = rw (more-of most n (omega arith)) (simp length-append (omega arith))
+
+pub some-digit : (n : ℕ) → 0 < length (decimal n)
+some-digit n = some-of 9 n

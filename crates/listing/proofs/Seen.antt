@@ -1,7 +1,7 @@
 -- From what a look answers of a slot to the slot's line and its records. The law goes by the tests of the slot's definition; a record's reply bytes
 -- are those that its count asks for, since it is in form. Assumes nothing.
 use mathlib.Core.Path.{_≡_, refl, ap}
-use mathlib.Core.Bool.{Bool, true, false}
+use mathlib.Core.Bool.{Bool, true, false, _&&_}
 use mathlib.Core.List.{List, [], _++_}
 use Prim.Native.Nat.{ℕ, _-_, _%_, _<_, _≤_}
 use native.Mathlib.Omega.{arith}
@@ -19,7 +19,6 @@ use Rattle.sheet.specs.Bytes.{FF, allBlank}
 use Rattle.sheet.specs.Record.{isRecord, fieldsOf}
 use Rattle.sheet.specs.Slots.{Slot, blank, spoiled, foreign, holds, sizeAllowed, slots, slotAt, slotOf, recordIn}
 use Rattle.sheet.specs.Look.{Looks, lookOf, told, headOf, entryWith, recordTold}
-use Rattle.frame.proofs.Three.{both-right}
 use Rattle.sheet.proofs.Records.{record-passes, passes-formed, formed-few}
 use Rattle.listing.specs.Text.{ascii, decimal}
 use Rattle.listing.specs.Lines.{recordText, lineOf, slotLine}
@@ -90,4 +89,9 @@ module _ (s : List ℕ) (k : ℕ) (looked : Looked) (size : sizeAllowed s ≡ tr
 
 -- an allowed sheet has at most 2,048 slots
 pub size-small : (s : List ℕ) → sizeAllowed s ≡ true → slots s ≤ 2048
-size-small s h = omega (arith, leb-true (length s) 65536 (both-right (eqb (length s % 32) 0) (leb (length s) 65536) h))
+size-small s h = go (eqb (length s % 32) 0) (leb (length s) 65536) refl h
+  where
+    go : (a b : Bool) → leb (length s) 65536 ≡ b → (a && b) ≡ true → slots s ≤ 2048
+    go true true e q = omega (arith, leb-true (length s) 65536 e)
+    go true false e q = let z : _≡_ {A = ℕ} 0 1 = cc in absurd (omega arith)
+    go false b e q = let z : _≡_ {A = ℕ} 0 1 = cc in absurd (omega arith)

@@ -32,7 +32,8 @@ WritesSlot s k = Writes (sizeAllowed s && ltb k (slots s)) (length (slotLine s k
 abbrev pub WritesLast : List ℕ → List ℕ → Written → List ℕ → Type 0
 WritesLast s = Writes (sizeAllowed s) (length (lastLine s)) (lastLine s)
 
--- The whole listing needs 40 bytes for its first line, for each slot and for its last line, whatever the slots hold; of a bad size, 9.
+-- The whole listing asks for 40 bytes for its first line, for each slot and for its last line, whatever the slots hold: no line is longer. Of a bad
+-- size it asks for the 9 bytes of "fault 12" and the line's end.
 abbrev pub roomFor : List ℕ → ℕ
 roomFor s = pick (sizeAllowed s) (40 * (slots s + 2)) 9
 

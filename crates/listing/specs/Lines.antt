@@ -33,8 +33,8 @@ alarmText on = decimal (mark on)
 -- Level in the mode's unit, temperature, alarm 1, alarm 0.
 unfoldable pub readingText : Reading → List ℕ
 readingText r =
-    decimal (r .level) ++ ascii " " ++ temperatureText (r .temperature) ++ ascii " " ++ alarmText (r .alarm1) ++ ascii " "
-    ++ alarmText (r .alarm0)
+    decimal (r .level) ++ ascii " " ++ temperatureText (r .temperature) ++ ascii " "
+    ++ alarmText (r .alarm1) ++ ascii " " ++ alarmText (r .alarm0)
 
 -- A faulty reply ends after the address with "fault" and its number.
 abbrev pub replyText : Reply → List ℕ

@@ -1,4 +1,5 @@
-// The parts of a slot's line.
+// The lines of a listing and their parts. A slot's line has at most 40 bytes: slot 5, minute 10, address 5, level 5, temperature 6, the two alarms, six
+// blanks and the line's end; each part asks for room by its own share of them.
 use crate::text::put_byte;
 use crate::text::put_number;
 use crate::text::put_short;
@@ -6,6 +7,8 @@ use crate::text::put_word;
 use frame::Reading;
 use frame::Reply;
 use frame::Temperature;
+use frame::is_plus;
+use frame::magnitude;
 use sheet::Found;
 use sheet::Head;
 use sheet::view::look_at;
@@ -15,47 +18,38 @@ ghost use mathlib.Core.List.{_++_};
 ghost use Prim.Native.Nat.{_+_, _≤_, _<_};
 ghost use lib.ListN.{length, take};
 ghost use Rattle.frame.specs.Line.{bytesFor, mark};
-ghost use Rattle.frame.specs.Temperature.{magnitude};
 ghost use Rattle.sheet.specs.Slots.{sizeAllowed, slots, slotAt, slotOf, recordIn};
 ghost use Rattle.sheet.specs.Look.{entryWith};
 ghost use Rattle.listing.specs.Text.{ascii, decimal, digit};
 ghost use Rattle.listing.specs.Lines.{temperatureText, readingText, replyText, recordText, slotLine};
 ghost use Rattle.listing.specs.Puts.{Puts};
 
-// A line was put: the place after it, and how many records it shows.
+// A line that was put: the place after it, and how many records it shows.
 pub(crate) struct Line {
     pub(crate) end: usize,
     pub(crate) records: usize,
 }
 
-// Tenths of a degree without their sign.
-fn magnitude(d: i16) -> u16
-    ensures { λ r. ⌜ r ≡ magnitude d ⌝ }
-{
-    let wide = d as i32;
-    if 0 <= wide {
-        return wide as u16;
-    }
-    (0 - wide) as u16
-}
-
+// An alarm as a digit.
 fn alarm(on: bool) -> u8
     ensures { λ r. ⌜ r ≡ digit (mark on) ⌝ }
 {
     if on { b'1' } else { b'0' }
 }
 
+// Degrees in tenths, "above", "below", or "-" where it is absent.
 fn put_temperature(out: &mut [u8], at: usize, t: Temperature) -> usize
     requires { ⌜ at + 6 ≤ length (now out) ⌝ }
     ensures { λ r. ⌜ Puts (temperatureText t) 6 (now (out .entry)) at r (now (out .exit)) ⌝ }
 {
     match t {
         Temperature::Degrees(d) => {
-            if 0 <= d {
-                return put_short(out, at, magnitude(d));
+            let tenths = magnitude(d) as u16;
+            if is_plus(d) {
+                return put_short(out, at, tenths);
             }
             let next = put_byte(out, at, b'-');
-            put_short(out, next, magnitude(d))
+            put_short(out, next, tenths)
         }
         Temperature::Above => put_word(out, at, b"above"),
         Temperature::Below => put_word(out, at, b"below"),
@@ -105,7 +99,7 @@ fn put_record(out: &mut [u8], at: usize, head: Head, reply: &[u8]) -> usize
     put_reply(out, gap2, read)
 }
 
-// The line of a record. Its reply stands first in eight bytes.
+// The line of a record. The bytes of its reply stand first in the eight.
 fn put_line(out: &mut [u8], at: usize, slot: u16, head: Head, reply: [u8; 8]) -> usize
     requires { ⌜ at + 40 ≤ length (now out) ⌝ }
     requires { ⌜ head .count ≤ 64 ⌝ }
@@ -163,7 +157,7 @@ pub(crate) fn put_slot(out: &mut [u8], at: usize, sheet: &[u8], slot: usize) -> 
     }
 }
 
-// A line that counts something.
+// The first line and the last: a word, a number, and the line's end.
 pub(crate) fn put_count(out: &mut [u8], at: usize, word: &[u8], n: u16) -> usize
     requires { ⌜ at + length (now word) + 6 ≤ length (now out) ⌝ }
     ensures { λ r. ⌜ Puts (now (word .entry) ++ decimal n ++ ascii "\n") (length (now (word .entry)) + 6) (now (out .entry)) at r (now (out .exit)) ⌝ }

@@ -1,4 +1,4 @@
-// Text put into an output from a place on. Each call answers the place after what it put.
+// Text put into an output from a place on, byte after byte. Each call answers the place after what it put.
 ghost use mathlib.Core.Path.{_≡_};
 ghost use mathlib.Core.List.{[], _∷_};
 ghost use Prim.Native.Nat.{_+_, _≤_, _<_};

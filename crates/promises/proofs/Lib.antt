@@ -53,3 +53,12 @@ pub mod BoardCount
 pub mod BoardHistory
 pub mod BoardFree
 pub mod BoardPromises
+-- The view of a sheet, and its listing.
+pub mod SheetView
+pub mod ListingWritten
+pub mod ListingInOrder
+pub mod ListingDecimals
+pub mod ListingRecords
+pub mod ListingBench
+pub mod ListingOutcome
+pub mod Listing

@@ -28,3 +28,12 @@ pub mod BoardReadings
 pub mod BoardHistory
 pub mod BoardFree
 pub mod BoardPromises
+-- The view of a sheet, and its listing.
+pub mod SheetView
+pub mod ListingCalls
+pub mod ListingInOrder
+pub mod ListingRecords
+pub mod ListingDecimals
+pub mod ListingBench
+pub mod ListingOutcome
+pub mod Listing

@@ -4,8 +4,6 @@ use crate::Looked;
 use crate::size_allowed;
 use crate::slot::read_slot;
 ghost use mathlib.Core.Path.{_≡_};
-ghost use Prim.Native.Nat.{_/_};
-ghost use lib.Dec.{ltb};
 ghost use Rattle.sheet.specs.Look.{Looks};
 ghost use Rattle.sheet.specs.View.{Opens, Counts, Sees, slotsFor, spanOf};
 

@@ -6,13 +6,13 @@ use mathlib.Core.List.{List, []}
 use Prim.Native.Nat.{ℕ, _+_, _-_, _*_, _/_, _<_, _≤_}
 use native.Mathlib.Omega.{arith}
 use borrow.Author.Tests.{ltb-true, ltb-false, lt-ltb, le-ltb, eq-eqb, ne-eqb}
-use lib.Dec.{ltb, eqb}
+use lib.Dec.{ltb}
 use lib.ListN.{length, take, drop, length-take, length-drop}
 use Rattle.frame.specs.Pick.{pick}
 use Rattle.sheet.specs.declared.Found.the-variants.{Refused}
 use Rattle.sheet.specs.declared.view.Span.{Span}
-use Rattle.sheet.specs.Slots.{sizeAllowed, slots, slotAt}
-use Rattle.sheet.specs.Look.{bare, partOf, lookOf}
+use Rattle.sheet.specs.Slots.{sizeAllowed, slots, slotAt, slotOf}
+use Rattle.sheet.specs.Look.{bare, told, partOf, lookOf}
 use Rattle.sheet.specs.View.{slotsFor, spanOf, seenOf}
 
 -- the 32 bytes of a slot that are all there, and of one whose bytes are not
@@ -27,6 +27,23 @@ slot-short s k far long =
 no-slot : (x : List ℕ) → (length x ≡ 32 → ⊥) → partOf x ≡ bare (Refused 12)
 unfolding partOf
 no-slot x h = simp (ne-eqb (length x) 32 h)
+
+-- what is seen of a slot that is counted and there, of one beyond the count, and of one beyond the bytes
+pub seen-there : (s : List ℕ) (n k : ℕ) → k < n → k < slots s → seenOf s n k ≡ told (slotOf (slotAt s k))
+unfolding seenOf partOf
+seen-there s n k counted near = simp (lt-ltb k n counted, eq-eqb (length (slotAt s k)) 32 (slot-long s k near))
+
+pub seen-uncounted : (s : List ℕ) (n k : ℕ) → n ≤ k → seenOf s n k ≡ bare (Refused 12)
+unfolding seenOf
+seen-uncounted s n k far = simp (le-ltb k n far) (no-slot [] (λ h. omega arith))
+
+pub seen-short : (s : List ℕ) (n k : ℕ) → slots s ≤ k → seenOf s n k ≡ bare (Refused 12)
+unfolding seenOf
+seen-short s n k far = go (ltb k n)
+  where
+    go : (a : Bool) → partOf (pick a (slotAt s k) []) ≡ bare (Refused 12)
+    go true = no-slot (slotAt s k) (slot-short s k far)
+    go false = no-slot [] (λ h. omega arith)
 
 -- a slot lies inside the bytes
 pub span-in : (len n k : ℕ) → (spanOf len n k .from ≤ spanOf len n k .to) × (spanOf len n k .to ≤ len)
@@ -51,11 +68,15 @@ span-seen s n k = go (ltb k n) (ltb k (slots s)) refl
     go false b e = refl
 
 -- what is seen through a view that was opened is what a look answers
+allowed-slots : (s : List ℕ) (a : Bool) → sizeAllowed s ≡ a → slotsFor (length s) ≡ pick a (slots s) 0
+unfolding slotsFor
+allowed-slots s a size = simp size
+
 pub opened-seen : (s : List ℕ) (k : ℕ) → seenOf s (slotsFor (length s)) k ≡ lookOf s k
-unfolding seenOf slotsFor lookOf partOf
+unfolding lookOf
 opened-seen s k = go (sizeAllowed s) (ltb k (slots s)) refl refl
   where
-    go : (a b : Bool) → sizeAllowed s ≡ a → ltb k (slots s) ≡ b → seenOf s (slotsFor (length s)) k ≡ lookOf s k
-    go true true p q = simp (p, q, eq-eqb (length (slotAt s k)) 32 (slot-long s k (ltb-true k (slots s) q)))
-    go true false p q = simp (p, q)
-    go false b p q = simp (p, le-ltb k 0 (omega arith))
+    go : (a b : Bool) → sizeAllowed s ≡ a → ltb k (slots s) ≡ b → seenOf s (slotsFor (length s)) k ≡ pick (a && b) (told (slotOf (slotAt s k))) (bare (Refused 12))
+    go true true p q = ap (λ (n : ℕ). seenOf s n k) (allowed-slots s true p) ∙ seen-there s (slots s) k (ltb-true k (slots s) q) (ltb-true k (slots s) q)
+    go true false p q = ap (λ (n : ℕ). seenOf s n k) (allowed-slots s true p) ∙ seen-uncounted s (slots s) k (ltb-false k (slots s) q)
+    go false b p q = ap (λ (n : ℕ). seenOf s n k) (allowed-slots s false p) ∙ seen-uncounted s 0 k (omega arith)

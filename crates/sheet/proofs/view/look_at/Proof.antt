@@ -39,7 +39,7 @@ use denote.Exit.{yes}
 use Rattle.sheet.specs.declared.Looked.{Looked}
 use Rattle.sheet.specs.declared.view.Sheet.{Sheet}
 use Rattle.sheet.specs.Look.{lookOf}
-use Rattle.sheet.specs.View.{Opens, Sees, seenOf, slotsFor}
+use Rattle.sheet.specs.View.{Opens, Sees, seenOf}
 use Rattle.sheet.proofs.view.Spans.{opened-seen}
 use Rattle.sheet.proofs.view.Sheet as view
 use Rattle.sheet.proofs.view.Sheet.Laws as view-laws

@@ -2,7 +2,7 @@
 -- the view holds, and the slot reader is called on it; of both only their contracts are used. The view can be copied: of two copies of what it owns,
 -- one is kept whole for the exit, and what the bytes of the other own becomes what the part owns. Assumes nothing.
 use mathlib.Core.Path.{_≡_, refl, sym, _∙_, ap}
-use Prim.Native.Nat.{ℕ, _+_, _-_, _<_, _≤_, _^_}
+use Prim.Native.Nat.{ℕ, _+_, _-_, _<_, _^_}
 use native.Mathlib.Omega.{arith}
 use mathlib.Core.List.{List, [], _∷_}
 use lib.ListN.{length, drop as drop-list, length-drop}
