@@ -1,0 +1,40 @@
+-- `recorder::sisal_write_reply` meets its contract: the reading that is written is the one that the numbers stand for.
+use mir.Syntax.{w16}
+use mir.Facts.{toZ-ofZ}
+use borrow.Author.Needs.{needs}
+use Rattle.recorder.proofs.sisal_write_reply.Statement.{statement}
+use Rattle.recorder.proofs.sisal_write_reply.Tie as tie
+use Rattle.recorder.proofs.sisal_write_reply.Reads as reads
+use Rattle.recorder.proofs.sisal_write_reply.Lts as lts
+use Rattle.frame.proofs.write_reply.Reads as write-reply-reads
+use Rattle.recorder.proofs.told.temperature_by.Reads as temperature-by-reads
+use Rattle.recorder.proofs.told.written.Reads as written-reads
+
+-- src/lib.rt:98:9
+temperature-by-requires : tie.Need-temperature-by-requires
+temperature-by-requires c κs = search needs
+
+-- src/lib.rt:105:19
+write-reply-requires : tie.Need-write-reply-requires
+write-reply-requires c κs = search needs
+
+-- src/lib.rt:105:5
+written-requires : tie.Need-written-requires
+written-requires c κs = search needs
+
+-- src/lib.rt:85:1
+same-length : tie.Need-same-length
+same-length c = search needs
+
+-- src/lib.rt:85:1
+returns : tie.Need-returns
+returns c =
+    let w = c .before .before .before in
+    let t = w .before .before in
+    let s = t .before .before in
+    record { below = w .write-reply .result; allows = simp (t .temperature-by .ensures, toZ-ofZ {w = w16} {z = s .args .tenths} (s .fits .tenths)) at (w .write-reply .ensures); tells = c .written .ensures }
+
+pub sisal-write-reply-spec : {M : Type 1} → statement M
+sisal-write-reply-spec =
+    tie.close
+    (tie.spec temperature-by-requires write-reply-requires written-requires same-length returns)

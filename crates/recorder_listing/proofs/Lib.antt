@@ -1,0 +1,2 @@
+-- The laws that the readers of the contracts cite.
+pub mod Kept

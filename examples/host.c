@@ -1,0 +1,160 @@
+/*
+ * A small host over libsisalcove.a: a month at a depot with two made-up transmitters. Twice a day it polls both, saves each reply on the
+ * card and lets the board hear it. One reply is damaged on the line, one does not come, and once the power fails in the middle of a
+ * save. At the end it prints the listing of the card and how the transmitters stand on the board.
+ *
+ * ./build-library && examples/run
+ */
+#include "sisalcove.h"
+
+#include <stdio.h>
+#include <stdlib.h>
+#include <string.h>
+
+/* ---- two made-up transmitters ---------------------------------------------------------------------------------------------------- */
+
+struct transmitter {
+    uint16_t address;
+    uint8_t settings;
+    uint16_t level;  /* on the first day, */
+    uint16_t a_day;  /* what is drawn each day, */
+    int16_t tenths;  /* the temperature at dawn, */
+    int16_t by_dusk; /* and how much warmer it is at dusk */
+};
+
+static const struct transmitter site[] = {
+    /* a Model 1900 that tells hundredths of a foot */
+    {7, SISAL_MODE_DECIMAL, 3000, 61, -123, 188},
+    /* a Model 1800 that tells millimetres, with odd parity; at dusk it is beyond its range */
+    {310, SISAL_MODE_20_M | SISAL_TYPE_1800 | SISAL_ODD_PARITY, 9999, 217, 905, 120},
+};
+
+enum { TRANSMITTERS = sizeof site / sizeof site[0], DAYS = 31 };
+
+/* What comes back on the line. */
+struct line {
+    uint8_t bytes[8];
+    size_t count; /* bits */
+};
+
+static size_t bytes_of(const struct line *line) { return (line->count + 7) / 8; }
+
+/* A transmitter answers a poll of its own address, and no other. */
+static struct line answer(const struct transmitter *t, const uint8_t poll[2], int day, int dusk)
+{
+    struct line line = {{0}, 0};
+    struct sisal_poll asked = sisal_read_poll(poll, 2);
+    if (asked.number == SISAL_OK && asked.address == t->address) {
+        uint16_t level = (uint16_t)(t->level - day * t->a_day);
+        int16_t tenths = (int16_t)(t->tenths + (dusk ? t->by_dusk : 0));
+        uint8_t low = level < 1500;
+        struct sisal_done sent = sisal_write_reply(t->settings, t->address, level, SISAL_KIND_DEGREES, tenths, 0, low, line.bytes, sizeof line.bytes);
+        line.count = 8 * sent.count;
+    }
+    return line;
+}
+
+/* ---- the host -------------------------------------------------------------------------------------------------------------------- */
+
+static uint8_t card[SISAL_SHEET_MAX];
+static struct sisal_row board[SISAL_ROWS];
+
+/* A host that is refused what it never should be has a mistake in itself. */
+static void want(int holds, const char *what)
+{
+    if (!holds) {
+        fprintf(stderr, "host: %s\n", what);
+        exit(1);
+    }
+}
+
+/* The board stands in memory that a power cut clears; the card keeps what is on it. */
+static void power_on(void)
+{
+    memset(board, 0, sizeof board);
+    for (int i = 0; i < TRANSMITTERS; i++)
+        want(sisal_board_enrol(board, SISAL_ROWS, site[i].settings, site[i].address) == SISAL_OK, "not enrolled");
+}
+
+/* Polls one transmitter and saves what came; then the board hears it, unless the power held for so many stores only. */
+static void poll_one(const struct transmitter *t, int day, int dusk, size_t stores)
+{
+    uint32_t minute = (uint32_t)(day * 1440 + (dusk ? 1080 : 360));
+    uint8_t poll[2];
+    want(sisal_write_poll(t->address, 0, 0, poll, sizeof poll).number == SISAL_OK, "no poll");
+
+    struct line line = answer(t, poll, day, dusk);
+    if (t->address == 310 && day == 4 && dusk)
+        line.bytes[2] ^= 0x10; /* a bit turned over on the line */
+    if (t->address == 7 && day == 11 && !dusk)
+        line.count = 0; /* nothing came */
+
+    struct sisal_done saved = sisal_save(card, sizeof card, t->settings, minute, t->address, line.count, line.bytes, bytes_of(&line), stores);
+    want(saved.number == SISAL_OK, "not saved");
+    if (saved.count == stores) {
+        printf("minute %u: power cut after %zu stores\n", minute, saved.count);
+        power_on();
+        return;
+    }
+    /* 1 to 9 is a faulty reply, which the row keeps; anything above is a refusal */
+    uint8_t heard = sisal_board_hear(board, SISAL_ROWS, t->address, minute, line.count, line.bytes, bytes_of(&line));
+    want(heard < SISAL_SETTINGS, "not heard");
+}
+
+static void month(void)
+{
+    for (int day = 0; day < DAYS; day++) {
+        for (int dusk = 0; dusk < 2; dusk++) {
+            for (int i = 0; i < TRANSMITTERS; i++) {
+                int cut = day == 16 && dusk && i == 0;
+                poll_one(&site[i], day, dusk, cut ? 9 : SISAL_ALL_STORES);
+            }
+        }
+    }
+}
+
+/* ---- what is to be seen ---------------------------------------------------------------------------------------------------------- */
+
+/* Line by line, as a host with little memory would; sisal_listing() writes all of them at once. */
+static void print_line(struct sisal_done written, const uint8_t *line)
+{
+    want(written.number == SISAL_OK, "no line");
+    fwrite(line, 1, written.count, stdout);
+}
+
+static void print_listing(void)
+{
+    uint8_t line[SISAL_LINE];
+    print_line(sisal_head_line(card, sizeof card, line, sizeof line), line);
+    for (size_t slot = 0; slot < sizeof card / SISAL_SLOT; slot++)
+        print_line(sisal_slot_line(card, sizeof card, slot, line, sizeof line), line);
+    print_line(sisal_last_line(card, sizeof card, line, sizeof line), line);
+}
+
+static void print_board(void)
+{
+    for (int i = 0; i < TRANSMITTERS; i++) {
+        struct sisal_standing s = sisal_board_look_up(board, SISAL_ROWS, site[i].address);
+        want(s.number == SISAL_OK, "not on the board");
+        printf("board %u: ", s.address);
+        if (s.kind == SISAL_KIND_NONE)
+            printf("no reading yet");
+        else
+            printf("level %u at minute %u", s.level, s.minute);
+        if (s.kind == SISAL_KIND_DEGREES)
+            printf(", %d tenths of a degree", s.tenths);
+        else if (s.kind == SISAL_KIND_ABOVE || s.kind == SISAL_KIND_BELOW)
+            printf(", %s range", s.kind == SISAL_KIND_ABOVE ? "above" : "below");
+        printf("%s, last fault %u\n", s.alarm0 ? ", low alarm" : "", s.fault);
+    }
+}
+
+int main(void)
+{
+    memset(card, 0xff, sizeof card);
+    power_on();
+    month();
+    print_listing();
+    print_board();
+    return 0;
+}

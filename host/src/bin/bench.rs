@@ -1,0 +1,40 @@
+//! Times the proved library and the independent reading side by side and prints the ratios. Words
+//! given to it choose the cases whose name has them.
+
+use std::process::ExitCode;
+
+#[cfg(target_arch = "x86_64")]
+fn main() -> ExitCode {
+    use sisalcove_host::benchmarks::Benchmarks;
+    use sisalcove_host::library::Library;
+    use sisalcove_host::random;
+    use sisalcove_host::reading::IndependentReading;
+    use sisalcove_host::stopwatch::{Stopwatch, Timing};
+
+    let seed = match random::seed() {
+        Ok(seed) => seed,
+        Err(wrong) => {
+            eprintln!("{wrong}");
+            return ExitCode::from(2);
+        }
+    };
+    let benchmarks = Benchmarks {
+        left: &Library,
+        right: &IndependentReading,
+        watch: Stopwatch::usual(),
+        seed,
+        only: std::env::args().skip(1).collect::<Vec<_>>().join(" "),
+    };
+    println!("{}", Timing::heading("proved", "independent"));
+    benchmarks.all(|timing| println!("{timing}"));
+    println!();
+    println!("{}", Timing::heading("proved", "independent"));
+    benchmarks.growth(|timing| println!("{timing}"));
+    ExitCode::SUCCESS
+}
+
+#[cfg(not(target_arch = "x86_64"))]
+fn main() -> ExitCode {
+    eprintln!("the proved library is for x86-64 alone; host/bench times it under an emulator");
+    ExitCode::from(2)
+}

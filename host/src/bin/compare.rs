@@ -1,0 +1,34 @@
+//! Holds the proved library to the independent reading in every comparison, and ends with the
+//! line `N passed, 0 failed`. Words given to it choose the comparisons whose name has them.
+
+use std::process::ExitCode;
+
+#[cfg(target_arch = "x86_64")]
+fn main() -> ExitCode {
+    use sisalcove_host::compare::{run, Plan};
+    use sisalcove_host::library::Library;
+    use sisalcove_host::random;
+    use sisalcove_host::reading::IndependentReading;
+
+    let seed = match random::seed() {
+        Ok(seed) => seed,
+        Err(wrong) => {
+            eprintln!("{wrong}");
+            return ExitCode::from(2);
+        }
+    };
+    println!("the proved library (left) and the independent reading (right), seed {seed:#x}");
+    let only = std::env::args().skip(1).collect::<Vec<_>>().join(" ");
+    let (passed, failed) = run(&Library, &IndependentReading, &Plan::full(seed), &only);
+    println!("{passed} passed, {failed} failed");
+    match failed {
+        0 => ExitCode::SUCCESS,
+        _ => ExitCode::FAILURE,
+    }
+}
+
+#[cfg(not(target_arch = "x86_64"))]
+fn main() -> ExitCode {
+    eprintln!("the proved library is for x86-64 alone; host/test compares it under an emulator");
+    ExitCode::from(2)
+}

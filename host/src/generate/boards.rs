@@ -1,0 +1,154 @@
+//! Rows and calls of the board.
+
+use super::{
+    address, damage, good_reply, minute, reading, refused_address, refused_settings, ReplyCase,
+};
+use crate::random::Random;
+use crate::types::{Last, Row, ROWS};
+
+/// One call of the board.
+#[derive(Clone, Copy, Debug, PartialEq, Eq)]
+pub enum BoardCall {
+    Enrol { settings: u8, address: u16 },
+    Hear { minute: u32, reply: ReplyCase },
+    Remove { address: u16 },
+    LookUp { address: u16 },
+}
+
+/// Rows to start from: none, a few, thirty or more; blank as a host would lend them, crowded, or
+/// hostile.
+pub fn rows(random: &mut Random) -> Vec<Row> {
+    let count = match random.below(8) {
+        0 => random.below(3),
+        1 | 2 => 31 + random.below(6),
+        3 | 4 => 30,
+        _ => random.below(31),
+    };
+    let kind = random.below(4);
+    let pool = 1 + random.below(40);
+    let row = |place: usize| match kind {
+        0 => Row::default(),
+        1 => crowded_row(random, place),
+        _ => hostile_row(random, pool),
+    };
+    (0..count).map(row).collect()
+}
+
+/// A row of a board that is all but full, with free rows past the thirtieth.
+fn crowded_row(random: &mut Random, place: usize) -> Row {
+    if place >= ROWS || random.one_in(20) {
+        return Row::default();
+    }
+    Row {
+        in_use: true,
+        address: place as u16,
+        settings: random.below(16) as u8,
+        last: None,
+        fault: 0,
+    }
+}
+
+/// Any row: in use or free with something in it, addresses held twice, refused settings.
+fn hostile_row(random: &mut Random, pool: usize) -> Row {
+    let settings = if random.one_in(6) {
+        refused_settings(random)
+    } else {
+        random.below(16) as u8
+    };
+    let address = match random.below(16) {
+        0 => refused_address(random),
+        1 => address(random),
+        _ => random.below(pool) as u16,
+    };
+    let last = random.coin().then(|| Last {
+        reading: reading(random, settings),
+        minute: minute(random),
+    });
+    Row {
+        in_use: !random.one_in(4),
+        address,
+        settings,
+        last,
+        fault: if random.coin() { 0 } else { random.byte() },
+    }
+}
+
+/// A call about rows that say this, so that replies often fit the row that is asked.
+pub fn board_call(random: &mut Random, rows: &[Row]) -> BoardCall {
+    let known = random.choose(rows).copied();
+    let address = match known {
+        Some(row) if row.in_use && !random.one_in(4) => row.address,
+        _ if random.one_in(16) => refused_address(random),
+        _ => random.below(40) as u16,
+    };
+    match random.below(8) {
+        0 | 1 => BoardCall::Enrol {
+            settings: if random.one_in(10) {
+                refused_settings(random)
+            } else {
+                random.below(16) as u8
+            },
+            address,
+        },
+        2 if random.coin() => BoardCall::Remove { address },
+        2 | 3 => BoardCall::LookUp { address },
+        _ => {
+            let settings = known.map_or(0, |row| row.settings);
+            let mut reply = good_reply(random, settings & 15, address.min(999));
+            if random.coin() {
+                damage(random, &mut reply);
+            }
+            if !random.one_in(8) {
+                reply.address = address;
+            }
+            BoardCall::Hear {
+                minute: minute(random),
+                reply,
+            }
+        }
+    }
+}
+
+#[cfg(test)]
+mod tests {
+    use super::*;
+    use crate::reading::board::{enrol, hear, look_up, remove};
+
+    /// Every answer that the paper gives each call is reached, many times.
+    #[test]
+    fn every_outcome_is_reached() {
+        let mut random = Random::new(crate::random::SEED, 0);
+        let mut seen = [[0u32; 20]; 4];
+        for _ in 0..1_000 {
+            let mut rows = rows(&mut random);
+            for _ in 0..100 {
+                let (call, answer) = match board_call(&mut random, &rows) {
+                    BoardCall::Enrol { settings, address } => {
+                        (0, enrol(&mut rows, settings, address))
+                    }
+                    BoardCall::Hear { minute, reply } => {
+                        let (address, count) = (reply.address, reply.count);
+                        (1, hear(&mut rows, address, minute, count, reply.reply()))
+                    }
+                    BoardCall::Remove { address } => (2, remove(&mut rows, address)),
+                    BoardCall::LookUp { address } => (3, look_up(&rows, address).map(|_| ())),
+                };
+                let number = answer.err().map_or(0, |fault| fault.number());
+                seen[call][usize::from(number)] += 1;
+            }
+        }
+        let answers: [&[usize]; 4] = [
+            &[0, 10, 11, 18, 19],
+            &[0, 1, 2, 3, 4, 5, 6, 7, 8, 9, 10, 11, 14, 17],
+            &[0, 11, 17],
+            &[0, 11, 17],
+        ];
+        for (call, answers) in answers.iter().enumerate() {
+            for &number in *answers {
+                assert!(seen[call][number] >= 50, "call {call}, {number}: {seen:?}");
+            }
+            let others = seen[call].iter().filter(|&&times| times > 0).count();
+            assert_eq!(others, answers.len(), "call {call}: {seen:?}");
+        }
+    }
+}

@@ -1,0 +1,56 @@
+//! Inputs for the comparisons: good, damaged and hostile.
+
+mod boards;
+mod replies;
+mod sheets;
+
+pub use boards::{board_call, rows, BoardCall};
+pub use replies::{damage, damaged_reply, good_reply, reading, with_parity, ReplyCase};
+pub use sheets::{
+    allowance, hostile_sheet, hostile_slot, month, record_bytes, save_case, SaveCase,
+};
+
+use crate::random::Random;
+use crate::types::LARGEST_ADDRESS;
+
+/// An address on the line, the ends more often than chance would have them.
+pub fn address(random: &mut Random) -> u16 {
+    match random.below(16) {
+        0 => 0,
+        1 => LARGEST_ADDRESS,
+        _ => random.below(usize::from(LARGEST_ADDRESS) + 1) as u16,
+    }
+}
+
+/// An address that is refused.
+pub fn refused_address(random: &mut Random) -> u16 {
+    match random.below(4) {
+        0 => LARGEST_ADDRESS + 1,
+        1 => u16::MAX,
+        _ => LARGEST_ADDRESS + 1 + random.below(usize::from(u16::MAX - LARGEST_ADDRESS)) as u16,
+    }
+}
+
+/// A settings byte that is refused.
+pub fn refused_settings(random: &mut Random) -> u8 {
+    16 + random.below(240) as u8
+}
+
+/// A count of bits that has no good form, or a huge one.
+pub fn wild_count(random: &mut Random) -> usize {
+    match random.below(4) {
+        0 => 65 + random.below(64),
+        1 => usize::MAX - random.below(16),
+        2 => 256 + random.below(64), // a count that one byte would take for 0 to 63
+        _ => random.next() as usize,
+    }
+}
+
+/// A minute, now and then the largest.
+pub fn minute(random: &mut Random) -> u32 {
+    match random.below(8) {
+        0 => u32::MAX,
+        1 => random.below(1_000) as u32,
+        _ => random.next() as u32,
+    }
+}

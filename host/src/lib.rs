@@ -1,0 +1,27 @@
+//! The host's side of the tank gauge recorder.
+//!
+//! * [`types`] and [`calls`]: the values of document 01 and [`Core`], the one trait through which
+//!   everything below reaches a recorder core.
+//! * [`library`]: the proved library, wrapped so that it is called with these types. It is there
+//!   on x86-64 alone, which is all that the library is compiled for.
+//! * [`reading`]: an independent reading of document 01, written from the paper alone. It is the
+//!   other opinion in the comparisons and the baseline of the benchmarks.
+//! * [`random`] and [`generate`]: repeatable inputs, good, damaged and hostile.
+//! * [`compare`]: the comparisons of two cores, and the sweep that cuts the power after every store.
+//! * [`stopwatch`] and [`benchmarks`]: two cores timed side by side in one run.
+
+pub mod benchmarks;
+pub mod calls;
+pub mod compare;
+pub mod generate;
+#[cfg(target_arch = "x86_64")]
+pub mod library;
+pub mod random;
+pub mod reading;
+pub mod stopwatch;
+pub mod types;
+
+pub use calls::Core;
+pub use types::{
+    Answer, Entry, Fault, Last, Poll, Reading, Record, Row, Slot, Standing, Temperature,
+};

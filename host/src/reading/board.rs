@@ -1,0 +1,92 @@
+//! The board of last good readings, over lent rows.
+
+use super::frame::{pack, read_word};
+use crate::types::{Answer, Fault, Last, Row, Standing, LARGEST_ADDRESS, LARGEST_SETTINGS, ROWS};
+
+/// The rows that count: those past the thirtieth are never read or written.
+fn board(rows: &[Row]) -> &[Row] {
+    &rows[..rows.len().min(ROWS)]
+}
+
+/// The first row in use that holds an address.
+fn place(rows: &[Row], address: u16) -> Option<usize> {
+    let held = |row: &Row| row.in_use && row.address == address;
+    board(rows).iter().position(held)
+}
+
+/// The row of an address, to change. Refusal: 17.
+fn held(rows: &mut [Row], address: u16) -> Answer<&mut Row> {
+    let place = place(rows, address).ok_or(Fault::Unknown)?;
+    rows.get_mut(place).ok_or(Fault::Unknown)
+}
+
+/// Enrols a transmitter in the first free row. Refusals: 10, 11, 18, 19.
+pub fn enrol(rows: &mut [Row], settings: u8, address: u16) -> Answer<()> {
+    if settings > LARGEST_SETTINGS {
+        return Err(Fault::Settings);
+    }
+    if address > LARGEST_ADDRESS {
+        return Err(Fault::AskedAddress);
+    }
+    if place(rows, address).is_some() {
+        return Err(Fault::Twice);
+    }
+    let free = rows.iter_mut().take(ROWS).find(|row| !row.in_use);
+    *free.ok_or(Fault::NoRow)? = Row {
+        in_use: true,
+        address,
+        settings,
+        last: None,
+        fault: 0,
+    };
+    Ok(())
+}
+
+/// Hears a reply to a poll of `address`. Refusals: 11, 14, 17, 10, then 1 to 9.
+///
+/// A good reply sets reading, minute and fault 0; the faults 1 to 9 set the row's fault and
+/// leave its last good reading as it is.
+pub fn hear(rows: &mut [Row], address: u16, minute: u32, count: usize, reply: &[u8]) -> Answer<()> {
+    if address > LARGEST_ADDRESS {
+        return Err(Fault::AskedAddress);
+    }
+    let word = pack(count, reply)?;
+    let row = held(rows, address)?;
+    if row.settings > LARGEST_SETTINGS {
+        return Err(Fault::Settings);
+    }
+    match read_word(row.settings, address, count, word) {
+        Ok(reading) => {
+            row.last = Some(Last { reading, minute });
+            row.fault = 0;
+            Ok(())
+        }
+        Err(fault) => {
+            row.fault = fault.number();
+            Err(fault)
+        }
+    }
+}
+
+/// Removes a transmitter and leaves its row free and cleared. Refusals: 11, 17.
+pub fn remove(rows: &mut [Row], address: u16) -> Answer<()> {
+    if address > LARGEST_ADDRESS {
+        return Err(Fault::AskedAddress);
+    }
+    *held(rows, address)? = Row::default();
+    Ok(())
+}
+
+/// Looks a transmitter up. Refusals: 11, 17.
+pub fn look_up(rows: &[Row], address: u16) -> Answer<Standing> {
+    if address > LARGEST_ADDRESS {
+        return Err(Fault::AskedAddress);
+    }
+    let place = place(rows, address).ok_or(Fault::Unknown)?;
+    let row = rows.get(place).ok_or(Fault::Unknown)?;
+    Ok(Standing {
+        settings: row.settings,
+        last: row.last,
+        fault: row.fault,
+    })
+}

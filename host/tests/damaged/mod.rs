@@ -1,0 +1,397 @@
+//! A core that is right but for one mistake, to see that a comparison can fail.
+
+use sisalcove_host::reading::{board, IndependentReading};
+use sisalcove_host::types::{BLANK, SLOT};
+use sisalcove_host::{
+    Answer, Core, Entry, Fault, Poll, Reading, Record, Row, Slot, Standing, Temperature,
+};
+
+/// The mistakes.
+#[derive(Clone, Copy, Debug, PartialEq, Eq)]
+pub enum Damage {
+    Nothing,
+    // polls
+    UnusedBitOfPollRead,
+    RaiseAndResetSwapped,
+    PollWritesThreeBytes,
+    ShortBeforeAddress,
+    // replies
+    ChartEndByCode,
+    RangeCalledCode,
+    CodeBeforeFill,
+    OneLevelWrong,
+    ZeroWrittenNegative,
+    LowestTemperatureWrong,
+    Bit42Of1800Read,
+    DigitsBesideAboveRead,
+    DigitAboveNineInAddress,
+    PadBitsIgnored,
+    CountTakenAsByte,
+    ParityBeforeAddress,
+    AddressBeforeSettings,
+    ReplyWritesOneMore,
+    AlarmsSwapped,
+    // sheets
+    LargeSheetAccepted,
+    SlotPastLastBlank,
+    RefusesEverySave,
+    SavesNothing,
+    FeignsAllButFirst,
+    InventedCount,
+    LengthFirst,
+    FullTooEarly,
+    FirstBlankSlot,
+    LastByteIgnored,
+    VersionIgnored,
+    SpoiledCalledForeign,
+    FaultyNotCounted,
+    NoLastLine,
+    // boards
+    ReadingClearedByFault,
+    FaultKeptByGoodReply,
+    RowPastThirtiethUsed,
+    LastRowCounts,
+    RemovalKeepsAddress,
+    UnknownBeforeForm,
+    SettingsOfRowNotAsked,
+}
+
+use Damage::*;
+
+/// The damaged core.
+pub struct Damaged(pub Damage);
+
+const RIGHT: IndependentReading = IndependentReading;
+
+/// The slots that begin a sheet up to the first blank one, that one included.
+fn up_to_first_blank(sheet: &mut [u8]) -> &mut [u8] {
+    let blank = |slot: &[u8]| slot.iter().all(|&byte| byte == BLANK);
+    let end = match sheet.chunks(SLOT).position(blank) {
+        Some(first) => (first + 1) * SLOT,
+        None => sheet.len(),
+    };
+    &mut sheet[..end]
+}
+
+/// The trap of the paper: the chart's end chosen by the lowest bit of the code above.
+fn decimal_by_code(reply: &[u8]) -> Answer<u16> {
+    const TENS: [u8; 8] = [0, 1, 3, 2, 6, 7, 5, 4];
+    const DECIMAL: [u8; 10] = [0, 1, 3, 2, 6, 7, 5, 4, 12, 8];
+    let mut bytes = [0; 8];
+    bytes[..5].copy_from_slice(&reply[..5]);
+    let word = u64::from_be_bytes(bytes);
+    let mut above = (word >> 45) as u8 & 7;
+    let mut level = TENS.iter().position(|&code| code == above).unwrap_or(0);
+    for shift in [41, 37, 33] {
+        let code = (word >> shift) as u8 & 15;
+        let found = DECIMAL.iter().position(|&known| known == code);
+        let digit = found.ok_or(Fault::Code)?;
+        level = 10 * level + if above & 1 == 1 { 9 - digit } else { digit };
+        above = code;
+    }
+    Ok(level as u16)
+}
+
+/// A reply with other bits and its parity as it was.
+fn with_bits(reply: &[u8], change: impl Fn(&mut [u8; 12])) -> Vec<u8> {
+    let mut bytes = [0; 12];
+    let length = reply.len().min(12);
+    bytes[..length].copy_from_slice(&reply[..length]);
+    let ones = |bytes: &[u8]| bytes.iter().map(|byte| byte.count_ones()).sum::<u32>();
+    let before = ones(&bytes[..length]);
+    change(&mut bytes);
+    if (ones(&bytes[..length]) ^ before) & 1 == 1 {
+        bytes[length - 1] ^= 1;
+    }
+    bytes[..length].to_vec()
+}
+
+impl Core for Damaged {
+    type Row = Row;
+
+    fn read_poll(&self, poll: &[u8]) -> Answer<Poll> {
+        if self.0 == UnusedBitOfPollRead && poll.first().is_some_and(|byte| byte & 0x40 != 0) {
+            return Err(Fault::Poll);
+        }
+        RIGHT.read_poll(poll)
+    }
+
+    fn write_poll(&self, poll: &Poll, out: &mut [u8]) -> Answer<usize> {
+        let mut poll = *poll;
+        if self.0 == RaiseAndResetSwapped {
+            (poll.raise, poll.reset) = (poll.reset, poll.raise);
+        }
+        if self.0 == ShortBeforeAddress && out.len() < 2 {
+            return Err(Fault::Short);
+        }
+        if self.0 == PollWritesThreeBytes && out.len() > 2 {
+            out[2] = 0;
+        }
+        RIGHT.write_poll(&poll, out)
+    }
+
+    fn read_reply(
+        &self,
+        settings: u8,
+        address: u16,
+        count: usize,
+        reply: &[u8],
+    ) -> Answer<Reading> {
+        let right = RIGHT.read_reply(settings, address, count, reply);
+        match (self.0, right) {
+            (ChartEndByCode, Ok(reading)) if settings & 3 == 1 => {
+                let level = decimal_by_code(reply)?;
+                Ok(Reading { level, ..reading })
+            }
+            (RangeCalledCode, Err(Fault::Range)) => Err(Fault::Code),
+            (CodeBeforeFill, Err(Fault::Fill)) => {
+                let cleared = with_bits(reply, |bytes| {
+                    bytes[3] &= !1;
+                    bytes[4] &= 7;
+                });
+                match RIGHT.read_reply(settings, address, count, &cleared) {
+                    Err(Fault::Code) => Err(Fault::Code),
+                    _ => right,
+                }
+            }
+            (OneLevelWrong, Ok(reading)) if settings & 3 == 2 && reading.level == 12_345 => {
+                Ok(Reading {
+                    level: 12_346,
+                    ..reading
+                })
+            }
+            (LowestTemperatureWrong, Ok(reading))
+                if reading.temperature == Temperature::Degrees(-7_999) =>
+            {
+                let temperature = Temperature::Degrees(-7_998);
+                Ok(Reading {
+                    temperature,
+                    ..reading
+                })
+            }
+            (Bit42Of1800Read, Ok(_))
+                if settings & 4 != 0 && count == 56 && reply[5] & 0x40 != 0 =>
+            {
+                Err(Fault::Temperature)
+            }
+            (DigitsBesideAboveRead, Ok(reading))
+                if reading.temperature == Temperature::Above && reply[6] & 0x1E > 0x12 =>
+            {
+                Err(Fault::Temperature)
+            }
+            (DigitAboveNineInAddress, Err(Fault::Address)) => {
+                let digits = u16::from_be_bytes([reply[0], reply[1]]) >> 1 & 0xFFF;
+                let value = (digits >> 8) * 100 + (digits >> 4 & 15) * 10 + (digits & 15);
+                if value == address {
+                    Err(Fault::Code)
+                } else {
+                    right
+                }
+            }
+            (PadBitsIgnored, Err(Fault::Form))
+                if count <= 64 && reply.len() == count.div_ceil(8) =>
+            {
+                Err(Fault::Length)
+            }
+            (CountTakenAsByte, Err(Fault::Form)) => {
+                RIGHT.read_reply(settings, address, count % 256, reply)
+            }
+            (ParityBeforeAddress, Err(Fault::Address)) => {
+                let ones: u32 = reply.iter().map(|byte| byte.count_ones()).sum();
+                if (ones & 1 == 1) != (settings & 8 != 0) {
+                    Err(Fault::Parity)
+                } else {
+                    right
+                }
+            }
+            (AddressBeforeSettings, Err(Fault::Settings)) if address > 999 => {
+                Err(Fault::AskedAddress)
+            }
+            (AlarmsSwapped, Ok(reading)) => Ok(Reading {
+                alarm1: reading.alarm0,
+                alarm0: reading.alarm1,
+                ..reading
+            }),
+            _ => right,
+        }
+    }
+
+    fn write_reply(
+        &self,
+        settings: u8,
+        address: u16,
+        reading: &Reading,
+        out: &mut [u8],
+    ) -> Answer<usize> {
+        let bytes = RIGHT.write_reply(settings, address, reading, out)?;
+        if self.0 == ReplyWritesOneMore && out.len() > bytes {
+            out[bytes] = 0;
+        }
+        if self.0 == ZeroWrittenNegative && reading.temperature == Temperature::Degrees(0) {
+            // bit 41 cleared, bit 56 turned with it
+            out[5] ^= 0x80;
+            out[6] ^= 1;
+        }
+        Ok(bytes)
+    }
+
+    fn save(&self, sheet: &mut [u8], entry: &Entry, allowance: usize) -> Answer<usize> {
+        let whole = 11 + entry.reply.len();
+        match self.0 {
+            RefusesEverySave => {
+                RIGHT.save(&mut sheet.to_vec(), entry, 0)?;
+                Err(Fault::Full)
+            }
+            SavesNothing => RIGHT.save(&mut sheet.to_vec(), entry, allowance),
+            FeignsAllButFirst if sheet.iter().any(|&byte| byte != BLANK) => {
+                RIGHT.save(&mut sheet.to_vec(), entry, allowance)
+            }
+            InventedCount => RIGHT.save(sheet, entry, allowance).map(|_| whole),
+            LengthFirst => {
+                let mut full = sheet.to_vec();
+                RIGHT.save(&mut full, entry, usize::MAX)?;
+                let changed: Vec<usize> = (0..sheet.len() / SLOT)
+                    .filter(|slot| sheet[slot * SLOT] != full[slot * SLOT])
+                    .collect();
+                for slot in changed {
+                    let start = slot * SLOT;
+                    let end = start + allowance.min(whole);
+                    sheet[start..end].copy_from_slice(&full[start..end]);
+                }
+                Ok(allowance.min(whole))
+            }
+            FullTooEarly if sheet.len() >= SLOT && sheet.len() <= 65_536 => {
+                let end = sheet.len() - SLOT;
+                RIGHT.save(&mut sheet[..end], entry, allowance)
+            }
+            FirstBlankSlot if sheet.len() % SLOT == 0 && sheet.len() <= 65_536 => {
+                RIGHT.save(up_to_first_blank(sheet), entry, allowance)
+            }
+            _ => RIGHT.save(sheet, entry, allowance),
+        }
+    }
+
+    fn look(&self, sheet: &[u8], slot: usize) -> Answer<Slot> {
+        let right = RIGHT.look(sheet, slot);
+        let whole = sheet.len() % SLOT == 0;
+        match (self.0, right) {
+            (LargeSheetAccepted, Err(_)) if whole && slot < sheet.len() / SLOT => {
+                RIGHT.look(&sheet[slot * SLOT..(slot + 1) * SLOT], 0)
+            }
+            (SlotPastLastBlank, Err(_)) if whole && slot == sheet.len() / SLOT => Ok(Slot::Blank),
+            (LastByteIgnored | VersionIgnored, Ok(Slot::Foreign)) => {
+                let mut bytes = [0; SLOT];
+                bytes.copy_from_slice(&sheet[slot * SLOT..(slot + 1) * SLOT]);
+                if self.0 == LastByteIgnored {
+                    bytes[SLOT - 1] = BLANK;
+                } else {
+                    bytes[2] = 1;
+                }
+                RIGHT.look(&bytes, 0)
+            }
+            _ => right,
+        }
+    }
+
+    fn head_line(&self, sheet: &[u8], line: &mut [u8]) -> Answer<usize> {
+        RIGHT.head_line(sheet, line)
+    }
+
+    fn slot_line(&self, sheet: &[u8], slot: usize, line: &mut [u8]) -> Answer<usize> {
+        if self.0 == SpoiledCalledForeign && RIGHT.look(sheet, slot) == Ok(Slot::Spoiled) {
+            let text = format!("{slot} foreign\n");
+            line[..text.len()].copy_from_slice(text.as_bytes());
+            return Ok(text.len());
+        }
+        RIGHT.slot_line(sheet, slot, line)
+    }
+
+    fn last_line(&self, sheet: &[u8], line: &mut [u8]) -> Answer<usize> {
+        if self.0 == FaultyNotCounted {
+            let good = |record: &Record| {
+                let count = usize::from(record.count);
+                RIGHT.read_reply(record.settings, record.address, count, record.reply())
+            };
+            let records = sisalcove_host::reading::sheet::list(sheet)?;
+            let records = records.iter().filter(|record| good(record).is_ok()).count();
+            let text = format!("records {records}\n");
+            line[..text.len()].copy_from_slice(text.as_bytes());
+            return Ok(text.len());
+        }
+        RIGHT.last_line(sheet, line)
+    }
+
+    fn list(&self, sheet: &[u8], text: &mut Vec<u8>) {
+        RIGHT.list(sheet, text);
+        if self.0 == NoLastLine {
+            while text.pop().is_some() && text.last() != Some(&b'\n') {}
+        }
+    }
+
+    fn enrol(&self, rows: &mut [Row], settings: u8, address: u16) -> Answer<()> {
+        let answer = board::enrol(rows, settings, address);
+        if self.0 == RowPastThirtiethUsed && answer == Err(Fault::NoRow) && rows.len() > 30 {
+            return board::enrol(&mut rows[30..], settings, address);
+        }
+        answer
+    }
+
+    fn hear(
+        &self,
+        rows: &mut [Row],
+        address: u16,
+        minute: u32,
+        count: usize,
+        reply: &[u8],
+    ) -> Answer<()> {
+        let before = rows.to_vec();
+        if self.0 == LastRowCounts {
+            let rows = &mut rows[..before.len().min(30)];
+            rows.reverse();
+            let answer = board::hear(rows, address, minute, count, reply);
+            rows.reverse();
+            return answer;
+        }
+        let answer = board::hear(rows, address, minute, count, reply);
+        let mine = rows
+            .iter()
+            .position(|row| row.in_use && row.address == address);
+        match (self.0, answer, mine) {
+            (ReadingClearedByFault, Err(Fault::Parity), Some(mine)) => rows[mine].last = None,
+            (FaultKeptByGoodReply, Ok(()), Some(mine)) => rows[mine].fault = before[mine].fault,
+            (UnknownBeforeForm, Err(Fault::Form), None) => return Err(Fault::Unknown),
+            (SettingsOfRowNotAsked, Err(Fault::Settings), Some(mine)) => {
+                let settings = rows[mine].settings;
+                rows[mine].settings &= 15;
+                let answer = board::hear(rows, address, minute, count, reply);
+                rows[mine].settings = settings;
+                return answer;
+            }
+            _ => {}
+        }
+        answer
+    }
+
+    fn remove(&self, rows: &mut [Row], address: u16) -> Answer<()> {
+        let before = rows.to_vec();
+        board::remove(rows, address)?;
+        if self.0 == RemovalKeepsAddress {
+            for (row, before) in rows.iter_mut().zip(before) {
+                row.address = before.address;
+            }
+        }
+        Ok(())
+    }
+
+    fn look_up(&self, rows: &[Row], address: u16) -> Answer<Standing> {
+        board::look_up(rows, address)
+    }
+
+    fn row(&self, says: &Row) -> Row {
+        *says
+    }
+
+    fn says(&self, row: &Row) -> Row {
+        *row
+    }
+}
