@@ -56,9 +56,11 @@ pub mod BoardPromises
 -- The view of a sheet, and its listing.
 pub mod SheetView
 pub mod ListingWritten
+pub mod ListingReplies
 pub mod ListingInOrder
 pub mod ListingDecimals
 pub mod ListingRecords
 pub mod ListingBench
+pub mod ListingRoom
 pub mod ListingOutcome
 pub mod Listing

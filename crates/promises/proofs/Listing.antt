@@ -4,6 +4,7 @@ use Rattle.promises.proofs.ListingInOrder.{listing-in-order}
 use Rattle.promises.proofs.ListingRecords.{listing-records}
 use Rattle.promises.proofs.ListingDecimals.{listing-decimals}
 use Rattle.promises.proofs.ListingBench.{listing-bench}
+use Rattle.promises.proofs.ListingRoom.{listing-room}
 use Rattle.promises.proofs.ListingOutcome.{listing-outcome}
 use Rattle.promises.proofs.SheetView.{sheet-view}
 
@@ -14,6 +15,7 @@ the-listing =
       records = listing-records;
       decimals = listing-decimals;
       bench = listing-bench;
+      room = listing-room;
       one-outcome = listing-outcome;
       view = sheet-view;
     }

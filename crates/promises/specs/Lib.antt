@@ -35,5 +35,6 @@ pub mod ListingInOrder
 pub mod ListingRecords
 pub mod ListingDecimals
 pub mod ListingBench
+pub mod ListingRoom
 pub mod ListingOutcome
 pub mod Listing
