@@ -10,7 +10,8 @@ use borrow.Author.Tests.{eq-eqb, ne-eqb}
 use lib.Dec.{eqb, lit<, lit≤}
 use Rattle.frame.specs.Charts.{Chart, oneBit, twoBits, feetTens, decimal, inches, sixteenths}
 use Rattle.frame.specs.Level.{widthOf, valuesOf, readRow, writeRow, fractionalMode, decimalMode, twentyMetreMode, thirtyMetreMode, modeOf, putLevel}
-use Rattle.frame.specs.Packed.{chartOf, rowOf, levelCode, readBy, writeBy}
+use Rattle.frame.specs.Packed.{chartOf, rowOf, levelCode, readBy, writeUp, placedAt}
+use Rattle.frame.proofs.Upward.{placed-up}
 
 and-true : (b : Bool) → (b && true) ≡ b
 and-true true = refl
@@ -52,37 +53,37 @@ metres30-read n =
     let few : bits / 2 ^ 16 < 2 ^ 2 = omega arith in
     rw (top-in-four twoBits (decimal ∷ decimal ∷ decimal ∷ decimal ∷ []) bits false 0 0 few (lit≤ tt), mod-one (n / 2 ^ 49), and-true (eqb (n / 2 ^ 27 % 2 ^ 4) 0))
 
-pub fractional-write : (v : ℕ) → writeBy v 4 17 6 15359 0x5432 ≡ putLevel fractionalMode v
-unfolding fractionalMode widthOf valuesOf writeRow rowOf chartOf oneBit twoBits feetTens decimal inches sixteenths
-fractional-write v = refl
-
-pub fractional-values : 15359 < valuesOf (rowOf 0x5432 4)
+fractional-values : 15359 < valuesOf (rowOf 0x5432 4)
 unfolding valuesOf rowOf chartOf oneBit twoBits feetTens decimal inches sixteenths
 fractional-values = lit< tt
 
-pub decimal-write : (v : ℕ) → writeBy v 4 17 6 7999 0x3332 ≡ putLevel decimalMode v
-unfolding decimalMode widthOf valuesOf writeRow rowOf chartOf oneBit twoBits feetTens decimal inches sixteenths
-decimal-write v = refl
+pub fractional-write : (v : ℕ) → placedAt v (writeUp 0x5432 4 v) 17 6 15359 ≡ putLevel fractionalMode v
+unfolding fractionalMode widthOf valuesOf writeRow rowOf chartOf oneBit twoBits feetTens decimal inches sixteenths
+fractional-write v = placed-up v 0x5432 4 17 6 15359 fractional-values
 
-pub decimal-values : 7999 < valuesOf (rowOf 0x3332 4)
+decimal-values : 7999 < valuesOf (rowOf 0x3332 4)
 unfolding valuesOf rowOf chartOf oneBit twoBits feetTens decimal inches sixteenths
 decimal-values = lit< tt
 
-pub metres20-write : (v : ℕ) → writeBy v 5 16 5 19999 0x33330 ≡ putLevel twentyMetreMode v
-unfolding twentyMetreMode widthOf valuesOf writeRow rowOf chartOf oneBit twoBits feetTens decimal inches sixteenths
-metres20-write v = refl
+pub decimal-write : (v : ℕ) → placedAt v (writeUp 0x3332 4 v) 17 6 7999 ≡ putLevel decimalMode v
+unfolding decimalMode widthOf valuesOf writeRow rowOf chartOf oneBit twoBits feetTens decimal inches sixteenths
+decimal-write v = placed-up v 0x3332 4 17 6 7999 decimal-values
 
-pub metres20-values : 19999 < valuesOf (rowOf 0x33330 5)
+metres20-values : 19999 < valuesOf (rowOf 0x33330 5)
 unfolding valuesOf rowOf chartOf oneBit twoBits feetTens decimal inches sixteenths
 metres20-values = lit< tt
 
-pub metres30-write : (v : ℕ) → writeBy v 5 16 4 32699 0x33331 ≡ putLevel thirtyMetreMode v
-unfolding thirtyMetreMode widthOf valuesOf writeRow rowOf chartOf oneBit twoBits feetTens decimal inches sixteenths
-metres30-write v = refl
+pub metres20-write : (v : ℕ) → placedAt v (writeUp 0x33330 5 v) 16 5 19999 ≡ putLevel twentyMetreMode v
+unfolding twentyMetreMode widthOf valuesOf writeRow rowOf chartOf oneBit twoBits feetTens decimal inches sixteenths
+metres20-write v = placed-up v 0x33330 5 16 5 19999 metres20-values
 
-pub metres30-values : 32699 < valuesOf (rowOf 0x33331 5)
+metres30-values : 32699 < valuesOf (rowOf 0x33331 5)
 unfolding valuesOf rowOf chartOf oneBit twoBits feetTens decimal inches sixteenths
 metres30-values = lit< tt
+
+pub metres30-write : (v : ℕ) → placedAt v (writeUp 0x33331 5 v) 16 4 32699 ≡ putLevel thirtyMetreMode v
+unfolding thirtyMetreMode widthOf valuesOf writeRow rowOf chartOf oneBit twoBits feetTens decimal inches sixteenths
+metres30-write v = placed-up v 0x33331 5 16 4 32699 metres30-values
 
 -- the mode of each number
 module _ (k : ℕ) where

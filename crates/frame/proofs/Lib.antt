@@ -4,6 +4,7 @@ pub mod Shifts
 pub mod Tables
 pub mod Digits
 pub mod Upward
+pub mod Straight
 pub mod Constants
 pub mod Signs
 pub mod Three

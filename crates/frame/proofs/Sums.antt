@@ -4,19 +4,18 @@ use mathlib.Core.Bool.{Bool, true, false}
 use Prim.Native.Nat.{ℕ, _+_, _-_, _*_, _/_, _%_, _^_, _<_, _≤_, min}
 use native.Mathlib.Nat.{lt-of-lt-of-le, mul-assoc, mul-comm, mul-mod-left}
 use native.Mathlib.Omega.{arith}
-use borrow.Author.Tests.{leb-true}
 use lib.Dec.{leb, lit≤}
 use lib.Pow.{pow-add, pow-mono, shl-lt, ones-lt}
 use Rattle.frame.specs.declared.Temperature.{Temperature}
 use Rattle.frame.specs.declared.Temperature.the-variants.{Degrees, Above, Below, Absent}
 use Rattle.frame.specs.Line.{put, mark}
-use Rattle.frame.specs.Level.{Mode, valuesOf, writeRow, modeOf, putLevel}
+use Rattle.frame.specs.Level.{Mode, modeOf, putLevel}
 use Rattle.frame.specs.Temperature.{isPlus, magnitude, putDegrees, putDegrees1900, putHeat1900, putDegrees1800, putHeat1800, putHeat, isAbsent}
 use Rattle.frame.specs.declared.Reading.{Reading}
 use Rattle.frame.specs.Reply.{modeIn, is1800, bodyOf}
-use Rattle.frame.specs.Packed.{rowOf, writeBy, digitBits, threeOf}
-use Rattle.frame.proofs.Constants.{fractional-write, decimal-write, metres20-write, metres30-write, fractional-values, decimal-values, metres20-values, metres30-values}
-use Rattle.frame.proofs.Upward.{upward, up-lt, sixteen}
+use Rattle.frame.specs.Packed.{writeUp, placedAt, digitBits, threeOf}
+use Rattle.frame.proofs.Constants.{fractional-write, decimal-write, metres20-write, metres30-write}
+use Rattle.frame.proofs.Upward.{up-lt}
 use Rattle.frame.proofs.Tables.{pick-case}
 use Rattle.frame.proofs.Verdict.{every-mode}
 
@@ -32,24 +31,21 @@ shifted a j fill h w =
       ends = rw (pow-add 2 27 fill, mul-comm (2 ^ 27) (2 ^ fill), ← mul-assoc a (2 ^ fill) (2 ^ 27)) (mul-mod-left (a * 2 ^ fill) (2 ^ 27));
     }
 
-written-lt : (row digits v : ℕ) → v < valuesOf (rowOf row digits) → writeRow (rowOf row digits) false v < 2 ^ (4 * digits)
-written-lt row digits v h = rw (← upward row digits v h, sixteen digits) (up-lt row digits v)
-
-by-constants : (v digits first fill largest row : ℕ) → largest < valuesOf (rowOf row digits) → 16 ≤ first → first ≤ 17 → fill ≤ 6 → 4 * digits + (27 + fill) ≤ 53 → Middle (writeBy v digits first fill largest row)
-by-constants v digits first fill largest row values low high room total = go (leb v largest) refl
+placed : (v codes bits first fill largest : ℕ) → codes < 2 ^ bits → 16 ≤ first → first ≤ 17 → fill ≤ 6 → bits + (27 + fill) ≤ 53 → Middle (placedAt v codes first fill largest)
+placed v codes bits first fill largest few low high room total = go (leb v largest) refl
   where
-    go : (b : Bool) → leb v largest ≡ b → Middle (writeBy v digits first fill largest row)
-    go true e = rw e (shifted (writeRow (rowOf row digits) false v) (4 * digits) fill (written-lt row digits v (omega (arith, leb-true v largest e))) total)
+    go : (b : Bool) → leb v largest ≡ b → Middle (placedAt v codes first fill largest)
+    go true e = rw e (shifted codes bits fill few total)
     go false e = rw e (shifted (2 ^ digitBits first fill - 1) (digitBits first fill) fill (ones-lt (digitBits first fill)) (omega arith))
 
 -- the level's part, in every mode
 pub level-middle : (k v : ℕ) → Middle (putLevel (modeOf k) v)
 level-middle k v =
     every-mode (λ (m : Mode). Middle (putLevel m v))
-    (rw (← fractional-write v) (by-constants v 4 17 6 15359 0x5432 fractional-values (lit≤ tt) (lit≤ tt) (lit≤ tt) (lit≤ tt)))
-    (rw (← decimal-write v) (by-constants v 4 17 6 7999 0x3332 decimal-values (lit≤ tt) (lit≤ tt) (lit≤ tt) (lit≤ tt)))
-    (rw (← metres20-write v) (by-constants v 5 16 5 19999 0x33330 metres20-values (lit≤ tt) (lit≤ tt) (lit≤ tt) (lit≤ tt)))
-    (rw (← metres30-write v) (by-constants v 5 16 4 32699 0x33331 metres30-values (lit≤ tt) (lit≤ tt) (lit≤ tt) (lit≤ tt)))
+    (rw (← fractional-write v) (placed v (writeUp 0x5432 4 v) 16 17 6 15359 (up-lt 0x5432 4 v) (lit≤ tt) (lit≤ tt) (lit≤ tt) (lit≤ tt)))
+    (rw (← decimal-write v) (placed v (writeUp 0x3332 4 v) 16 17 6 7999 (up-lt 0x3332 4 v) (lit≤ tt) (lit≤ tt) (lit≤ tt) (lit≤ tt)))
+    (rw (← metres20-write v) (placed v (writeUp 0x33330 5 v) 20 16 5 19999 (up-lt 0x33330 5 v) (lit≤ tt) (lit≤ tt) (lit≤ tt) (lit≤ tt)))
+    (rw (← metres30-write v) (placed v (writeUp 0x33331 5 v) 20 16 4 32699 (up-lt 0x33331 5 v) (lit≤ tt) (lit≤ tt) (lit≤ tt) (lit≤ tt)))
     k
 
 -- a part that begins at bit 9 of the word and stays below bit 25

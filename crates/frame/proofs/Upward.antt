@@ -1,18 +1,19 @@
 -- Writing from the ones digit up gives what writing from the top gives. The row is taken apart at its last digit: the oddness of the digit
 -- above the last one is the oddness of all that stands above it, because every chart has an even number of values. Assumes nothing.
 use mathlib.Core.Path.{_≡_, refl, sym, ap, _∙_}
-use mathlib.Core.Bool.{Bool, false}
+use mathlib.Core.Bool.{Bool, true, false}
 use mathlib.Core.List.{List, [], _∷_, _++_}
 use Prim.Native.Nat.{ℕ, zero, suc, _+_, _-_, _*_, _/_, _%_, _^_, _<_, _≤_}
-use native.Mathlib.Nat.{lt-of-lt-of-le, mul-pos, mul-one, add-zero, zero-mul, zero-add, div-one, div-eq-of-lt, div-div-eq-div-mul, div-add-mod', mod-eq-of-lt, mod-lt, mul-assoc, mul-comm, div-lt-iff-lt-mul, pow-suc}
+use native.Mathlib.Nat.{mul-pos, mul-one, add-zero, zero-mul, zero-add, div-one, div-eq-of-lt, div-div-eq-div-mul, div-add-mod', mod-eq-of-lt, mod-lt, mul-assoc, mul-comm, div-lt-iff-lt-mul, pow-suc}
 use native.Mathlib.Omega.{arith}
+use borrow.Author.Tests.{leb-true}
 use lib.Arith.{mod-mul, digits-div, digits-mod}
-use lib.Dec.{eqb, lit<}
-use lib.Pow.{pow-add, pow-mono, shl-lt}
+use lib.Dec.{eqb, leb, lit<}
+use lib.Pow.{pow-add, pow-mono}
 use Rattle.frame.specs.Charts.{Chart, sizeOf, isOdd, turned, codeOf}
 use Rattle.frame.specs.Level.{widthOf, valuesOf, writeRow}
-use Rattle.frame.specs.Packed.{chartOf, codesOf, rowOf, writeUp}
-use Rattle.frame.proofs.Digits.{down, turned-lt}
+use Rattle.frame.specs.Packed.{chartOf, codesOf, rowOf, onesCode, writeUp, placedAt}
+use Rattle.frame.proofs.Digits.{turned-lt}
 use Rattle.frame.proofs.Tables.{size-low, size-high, size-even, codes-rule}
 
 -- a row's digit read in four bits
@@ -150,33 +151,13 @@ sixteen (suc k) =
 pub sixteen-le : (k : ℕ) → k ≤ 8 → 16 ^ k ≤ 2 ^ 32
 sixteen-le k h = rw (← sixteen k) (pow-mono {i = 4 * k} {j = 32} (omega arith))
 
--- the written digits fit the word, shifted as far as there is room
-pub shifted-lt : (row left shift v : ℕ) → shift + 4 * left ≤ 63 → writeUp row left v * 2 ^ shift < 2 ^ 64
-shifted-lt row left shift v h =
-    lt-of-lt-of-le (shl-lt (4 * left) shift (rw (sixteen left) (up-lt row left v))) (pow-mono {i = 4 * left + shift} {j = 64} (omega arith))
-
--- the chart of the digit that stands k places below the top, and the code of a level's ones digit by a chart
-abbrev pub chartAt : ℕ → ℕ → Chart
-chartAt row k = chartOf (row / 2 ^ (4 * k) % 16)
-
-abbrev pub onesCode : Chart → ℕ → ℕ
-onesCode c v = codeOf (isOdd (v / sizeOf c)) c (v % sizeOf c)
-
-spread : (a b p : ℕ) → (a + 16 * b) * p ≡ a * p + b * (p * 16)
-spread a b p = omega arith
-
-one-up : (row shift v k : ℕ)
-    → writeUp row (suc k) v * 2 ^ shift ≡ onesCode (chartAt row k) v * 2 ^ shift + writeUp row k (v / sizeOf (chartAt row k)) * 2 ^ (shift + 4)
-unfolding writeUp
-one-up row shift v k =
-    rw (sixteen k, pow-add 2 shift 4)
-    (spread (onesCode (chartOf (row / 16 ^ k % 16)) v) (writeUp row k (v / sizeOf (chartOf (row / 16 ^ k % 16)))) (2 ^ shift))
-
--- one digit of the writer: the ones digit where it stands, and the digits above it four bits further up
-pub write-step : (row shift v left : ℕ) → 0 < left
-    → writeUp row left v * 2 ^ shift
-    ≡ onesCode (chartAt row (left - 1)) v * 2 ^ shift + writeUp row (left - 1) (v / sizeOf (chartAt row (left - 1))) * 2 ^ (shift + 4)
-write-step row shift v =
-    down
-    (λ (n k : ℕ). writeUp row n v * 2 ^ shift ≡ onesCode (chartAt row k) v * 2 ^ shift + writeUp row k (v / sizeOf (chartAt row k)) * 2 ^ (shift + 4))
-    (one-up row shift v)
+-- so a level within its mode is placed the same from either end
+pub placed-up : (v row left first fill largest : ℕ) → largest < valuesOf (rowOf row left)
+    → placedAt v (writeUp row left v) first fill largest ≡ placedAt v (writeRow (rowOf row left) false v) first fill largest
+placed-up v row left first fill largest h = by (leb v largest) refl
+  where
+    by : (b : Bool) → leb v largest ≡ b → placedAt v (writeUp row left v) first fill largest ≡ placedAt v (writeRow (rowOf row left) false v) first fill largest
+    by true e =
+        let within : v ≤ largest = leb-true v largest e in
+        ap (λ (n : ℕ). placedAt v n first fill largest) (upward row left v (omega arith))
+    by false e = rw e

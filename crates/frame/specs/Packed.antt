@@ -56,13 +56,17 @@ abbrev pub readCode : Level → ℕ
 readCode (known v) = v
 readCode (lost k) = 2 ^ 32 + k
 
--- The digits of a level written from the ones digit up, in four bits each. A digit above is odd exactly if all that stands above is odd,
--- because every chart has an even number of values.
+-- The code of a level's ones digit by its chart. The digit above is odd exactly if all that stands above is odd, because every chart has
+-- an even number of values.
+abbrev pub onesCode : Chart → ℕ → ℕ
+onesCode c v = codeOf (isOdd (v / sizeOf c)) c (v % sizeOf c)
+
+-- The digits of a level written from the ones digit up, in four bits each.
 unfoldable pub writeUp : ℕ → ℕ → ℕ → ℕ
 writeUp row zero v = 0
 writeUp row (suc left) v =
     let c = chartOf (row / 16 ^ left % 16) in
-    codeOf (isOdd (v / sizeOf c)) c (v % sizeOf c) + 16 * writeUp row left (v / sizeOf c)
+    onesCode c v + 16 * writeUp row left (v / sizeOf c)
 
 -- What reading a level gives: the level, or 65,536 times the fault, to which 7 adds the place of the digit.
 abbrev pub levelNumber : ℕ → Level → ℕ
@@ -86,9 +90,9 @@ readBy n digits first fill largest row =
     (levelNumber largest (readRow (rowOf row digits) (n / 2 ^ (27 + fill) % 2 ^ digitBits first fill) false 0 0))
     (6 * 65536)
 
-abbrev pub writeBy : ℕ → ℕ → ℕ → ℕ → ℕ → ℕ → ℕ
-writeBy v digits first fill largest row =
-    pick (leb v largest) (writeRow (rowOf row digits) false v) (2 ^ digitBits first fill - 1) * 2 ^ (27 + fill)
+-- The codes of a level's digits in their place, or every digit bit 1 where the level is outside its mode.
+abbrev pub placedAt : ℕ → ℕ → ℕ → ℕ → ℕ → ℕ
+placedAt v codes first fill largest = pick (leb v largest) codes (2 ^ digitBits first fill - 1) * 2 ^ (27 + fill)
 
 -- Three decimal digits whose last bit stands `shift` bits above the word's lowest: their number, or 1000 where one is above 9.
 unfoldable pub threeBy : ℕ → ℕ → ℕ

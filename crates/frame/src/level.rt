@@ -1,11 +1,11 @@
-// Level: the digits of a row read one after another from the top, and written from the ones digit up.
+// Level: the digits of a row read one after another from the top, and the codes of a level's digits placed on the line.
 ghost use mathlib.Core.Path.{_≡_};
 ghost use Prim.Native.Nat.{_+_, _-_, _*_, _/_, _%_, _^_, _<_, _≤_};
-ghost use Rattle.frame.specs.Charts.{sizeOf, isOdd, codeOf};
+ghost use Rattle.frame.specs.Charts.{sizeOf};
 ghost use lib.Dec.{eqb};
 ghost use mathlib.Core.Bool.{_&&_};
-ghost use Rattle.frame.specs.Level.{readRow, valuesOf};
-ghost use Rattle.frame.specs.Packed.{chartOf, digitOf, rowOf, readCode, writeUp, fillAt, digitBits, readBy, writeBy};
+ghost use Rattle.frame.specs.Level.{readRow};
+ghost use Rattle.frame.specs.Packed.{chartOf, digitOf, rowOf, readCode, onesCode, writeUp, fillAt, readBy, placedAt};
 use crate::charts;
 
 // What the reader gives for a digit in no chart: this, and the digit's place. Every level is below it.
@@ -47,25 +47,20 @@ pub(crate) fn read_digits(row: u64, left: u64, bits: u64, odd: bool, sofar: u64,
     read_digits(row / 16, left - 1, bits, d % 2 == 1, next, place + 1)
 }
 
-// The code of the ones digit of a level: the digit above is odd exactly if all that stands above is.
-fn ones_code(chart: u64, v: u64) -> u64
-    ensures { λ r. ⌜ r ≡ codeOf (isOdd (v / sizeOf (chartOf chart))) (chartOf chart) (v % sizeOf (chartOf chart)) ⌝ }
+// The code of the ones digit of a level: the digit above is odd exactly if all that stands above is. Handed a chart by its constant
+// number, this is a multiplication and two shifts.
+pub(crate) fn ones_code(chart: u64, v: u64) -> u64
+    ensures { λ r. ⌜ (r ≡ onesCode (chartOf chart) v) × (r < 16) ⌝ }
 {
     let above = charts::over(chart, v);
     charts::code(chart, v - above * charts::size(chart), above % 2 == 1)
 }
 
-// The digits of a level are written from the ones digit up, each in four bits, the ones digit at `shift`.
-pub(crate) fn write_digits(row: u64, left: u64, shift: u64, v: u64) -> u64
-    requires { ⌜ shift + 4 * left ≤ 63 ⌝ }
-    ensures { λ r. ⌜ r ≡ writeUp row left v * 2 ^ shift ⌝ }
+// The last three decimal digits of a level in their codes, as three of the modes have them.
+pub(crate) fn three_decimals(v: u64) -> u64
+    ensures { λ r. ⌜ (r ≡ writeUp 0x333 3 v) × (r < 4096) ⌝ }
 {
-    if left == 0 {
-        return 0;
-    }
-    let chart = (row >> (4 * (left - 1))) % 16;
-    let low = ones_code(chart, v) << shift;
-    low + write_digits(row, left - 1, shift + 4, charts::over(chart, v))
+    ones_code(3, v) + 16 * ones_code(3, v / 10) + 256 * ones_code(3, v / 100)
 }
 
 // The fill bits of a mode are 0: those from bit 16 up to its first digit bit, and those after its digits up to bit 37.
@@ -103,17 +98,16 @@ pub(crate) fn read_by(n: u64, digits: u64, first: u64, fill: u64, largest: u64, 
     v
 }
 
-// A level's bits by its mode's constants. A level outside its mode has every digit bit 1; the fill is 0.
-pub(crate) fn write_by(v: u64, digits: u64, first: u64, fill: u64, largest: u64, start: u64) -> u64
-    requires { ⌜ digits ≤ 5 ⌝ }
+// A level's bits by its mode's constants and its digits in their codes. A level outside its mode has every digit bit 1; the fill is 0.
+pub(crate) fn write_by(v: u64, codes: u64, first: u64, fill: u64, largest: u64) -> u64
+    requires { ⌜ codes < 2 ^ 20 ⌝ }
     requires { ⌜ 16 ≤ first ⌝ }
     requires { ⌜ first ≤ 17 ⌝ }
     requires { ⌜ fill ≤ 6 ⌝ }
-    requires { ⌜ largest < valuesOf (rowOf start digits) ⌝ }
-    ensures { λ r. ⌜ r ≡ writeBy v digits first fill largest start ⌝ }
+    ensures { λ r. ⌜ r ≡ placedAt v codes first fill largest ⌝ }
 {
     if v <= largest {
-        return write_digits(start, digits, 27 + fill, v);
+        return codes << (27 + fill);
     }
     ((1 << (38 - first - fill)) - 1) << (27 + fill)
 }

@@ -126,16 +126,11 @@ pub fn write_reply(settings: u8, address: u16, reading: Reading, out: &mut [u8])
     if 999 < address {
         return Written::Refused(11);
     }
-    if writing::is_absent(t) {
-        if out.len() < 5 {
-            return Written::Refused(15);
-        }
-        writing::store_5(writing::whole_line(settings, address, reading), out);
-        return Written::Bytes(5);
-    }
-    if out.len() < 7 {
+    let short = writing::is_absent(t);
+    let size = writing::size_for(short);
+    if out.len() < size {
         return Written::Refused(15);
     }
-    writing::store_7(writing::whole_line(settings, address, reading), out);
-    Written::Bytes(7)
+    writing::store(writing::whole_line(settings, address, reading), short, out);
+    Written::Bytes(size)
 }

@@ -31,20 +31,6 @@ pub(crate) fn mark(b: bool) -> u64
     if b { 1 } else { 0 }
 }
 
-// The marks of a line, counted over its bytes.
-pub(crate) fn marks(reply: &[u8]) -> u32
-    requires { ⌜ length (now reply) ≤ 8 ⌝ }
-    ensures { λ r. ⌜ r ≡ marks (now (reply .entry)) ⌝ }
-{
-    let mut n: u32 = 0;
-    let mut i = 0;
-    while i < reply.len() {
-        n += u8::count_ones(reply[i]);
-        i += 1;
-    }
-    n
-}
-
 // Two bytes, words or double words as one number, the first of them higher.
 pub(crate) fn two(a: u8, b: u8) -> u16
     ensures { λ r. ⌜ r ≡ a * 256 + b ⌝ }
@@ -78,6 +64,16 @@ pub(crate) fn pack(reply: &[u8]) -> u64
     eight(front, four(two(reply[4], 0), 0))
 }
 
+// The marks of a reply, counted over its bytes, which stand in one word: one count for them all.
+pub(crate) fn marks(reply: &[u8]) -> u32
+    requires { ⌜ 5 ≤ length (now reply) ⌝ }
+    requires { ⌜ length (now reply) ≤ 7 ⌝ }
+    requires { ⌜ length (now reply) ≢ 6 ⌝ }
+    ensures { λ r. ⌜ r ≡ marks (now (reply .entry)) ⌝ }
+{
+    u64::count_ones(pack(reply))
+}
+
 // Three decimal digits, the last at `shift` bits above the lowest bit: their number, or 1000 where one is above 9.
 pub(crate) fn three(n: u64, shift: u64) -> u64
     requires { ⌜ shift ≤ 49 ⌝ }
@@ -98,10 +94,11 @@ pub(crate) fn three(n: u64, shift: u64) -> u64
     hundreds * 100 + tens * 10 + units
 }
 
-// A number up to 999 as three digits of four bits.
+// A number up to 999 as three digits of four bits: a ten is 16 there and a hundred 256, so that every ten adds 6 and every hundred 96
+// more.
 pub(crate) fn three_of(v: u64) -> u64
     requires { ⌜ v ≤ 999 ⌝ }
     ensures { λ r. ⌜ r ≡ threeOf v ⌝ }
 {
-    v / 100 * 256 + v / 10 % 10 * 16 + v % 10
+    v + 6 * (v / 10) + 96 * (v / 100)
 }

@@ -2,8 +2,9 @@
 // starting state of the digit reader, which is its row of charts: four bits a digit, the top digit lowest. The first digit is always
 // read straight.
 ghost use mathlib.Core.Path.{_≡_};
+ghost use Prim.Native.Nat.{_<_, _^_};
 ghost use Rattle.frame.specs.Level.{modeOf, fractionalMode, decimalMode, twentyMetreMode, thirtyMetreMode, putLevel};
-ghost use Rattle.frame.specs.Packed.{levelCode};
+ghost use Rattle.frame.specs.Packed.{levelCode, writeUp};
 use crate::level;
 
 // Feet, inches and sixteenths.
@@ -33,17 +34,20 @@ impl Fractional {
         )
     }
 
+    // The codes of a level's digits, the ones digit lowest, each by its chart.
+    fn codes(v: u64) -> u64
+        ensures { λ r. ⌜ (r ≡ writeUp 0x5432 4 v) × (r < 2 ^ 20) ⌝ }
+    {
+        level::ones_code(5, v)
+            + 16 * level::ones_code(4, v / 16)
+            + 256 * level::ones_code(3, v / 192)
+            + 4096 * level::ones_code(2, v / 1920)
+    }
+
     fn write(v: u64) -> u64
         ensures { λ r. ⌜ r ≡ putLevel fractionalMode v ⌝ }
     {
-        level::write_by(
-            v,
-            Self::DIGITS,
-            Self::FIRST,
-            Self::FILL,
-            Self::LARGEST,
-            Self::START,
-        )
+        level::write_by(v, Self::codes(v), Self::FIRST, Self::FILL, Self::LARGEST)
     }
 }
 
@@ -74,17 +78,17 @@ impl Decimal {
         )
     }
 
+    // The codes of a level's digits, the ones digit lowest, each by its chart.
+    fn codes(v: u64) -> u64
+        ensures { λ r. ⌜ (r ≡ writeUp 0x3332 4 v) × (r < 2 ^ 20) ⌝ }
+    {
+        level::three_decimals(v) + 4096 * level::ones_code(2, v / 1000)
+    }
+
     fn write(v: u64) -> u64
         ensures { λ r. ⌜ r ≡ putLevel decimalMode v ⌝ }
     {
-        level::write_by(
-            v,
-            Self::DIGITS,
-            Self::FIRST,
-            Self::FILL,
-            Self::LARGEST,
-            Self::START,
-        )
+        level::write_by(v, Self::codes(v), Self::FIRST, Self::FILL, Self::LARGEST)
     }
 }
 
@@ -115,17 +119,19 @@ impl Metres20 {
         )
     }
 
+    // The codes of a level's digits, the ones digit lowest, each by its chart.
+    fn codes(v: u64) -> u64
+        ensures { λ r. ⌜ (r ≡ writeUp 0x33330 5 v) × (r < 2 ^ 20) ⌝ }
+    {
+        level::three_decimals(v)
+            + 4096 * level::ones_code(3, v / 1000)
+            + 65536 * level::ones_code(0, v / 10000)
+    }
+
     fn write(v: u64) -> u64
         ensures { λ r. ⌜ r ≡ putLevel twentyMetreMode v ⌝ }
     {
-        level::write_by(
-            v,
-            Self::DIGITS,
-            Self::FIRST,
-            Self::FILL,
-            Self::LARGEST,
-            Self::START,
-        )
+        level::write_by(v, Self::codes(v), Self::FIRST, Self::FILL, Self::LARGEST)
     }
 }
 
@@ -156,17 +162,19 @@ impl Metres30 {
         )
     }
 
+    // The codes of a level's digits, the ones digit lowest, each by its chart.
+    fn codes(v: u64) -> u64
+        ensures { λ r. ⌜ (r ≡ writeUp 0x33331 5 v) × (r < 2 ^ 20) ⌝ }
+    {
+        level::three_decimals(v)
+            + 4096 * level::ones_code(3, v / 1000)
+            + 65536 * level::ones_code(1, v / 10000)
+    }
+
     fn write(v: u64) -> u64
         ensures { λ r. ⌜ r ≡ putLevel thirtyMetreMode v ⌝ }
     {
-        level::write_by(
-            v,
-            Self::DIGITS,
-            Self::FIRST,
-            Self::FILL,
-            Self::LARGEST,
-            Self::START,
-        )
+        level::write_by(v, Self::codes(v), Self::FIRST, Self::FILL, Self::LARGEST)
     }
 }
 

@@ -27,7 +27,9 @@ pub(crate) fn whole(count: usize) -> bool
 
 // Parity covers the whole reply, parity bit included: the marks over its bytes, against the even or odd setting.
 fn parity_right(settings: u8, reply: &[u8]) -> bool
-    requires { ⌜ length (now reply) ≤ 8 ⌝ }
+    requires { ⌜ 5 ≤ length (now reply) ⌝ }
+    requires { ⌜ length (now reply) ≤ 7 ⌝ }
+    requires { ⌜ length (now reply) ≢ 6 ⌝ }
     ensures { λ r. ⌜ r ≡ parityRight settings (now (reply .entry)) ⌝ }
 {
     line::marks(reply) % 2 == (settings / 8 % 2) as u32

@@ -4,6 +4,7 @@ ghost use mathlib.Core.List.{_++_};
 ghost use Prim.Native.Nat.{_+_, _/_, _%_, _^_, _≤_};
 ghost use lib.Count.{ones};
 ghost use lib.ListN.{length, drop};
+ghost use Rattle.frame.specs.Pick.{pick};
 ghost use Rattle.frame.specs.Line.{firstBytes};
 ghost use Rattle.frame.specs.Temperature.{isAbsent, putHeat};
 ghost use Rattle.frame.specs.Reply.{is1800, bodyOf, replyLine};
@@ -22,6 +23,13 @@ pub(crate) fn is_absent(t: Temperature) -> bool
         Temperature::Below => false,
         Temperature::Absent => true,
     }
+}
+
+// The bytes of a reply: 5 where it is short, its temperature absent, else 7.
+pub(crate) fn size_for(short: bool) -> usize
+    ensures { λ r. ⌜ r ≡ pick short 5 7 ⌝ }
+{
+    if short { 5 } else { 7 }
 }
 
 // The bits of a temperature by type; none of an absent one.
@@ -77,7 +85,7 @@ fn byte(n: u64, below: u64) -> u8
 }
 
 // The first 5 bytes of a line stored at the front of the output.
-pub(crate) fn store_5(n: u64, out: &mut [u8])
+fn store_5(n: u64, out: &mut [u8])
     requires { ⌜ 5 ≤ length (now out) ⌝ }
     ensures { λ _. ⌜ now (out .exit) ≡ firstBytes 5 n ++ drop 5 (now (out .entry)) ⌝ }
 {
@@ -89,7 +97,7 @@ pub(crate) fn store_5(n: u64, out: &mut [u8])
 }
 
 // The first 7.
-pub(crate) fn store_7(n: u64, out: &mut [u8])
+fn store_7(n: u64, out: &mut [u8])
     requires { ⌜ 7 ≤ length (now out) ⌝ }
     ensures { λ _. ⌜ now (out .exit) ≡ firstBytes 7 n ++ drop 7 (now (out .entry)) ⌝ }
 {
@@ -100,4 +108,16 @@ pub(crate) fn store_7(n: u64, out: &mut [u8])
     out[4] = byte(n, 24);
     out[5] = byte(n, 16);
     out[6] = byte(n, 8);
+}
+
+// The first bytes of a line, 5 of a short reply and 7 of any other.
+pub(crate) fn store(n: u64, short: bool, out: &mut [u8])
+    requires { ⌜ pick short 5 7 ≤ length (now out) ⌝ }
+    ensures { λ _. ⌜ now (out .exit) ≡ firstBytes (pick short 5 7) n ++ drop (pick short 5 7) (now (out .entry)) ⌝ }
+{
+    if short {
+        store_5(n, out);
+    } else {
+        store_7(n, out);
+    }
 }

@@ -1,6 +1,6 @@
 -- `frame::write_reply` meets its contract: a refusal leaves the output, and the bytes stored are those of the reply's line. Assumes nothing.
-use mathlib.Core.Path.{_≡_, sym, ap, _∙_}
-use mathlib.Core.Bool.{true, false}
+use mathlib.Core.Path.{_≡_, ap, _∙_}
+use mathlib.Core.Bool.{Bool, false, true}
 use mathlib.Core.List.{List, _++_}
 use Prim.Native.Nat.{ℕ}
 use native.Mathlib.Omega.{arith}
@@ -9,8 +9,8 @@ use lib.Dec.{ltb}
 use lib.ListN.{length, drop}
 use Rattle.frame.specs.declared.Reading.{Reading}
 use Rattle.frame.specs.declared.Written.the-variants.{Bytes, Refused}
+use Rattle.frame.specs.Pick.{pick}
 use Rattle.frame.specs.Line.{firstBytes}
-use Rattle.frame.specs.Temperature.{isAbsent}
 use Rattle.frame.specs.Reply.{WritesReply, writeReplyFault, replyLine, sizeFor}
 use borrow.Author.Needs.{needs}
 use Rattle.frame.proofs.write_reply.Statement.{statement}
@@ -34,11 +34,9 @@ module _ (settings address : ℕ) (r : Reading) (out : List ℕ) where
     unfolding writeReplyFault
     enough e15 = rw (e10, e11, e15)
 
-size-5 : (r : Reading) → isAbsent (r .temperature) ≡ true → sizeFor r ≡ 5
-size-5 r e = rw e
-
-size-7 : (r : Reading) → isAbsent (r .temperature) ≡ false → sizeFor r ≡ 7
-size-7 r e = rw e
+-- the size asked for is the reply's
+size-is : (c : tie.After-size-for) → c .size-for .result ≡ sizeFor (c .before .before .before .before .before .args .reading)
+size-is c = c .size-for .ensures ∙ ap (λ (b : Bool). pick b 5 7) (c .before .is-absent .ensures)
 
 returns : tie.Need-returns
 unfolding writeReplyFault
@@ -55,65 +53,40 @@ returns-2 c =
 is-absent-requires : tie.Need-is-absent-requires
 is-absent-requires c κs = search needs
 
+size-for-requires : tie.Need-size-for-requires
+size-for-requires c κs = search needs
+
 returns-3 : tie.Need-returns-3
 returns-3 c =
-    let b = c .before .before in
-    let a = b .before .before .before .before .args in
-    let size = size-5 (a .reading) (sym (b .is-absent .ensures) ∙ c .before .if3 .taken) in
+    let b = c .before in
+    let e = b .before .before in
+    let a = e .before .before .before .args in
     refused (a .settings) (a .address) (a .reading) (a .out .now) 15
-    (short (a .settings) (a .address) (a .reading) (a .out .now) (le-ltb _ _ (b .before .before .if1 .left)) (le-ltb _ _ (b .before .if2 .left)) (lt-ltb (length (a .out .now)) (sizeFor (a .reading)) (rw size (c .if4 .taken))))
+    (short (a .settings) (a .address) (a .reading) (a .out .now) (le-ltb _ _ (e .before .if1 .left)) (le-ltb _ _ (e .if2 .left)) (lt-ltb (length (a .out .now)) (sizeFor (a .reading)) (rw (← size-is b) (c .if3 .taken))))
     (omega arith)
 
 whole-line-requires : tie.Need-whole-line-requires
 whole-line-requires c κs = search needs
 
-store-5-requires : tie.Need-store-5-requires
-store-5-requires c κs = search needs
+store-requires : tie.Need-store-requires
+store-requires c κs = search needs
 
 same-length : tie.Need-same-length
 same-length c = search needs
 
 returns-4 : tie.Need-returns-4
 returns-4 c =
-    let b = c .before .before .before .before .before .before .before in
-    let a = b .before .before .before .before .args in
-    let size = size-5 (a .reading) (sym (b .is-absent .ensures) ∙ c .before .before .before .before .before .before .if3 .taken) in
+    let b = c .before .before .before .before .before .before in
+    let e = b .before .before in
+    let a = e .before .before .before .args in
+    let size = size-is b in
+    let none = enough (a .settings) (a .address) (a .reading) (a .out .now) (le-ltb _ _ (e .before .if1 .left)) (le-ltb _ _ (e .if2 .left)) (le-ltb (length (a .out .now)) (sizeFor (a .reading)) (rw (← size) (c .before .before .before .before .before .if3 .left))) in
     let n = c .before .before .before .before .whole-line in
-    let none = enough (a .settings) (a .address) (a .reading) (a .out .now) (le-ltb _ _ (b .before .before .if1 .left)) (le-ltb _ _ (b .before .if2 .left)) (le-ltb (length (a .out .now)) (sizeFor (a .reading)) (rw size (c .before .before .before .before .before .if4 .left))) in
-    let is : c .before .before .store-5 .last .1 .0 ≡ firstBytes 5 (replyLine (a .settings) (a .address) (a .reading)) ++ drop 5 (a .out .now) =
-    c .before .before .store-5 .ensures ∙ ap (λ (w : ℕ). firstBytes 5 w ++ drop 5 (a .out .now)) (n .ensures) in
-    rw size at
-    (written (a .settings) (a .address) (a .reading) (a .out .now) (c .before .before .store-5 .last .1 .0) none (rw size is))
-
-returns-5 : tie.Need-returns-5
-returns-5 c =
-    let b = c .before .before in
-    let a = b .before .before .before .before .args in
-    let size = size-7 (a .reading) (sym (b .is-absent .ensures) ∙ c .before .if3 .left) in
-    refused (a .settings) (a .address) (a .reading) (a .out .now) 15
-    (short (a .settings) (a .address) (a .reading) (a .out .now) (le-ltb _ _ (b .before .before .if1 .left)) (le-ltb _ _ (b .before .if2 .left)) (lt-ltb (length (a .out .now)) (sizeFor (a .reading)) (rw size (c .if5 .taken))))
-    (omega arith)
-
-whole-line-requires-2 : tie.Need-whole-line-requires-2
-whole-line-requires-2 c κs = search needs
-
-store-7-requires : tie.Need-store-7-requires
-store-7-requires c κs = search needs
-
-same-length-2 : tie.Need-same-length-2
-same-length-2 c = search needs
-
-returns-6 : tie.Need-returns-6
-returns-6 c =
-    let b = c .before .before .before .before .before .before .before in
-    let a = b .before .before .before .before .args in
-    let size = size-7 (a .reading) (sym (b .is-absent .ensures) ∙ c .before .before .before .before .before .before .if3 .left) in
-    let n = c .before .before .before .before .whole-line2 in
-    let none = enough (a .settings) (a .address) (a .reading) (a .out .now) (le-ltb _ _ (b .before .before .if1 .left)) (le-ltb _ _ (b .before .if2 .left)) (le-ltb (length (a .out .now)) (sizeFor (a .reading)) (rw size (c .before .before .before .before .before .if5 .left))) in
-    let is : c .before .before .store-7 .last .1 .0 ≡ firstBytes 7 (replyLine (a .settings) (a .address) (a .reading)) ++ drop 7 (a .out .now) =
-    c .before .before .store-7 .ensures ∙ ap (λ (w : ℕ). firstBytes 7 w ++ drop 7 (a .out .now)) (n .ensures) in
-    rw size at
-    (written (a .settings) (a .address) (a .reading) (a .out .now) (c .before .before .store-7 .last .1 .0) none (rw size is))
+    let is : c .before .before .store .last .1 .1 .0 ≡ firstBytes (sizeFor (a .reading)) (replyLine (a .settings) (a .address) (a .reading)) ++ drop (sizeFor (a .reading)) (a .out .now) =
+    c .before .before .store .ensures
+    ∙ ap (λ (t : Bool). firstBytes (pick t 5 7) (n .result) ++ drop (pick t 5 7) (a .out .now)) (b .before .is-absent .ensures)
+    ∙ ap (λ (w : ℕ). firstBytes (sizeFor (a .reading)) w ++ drop (sizeFor (a .reading)) (a .out .now)) (n .ensures) in
+    rw size (written (a .settings) (a .address) (a .reading) (a .out .now) (c .before .before .store .last .1 .1 .0) none is)
 
 pub write-reply-spec : {M : Type 1} → statement M
 write-reply-spec =
@@ -122,13 +95,9 @@ write-reply-spec =
     returns
     returns-2
     is-absent-requires
+    size-for-requires
     returns-3
     whole-line-requires
-    store-5-requires
+    store-requires
     same-length
-    returns-4
-    returns-5
-    whole-line-requires-2
-    store-7-requires
-    same-length-2
-    returns-6)
+    returns-4)

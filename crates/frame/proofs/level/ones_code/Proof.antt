@@ -3,9 +3,10 @@ use mathlib.Core.Path.{_≡_, _∙_}
 use Prim.Native.Nat.{ℕ, _+_, _-_, _*_, _/_, _%_}
 use native.Mathlib.Nat.{div-add-mod', mod-lt}
 use native.Mathlib.Omega.{arith}
-use Rattle.frame.specs.Charts.{sizeOf}
-use Rattle.frame.specs.Packed.{chartOf}
+use Rattle.frame.specs.Charts.{sizeOf, isOdd}
+use Rattle.frame.specs.Packed.{chartOf, onesCode}
 use Rattle.frame.proofs.Tables.{size-low}
+use Rattle.frame.proofs.Upward.{code-lt}
 use borrow.Author.Needs.{needs}
 use Rattle.frame.proofs.level.ones_code.Statement.{statement}
 use Rattle.frame.proofs.level.ones_code.Tie as tie
@@ -35,9 +36,11 @@ code-requires c κs =
 returns : tie.Need-returns
 returns c =
     let v = c .before .before .before .args .v in
-    let left : v - c .before .before .over .result * c .before .size .result ≡ v % sizeOf (chartOf (c .before .before .before .args .chart)) =
+    let chart = c .before .before .before .args .chart in
+    let left : v - c .before .before .over .result * c .before .size .result ≡ v % sizeOf (chartOf chart) =
     omega (arith, split v (c .before .before .over .ensures) (c .before .size .ensures)) in
-    c .code .ensures ∙ rw (left, c .before .before .over .ensures)
+    let is : c .code .result ≡ onesCode (chartOf chart) v = c .code .ensures ∙ rw (left, c .before .before .over .ensures) in
+    (is, rw is (code-lt chart (isOdd (v / sizeOf (chartOf chart))) (v % sizeOf (chartOf chart)) (mod-lt v (omega (arith, size-low chart)))))
 
 pub ones-code-spec : {M : Type 1} → statement M
 ones-code-spec =

@@ -1,15 +1,23 @@
 -- `frame::modes::Fractional::write` meets its contract: its constants give what its mode says. Assumes nothing.
-use mathlib.Core.Path.{_∙_}
-use native.Mathlib.Omega.{arith}
-use Rattle.frame.proofs.Constants.{fractional-write, fractional-values}
+use mathlib.Core.Path.{_≡_, ap, _∙_}
+use Prim.Native.Nat.{ℕ}
+use Rattle.frame.specs.Packed.{writeUp, placedAt}
+use Rattle.frame.proofs.Constants.{fractional-write}
+use borrow.Author.Needs.{needs}
 use Rattle.frame.proofs.modes.Fractional.write.Statement.{statement}
 use Rattle.frame.proofs.modes.Fractional.write.Tie as tie
 
+codes-requires : tie.Need-codes-requires
+codes-requires c κs = search needs
+
 write-by-requires : tie.Need-write-by-requires
-write-by-requires c κs = (omega arith, (omega arith, (omega arith, (omega arith, fractional-values))))
+write-by-requires c κs = search needs
 
 returns : tie.Need-returns
-returns c = c .write-by .ensures ∙ fractional-write (c .before .args .v)
+returns c =
+    let v = c .before .before .args .v in
+    let is : c .write-by .result ≡ placedAt v (writeUp 0x5432 4 v) 17 6 15359 = c .write-by .ensures ∙ ap (λ (n : ℕ). placedAt v n 17 6 15359) (c .before .codes .ensures .0) in
+    is ∙ fractional-write v
 
 pub write-spec : {M : Type 1} → statement M
-write-spec = tie.close (tie.spec write-by-requires returns)
+write-spec = tie.close (tie.spec codes-requires write-by-requires returns)

@@ -1,0 +1,47 @@
+-- `frame::modes::Metres20::codes` meets its contract: the codes of its digits in one sum. Assumes nothing.
+use mathlib.Core.Path.{sym}
+use native.Mathlib.Omega.{arith}
+use Rattle.frame.specs.Packed.{chartOf}
+use Rattle.frame.proofs.Straight.{metres20-up}
+use borrow.Author.Needs.{needs}
+use Rattle.frame.proofs.modes.Metres20.codes.Statement.{statement}
+use Rattle.frame.proofs.modes.Metres20.codes.Tie as tie
+
+three-decimals-requires : tie.Need-three-decimals-requires
+three-decimals-requires c κs = search needs
+
+ones-code-requires : tie.Need-ones-code-requires
+ones-code-requires c κs = search needs
+
+mul-result : tie.Need-mul-result
+mul-result c = search needs
+
+add-result : tie.Need-add-result
+add-result c = search needs
+
+ones-code-requires-2 : tie.Need-ones-code-requires-2
+ones-code-requires-2 c κs = search needs
+
+mul-result-2 : tie.Need-mul-result-2
+mul-result-2 c = search needs
+
+add-result-2 : tie.Need-add-result-2
+add-result-2 c = search needs
+
+returns : tie.Need-returns
+unfolding chartOf
+returns c =
+    (rw (c .before .before .three-decimals .ensures .0, c .before .ones-code .ensures .0, c .ones-code2 .ensures .0) (sym (metres20-up (c .before .before .before .args .v))), omega arith)
+
+pub codes-spec : {M : Type 1} → statement M
+codes-spec =
+    tie.close
+    (tie.spec
+    three-decimals-requires
+    ones-code-requires
+    mul-result
+    add-result
+    ones-code-requires-2
+    mul-result-2
+    add-result-2
+    returns)
