@@ -6,7 +6,7 @@ use mathlib.Core.List.{List}
 use Prim.Native.Nat.{ℕ, _<_, _≤_}
 use native.Mathlib.Omega.{arith}
 use lib.Dec.{eqb, leb}
-use lib.ListN.{length, getD}
+use lib.ListN.{length}
 use Rattle.frame.specs.declared.Reply.{Reply}
 use Rattle.frame.specs.declared.Reply.the-variants.{Read, Refused}
 use Rattle.frame.specs.Line.{line, formed}
@@ -14,10 +14,10 @@ use Rattle.frame.specs.Pick.{pick}
 use Rattle.frame.specs.Reply.{replyOf, readingAt}
 use Rattle.board.specs.declared.Row.{Row}
 use Rattle.board.specs.declared.value.Change.{Change}
-use Rattle.board.specs.Row.{freeRow}
+use Rattle.board.specs.declared.value.Found.{Found}
 use Rattle.board.specs.Rows.{placeOf, rowOf}
 use Rattle.board.specs.Calls.{hearNumber, hearRows}
-use Rattle.board.specs.ByValue.{Changes, refusal, heardChange}
+use Rattle.board.specs.ByValue.{Finds, Changes, refusal, heardChange}
 use Rattle.board.proofs.Numbers.{hear-read}
 use Rattle.board.proofs.OneRow.{unheard, hears}
 
@@ -40,12 +40,12 @@ module _ (board : List Row) (few : length board ≤ 30) (address minute count : 
   here a f l is =
       hears board few (placeOf address board) row minute (readingAt (row .settings) count (line reply)) number c (replyOf (row .settings) address count reply) is (ap by-number (sym (hear-read board address count reply a f l))) l
 
-  -- the same, of a row at a place that was found, and of an answer that was given
-  pub hear-changes : (at : ℕ) (read : Row) (answer : Reply) → address ≤ 999 → formed count reply ≡ true → at < length board → at ≡ placeOf address board → read ≡ getD board at freeRow → answer ≡ replyOf (read .settings) address count reply → c ≡ heardChange at read minute answer → Changes board number (hearRows board address minute count reply) c
-  hear-changes at read answer a f l e r w is =
-      let same : read ≡ row = r ∙ ap (λ (i : ℕ). getD board i freeRow) e in
-      here a f (omega arith)
+  -- the same, of what a search found, and of an answer that was given
+  pub hear-changes : (f : Found) (answer : Reply) → Finds board address f → address ≤ 999 → formed count reply ≡ true → f .at < f .n → answer ≡ replyOf (f .row .settings) address count reply → c ≡ heardChange (f .at) (f .row) minute answer → Changes board number (hearRows board address minute count reply) c
+  hear-changes f answer finds a form l w is =
+      let same : f .row ≡ row = finds .there l in
+      here a form (omega (arith, finds .count, finds .place))
       (is
-      ∙ ap (λ (i : ℕ). heardChange i read minute answer) e
+      ∙ ap (λ (i : ℕ). heardChange i (f .row) minute answer) (finds .place)
       ∙ ap (λ (y : Row). heardChange (placeOf address board) y minute answer) same
       ∙ ap (λ (x : Reply). heardChange (placeOf address board) row minute x) (w ∙ ap (λ (y : Row). replyOf (y .settings) address count reply) same))

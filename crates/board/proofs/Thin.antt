@@ -79,15 +79,15 @@ module _ {M : Type 1} (𝓤 : URA M) (H : Heap 𝓤) (A : Atoms 𝓤) (mem : Mem
     goes-load κ q δ =
         qed W (‵ (flft κ q) ∷ ‵ (ShrSlice (named 0) κ T.the-row .own (lent-as δ) (slice-val ∷ [])) ∷ []) ∵ nothing ! $ move ! (1 ∷ 0 ∷ []) $ join ! $ nothing ! $ move ! (2 ∷ 0 ∷ []) $ fjoin ! $ move ! (1 ∷ 0 ∷ []) $ join ! $ frame ! $ done !
 
-    abbrev pub to-put : Lft → Share → GName → Board → Change → Put .Ghost
-    to-put κ q γ r c = (((κ, tt), (q, tt), tt, (lent-as γ, (r .n, (c, tt))), (slice-val ∷ [], (vint w64 (r .n) ∷ [], (change-val c ∷ [], tt)))), tt)
+    abbrev pub to-put : Lft → Share → GName → ℕ → Change → Put .Ghost
+    to-put κ q γ n c = (((κ, tt), (q, tt), tt, (lent-as γ, (n, (c, tt))), (slice-val ∷ [], (vint w64 n ∷ [], (change-val c ∷ [], tt)))), tt)
 
-    pub goes-put : (κ : Lft) (q : Share) (γ : GName) (r : Board) (c : Change) → r .n ≤ length ys → r .n < 2 ^ 64 → Is D.the-row c (change-val c ∷ [])
-        → ent 𝓤 (sep 𝓤 (A .lft κ q) (sem 𝓤 H A (MutSlice (named 0) κ T.the-row .own (lent-as γ) (slice-val ∷ [])))) (Put .pre (to-put κ q γ r c))
-    goes-put κ q γ r c within n-fits is =
+    pub goes-put : (κ : Lft) (q : Share) (γ : GName) (n : ℕ) (c : Change) → n ≤ length ys → n < 2 ^ 64 → Is D.the-row c (change-val c ∷ [])
+        → ent 𝓤 (sep 𝓤 (A .lft κ q) (sem 𝓤 H A (MutSlice (named 0) κ T.the-row .own (lent-as γ) (slice-val ∷ [])))) (Put .pre (to-put κ q γ n c))
+    goes-put κ q γ n c within n-fits is =
         qed W (‵ (flft κ q) ∷ ‵ (MutSlice (named 0) κ T.the-row .own (lent-as γ) (slice-val ∷ [])) ∷ []) ∵ says ! within $ nothing ! $ move ! (1 ∷ 0 ∷ []) $ join ! $ frame ! $
-        nothing ! $ owned ! D.the-row (Is D.the-row) (LL.makes D.the-type D′.the-plain 𝓤 H A) c _ is $ fjoin ! $ owned ! usize (Is usize) (uint-makes 𝓤 H A W w64) (r .n) _ (refl, n-fits) $ fjoin ! $ move ! (1 ∷ 0 ∷ []) $ fjoin ! $ done !
+        nothing ! $ owned ! D.the-row (Is D.the-row) (LL.makes D.the-type D′.the-plain 𝓤 H A) c _ is $ fjoin ! $ owned ! usize (Is usize) (uint-makes 𝓤 H A W w64) n _ (refl, n-fits) $ fjoin ! $ move ! (1 ∷ 0 ∷ []) $ fjoin ! $ done !
 
     -- what `put` leaves of the rows zs, and the number that it answers
-    abbrev pub Stored : Board → Change → ℕ → List Row → Type 0
-    Stored r c f zs = (f ≡ c .number) × (zs ≡ putIn (r .n) (c .at) (c .row) ys)
+    abbrev pub Stored : ℕ → Change → ℕ → List Row → Type 0
+    Stored n c f zs = (f ≡ c .number) × (zs ≡ putIn n (c .at) (c .row) ys)

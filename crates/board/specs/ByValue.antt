@@ -2,7 +2,7 @@
 -- document 01 need not believe this file.
 use mathlib.Core.Path.{_≡_}
 use mathlib.Core.List.{List}
-use Prim.Native.Nat.{ℕ}
+use Prim.Native.Nat.{ℕ, _<_, _≤_}
 use lib.Dec.{eqb, leb, ltb}
 use lib.ListN.{length, take, set}
 use Rattle.frame.specs.declared.Reply.{Reply}
@@ -12,8 +12,10 @@ use Rattle.frame.specs.Pick.{pick}
 use Rattle.board.specs.declared.Row.{Row}
 use Rattle.board.specs.declared.value.Board.{Board}
 use Rattle.board.specs.declared.value.Change.{Change}
+use Rattle.board.specs.declared.value.Found.{Found}
 use Rattle.board.specs.Row.{kindOf, tenthsOf, freeRow, withReading, withFault}
-use Rattle.board.specs.Rows.{boardOf}
+use Rattle.board.specs.Rows.{boardOf, placeOf, rowOf}
+use Rattle.board.specs.Calls.{hearNumber, hearRows}
 
 -- A row with the kind and the tenths of a temperature.
 abbrev pub withTemperature : Row → Temperature → Row
@@ -32,6 +34,13 @@ rowsOf b = take (b .n) (b .rows)
 pub record Loaded (rows : List Row) (b : Board) : Type 0 where
   pub count : b .n ≡ length (boardOf rows)
   pub held : rowsOf b ≡ boardOf rows
+
+-- What a search for an address finds on a board: how many rows it has, the place of the row, which is that number where there is
+-- none, and the row where there is one.
+pub record Finds (board : List Row) (address : ℕ) (f : Found) : Type 0 where
+  pub count : f .n ≡ length board
+  pub place : f .at ≡ placeOf address board
+  pub there : f .at < f .n → f .row ≡ rowOf address board
 
 -- How many of so many rows count.
 abbrev pub counted : ℕ → ℕ
@@ -54,3 +63,7 @@ refusal number = record { at = 30; row = freeRow; number = number }
 abbrev pub heardChange : ℕ → Row → ℕ → Reply → Change
 heardChange at row minute (Read r) = record { at = at; row = withReading row r minute; number = 0 }
 heardChange at row minute (Refused n) = pick (leb n 9) (record { at = at; row = withFault row n; number = n }) (refusal n)
+
+-- The change is that of hearing a reply, on every board of at most 30 rows on which a search finds f.
+pub record HearsOn (f : Found) (address minute count : ℕ) (reply : List ℕ) (c : Change) : Type 0 where
+  pub on : (board : List Row) → length board ≤ 30 → Finds board address f → Changes board (hearNumber board address count reply) (hearRows board address minute count reply) c

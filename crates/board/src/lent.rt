@@ -2,12 +2,14 @@
 ghost use mathlib.Core.Path.{_≡_};
 ghost use Prim.Native.Nat.{_≤_};
 ghost use lib.ListN.{length};
-ghost use Rattle.board.specs.ByValue.{Loaded, counted, putIn};
+ghost use Rattle.board.specs.Rows.{boardOf};
+ghost use Rattle.board.specs.ByValue.{Loaded, Finds, counted, putIn};
 use crate::Row;
 use crate::rows;
 use crate::value;
 use crate::value::Board;
 use crate::value::Change;
+use crate::value::Found;
 
 // The first 30 rows count.
 fn counted(len: usize) -> usize
@@ -28,6 +30,14 @@ pub(crate) fn load(rows: &[Row]) -> Board
         i = i + 1;
     }
     value::of_rows(held, n)
+}
+
+// Finds the row of an address among the rows that count.
+pub(crate) fn find(rows: &[Row], address: u16) -> Found
+    ensures { λ r. ⌜ Finds (boardOf (now (rows .entry))) address r ⌝ }
+{
+    let b = load(rows);
+    value::find(b, address)
 }
 
 // Makes the change where its place is below n, the number of rows that count, so never past the thirtieth; and answers its number.

@@ -63,9 +63,9 @@ pub extern "C" fn sisal_board_hear<'r, 'b>(
 ) -> u8
     ensures { λ r. ⌜ Hears (now (rows .entry)) address minute count (now (reply .entry)) r (now (rows .exit)) ⌝ }
 {
-    let b = lent::load(rows);
-    let c = value::hear(b, address, minute, count, reply);
-    lent::put(rows, b.n, c)
+    let f = lent::find(rows, address);
+    let c = value::hear(f, address, minute, count, reply);
+    lent::put(rows, f.n, c)
 }
 
 // Removes a transmitter and leaves its row free: 0; or 11 asked address, 17 unknown.

@@ -6,10 +6,9 @@ use mathlib.Core.List.{List, [], _∷_}
 use Prim.Native.Nat.{ℕ, _-_, _/_, _%_, _^_, _<_, _≤_}
 use native.Mathlib.Nat.{mod-eq-of-lt, mod-one}
 use native.Mathlib.Omega.{arith}
-use borrow.Author.Tests.{eq-eqb, ne-eqb}
 use lib.Dec.{eqb, lit<, lit≤}
 use Rattle.frame.specs.Charts.{Chart, oneBit, twoBits, feetTens, decimal, inches, sixteenths}
-use Rattle.frame.specs.Level.{widthOf, valuesOf, readRow, writeRow, fractionalMode, decimalMode, twentyMetreMode, thirtyMetreMode, modeOf, putLevel}
+use Rattle.frame.specs.Level.{widthOf, valuesOf, readRow, writeRow, fractionalMode, decimalMode, twentyMetreMode, thirtyMetreMode, putLevel}
 use Rattle.frame.specs.Packed.{chartOf, rowOf, levelCode, readBy, writeUp, placedAt}
 use Rattle.frame.proofs.Upward.{placed-up}
 
@@ -84,21 +83,3 @@ metres30-values = lit< tt
 pub metres30-write : (v : ℕ) → placedAt v (writeUp 0x33331 5 v) 16 4 32699 ≡ putLevel thirtyMetreMode v
 unfolding thirtyMetreMode widthOf valuesOf writeRow rowOf chartOf oneBit twoBits feetTens decimal inches sixteenths
 metres30-write v = placed-up v 0x33331 5 16 4 32699 metres30-values
-
--- the mode of each number
-module _ (k : ℕ) where
-  pub mode-0 : k ≡ 0 → modeOf k ≡ fractionalMode
-  unfolding modeOf
-  mode-0 e = simp (eq-eqb _ _ e)
-
-  pub mode-1 : k ≡ 1 → modeOf k ≡ decimalMode
-  unfolding modeOf
-  mode-1 e = rw e
-
-  pub mode-2 : k ≡ 2 → modeOf k ≡ twentyMetreMode
-  unfolding modeOf
-  mode-2 e = rw e
-
-  pub mode-else : (k ≡ 0 → ⊥) → (k ≡ 1 → ⊥) → (k ≡ 2 → ⊥) → modeOf k ≡ thirtyMetreMode
-  unfolding modeOf
-  mode-else a b c = simp (ne-eqb _ _ a, ne-eqb _ _ b, ne-eqb _ _ c)

@@ -17,7 +17,7 @@ use Rattle.frame.specs.Packed.{writeUp, placedAt, digitBits, threeOf}
 use Rattle.frame.proofs.Constants.{fractional-write, decimal-write, metres20-write, metres30-write}
 use Rattle.frame.proofs.Upward.{up-lt}
 use Rattle.frame.proofs.Tables.{pick-case}
-use Rattle.frame.proofs.Verdict.{every-mode}
+use Rattle.frame.proofs.EachMode.{every-mode}
 
 -- a part that begins at bit 27 of the word and stays below bit 53
 pub record Middle (n : ℕ) : Type 0 where
@@ -126,7 +126,7 @@ body-right settings address r h =
     (add-up (threeOf address) (putLevel (modeIn settings) (r .level)) (mark (r .alarm1)) (mark (r .alarm0)) (putHeat (is1800 settings) (r .temperature)) (three-lt address h) (level-middle (settings % 4) (r .level)) (mark-le (r .alarm1)) (mark-le (r .alarm0)) (heat-low (is1800 settings) (r .temperature)))
 
 -- an absent temperature has no bits, so that 40 bits hold the rest
-no-heat : (b : Bool) (t : Temperature) → isAbsent t ≡ true → putHeat b t ≡ 0
+pub no-heat : (b : Bool) (t : Temperature) → isAbsent t ≡ true → putHeat b t ≡ 0
 unfolding putHeat1800 putHeat1900
 no-heat b (Degrees d) e = let z : _≡_ {A = ℕ} 0 1 = cc in absurd (omega arith)
 no-heat b Above e = let z : _≡_ {A = ℕ} 0 1 = cc in absurd (omega arith)

@@ -28,11 +28,11 @@ abbrev pub allBelow : (ℕ → Bool) → ℕ → Bool
 allBelow f zero = true
 allBelow f (suc n) = allBelow f n && f n
 
-and-left : (a b : Bool) → T (a && b) → T a
+pub and-left : (a b : Bool) → T (a && b) → T a
 and-left true b t = tt
 and-left false b t = t
 
-and-right : (a b : Bool) → T (a && b) → T b
+pub and-right : (a b : Bool) → T (a && b) → T b
 and-right true b t = t
 and-right false b t = absurd t
 

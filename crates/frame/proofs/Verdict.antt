@@ -6,17 +6,18 @@ use mathlib.Core.List.{List, [], _∷_}
 use Prim.Native.Nat.{ℕ, suc, _+_, _*_, _/_, _%_, _^_, _<_, _≤_}
 use native.Mathlib.Omega.{arith}
 use borrow.Author.Tests.{ltb-false, ne-eqb}
-use lib.Dec.{T, eqb, ltb, leb, leb→le, ltb→lt}
+use lib.Dec.{eqb, ltb}
 use lib.ListN.{length}
 use Rattle.frame.specs.declared.Reply.the-variants.{Read, Refused}
 use Rattle.frame.specs.Pick.{pick}
 use Rattle.frame.specs.Line.{line, bit, threeDecimal, threeDigits}
 use Rattle.frame.specs.Charts.{Chart, sizeOf, isOdd, turned, placeIn}
-use Rattle.frame.specs.Level.{Level, known, lost, Mode, widthOf, readRow, modeOf, fractionalMode, decimalMode, twentyMetreMode, thirtyMetreMode, levelOf, fillClear, noChart, valueOf, aboveLargest}
+use Rattle.frame.specs.Level.{Level, known, lost, Mode, widthOf, readRow, levelOf, fillClear, noChart, valueOf, aboveLargest}
 use Rattle.frame.specs.Temperature.{isBad}
 use Rattle.frame.specs.Reply.{modeIn, heatIn, parityRight, readingAt}
 use Rattle.frame.specs.Packed.{levelNumber, levelCode, lineFault, lineReply, heatReply}
 use Rattle.frame.proofs.Tables.{pick-case}
+use Rattle.frame.proofs.EachMode.{small-levels, few-digits}
 
 -- the place of a digit in no chart is within the row
 abbrev LostBelow : ℕ → Level → Type 0
@@ -30,19 +31,6 @@ lost-below (c ∷ cs) bits odd sofar place most h =
     let at = placeIn (bits / 2 ^ widthOf cs % 2 ^ (c .width)) (c .codes) in
     let d = turned odd (sizeOf c) at in
     pick-case (LostBelow most) (ltb at (sizeOf c)) (lost-below cs bits (isOdd d) (sofar * sizeOf c + d) (suc place) most (omega arith)) (omega arith)
-
--- each mode has levels of 16 bits and at most five digits
-pub every-mode : (P : Mode → Type 0) → P fractionalMode → P decimalMode → P twentyMetreMode → P thirtyMetreMode → (k : ℕ) → P (modeOf k)
-unfolding modeOf
-every-mode P a b c d k = pick-case P (eqb k 0) a (pick-case P (eqb k 1) b (pick-case P (eqb k 2) c d))
-
-small-levels : (k : ℕ) → modeOf k .largest < 65536
-unfolding fractionalMode decimalMode twentyMetreMode thirtyMetreMode
-small-levels k = ltb→lt (modeOf k .largest) 65536 (every-mode (λ (m : Mode). T (ltb (m .largest) 65536)) tt tt tt tt k)
-
-few-digits : (k : ℕ) → length (modeOf k .row) ≤ 5
-unfolding fractionalMode decimalMode twentyMetreMode thirtyMetreMode
-few-digits k = leb→le (length (modeOf k .row)) 5 (every-mode (λ (m : Mode). T (leb (length (m .row)) 5)) tt tt tt tt k)
 
 -- faults 6, 7 and 8 in their order, before a rest
 abbrev pub afterLevel : Mode → Bool → Level → ℕ → ℕ

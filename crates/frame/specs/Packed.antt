@@ -15,7 +15,7 @@ use Rattle.frame.specs.Faults.{firstOf}
 use Rattle.frame.specs.Reply.{replyTests, heatIn, readingAt}
 use Rattle.frame.specs.Charts.{Chart, oneBit, twoBits, feetTens, decimal, inches, sixteenths, placeIn, sizeOf, isOdd, turned, codeOf}
 use Rattle.frame.specs.Temperature.{Heat, told, bad, isBad, temperatureOf}
-use Rattle.frame.specs.Level.{Level, known, lost, Mode, levelOf, fillClear, readRow, writeRow}
+use Rattle.frame.specs.Level.{Level, known, lost, Mode, levelOf, fillClear, readRow}
 
 -- The chart of a number: 0 one bit, 1 two bits, 2 feet tens, 3 decimal, 4 inches, any other sixteenths.
 unfoldable pub chartOf : ℕ → Chart

@@ -2,8 +2,6 @@
 ghost use mathlib.Core.Path.{_≡_};
 ghost use Prim.Native.Nat.{_+_, _-_, _*_, _/_, _%_, _^_, _<_, _≤_};
 ghost use Rattle.frame.specs.Charts.{sizeOf};
-ghost use lib.Dec.{eqb};
-ghost use mathlib.Core.Bool.{_&&_};
 ghost use Rattle.frame.specs.Level.{readRow};
 ghost use Rattle.frame.specs.Packed.{chartOf, digitOf, rowOf, readCode, onesCode, writeUp, fillAt, readBy, placedAt};
 use crate::charts;

@@ -1,7 +1,7 @@
 -- What each call leaves of the board, by the number that it answers; and what the frame answers for a row, by its number. Each law puts the number
 -- into the definition and takes the tests of it.
 use mathlib.Core.Path.{_≡_, refl, sym, _∙_, ap}
-use mathlib.Core.Bool.{Bool, true, false, not, _&&_}
+use mathlib.Core.Bool.{Bool, true, false}
 use mathlib.Core.List.{List, [], _∷_}
 use Prim.Native.Nat.{ℕ, _<_, _≤_}
 use native.Mathlib.Omega.{arith}
@@ -10,8 +10,8 @@ use lib.ListN.{set, drop}
 use borrow.Author.Tests.{lt-ltb, le-ltb, eqb-true}
 use Rattle.frame.specs.declared.Reading.{Reading}
 use Rattle.frame.specs.declared.Reply.the-variants.{Read, Refused}
-use Rattle.frame.specs.Faults.{Test, _gives_, firstOf}
-use Rattle.frame.specs.Line.{line, bit, formed, threeDecimal, threeDigits}
+use Rattle.frame.specs.Faults.{Test, firstOf}
+use Rattle.frame.specs.Line.{line, formed}
 use Rattle.frame.specs.Pick.{pick}
 use Rattle.frame.specs.Reply.{ReadsReply, replyTests, replyFault, replyOf, readingAt}
 use Rattle.board.specs.declared.Row.{Row}

@@ -4,10 +4,10 @@ use mathlib.Core.Bool.{Bool, true, false, not}
 use mathlib.Core.List.{List, _++_}
 use Prim.Native.Nat.{ℕ, _<_, _≤_}
 use native.Mathlib.Omega.{arith}
-use lib.Dec.{eqb, leb, ltb}
+use lib.Dec.{eqb, leb}
 use lib.ListN.{length, set, length-set}
 use lib.Seq.{getD-set-same, getD-set-other}
-use borrow.Author.Tests.{ltb-true, ltb-false, eqb-true, eqb-false, leb-true, leb-false}
+use borrow.Author.Tests.{eqb-true, eqb-false, leb-true, leb-false}
 use Rattle.frame.specs.Line.{line, formed}
 use Rattle.frame.specs.Reply.{replyFault, readingAt}
 use Rattle.board.specs.declared.Row.{Row}
@@ -17,15 +17,8 @@ use Rattle.board.specs.Calls.{Enrols, Hears, Removes, enrolNumber, hearNumber, 
 use Rattle.board.proofs.Numbers.{enrol-10, enrol-11, enrol-18, enrol-19, hear-11, hear-14, hear-17, hear-read, find-11, find-17}
 use Rattle.promises.specs.Board.{rowAt, OnBoard, IsRowOf, Unknown, IsFirstFree, NoFree, at-row, unknown, at-free, none-free, BoardCases, OnlyRow}
 use Rattle.promises.proofs.BoardPlaces.{board-on, on-board, same-row, is-holds, place-row, at-place, before-place, set-rows, unchanged}
+use Rattle.promises.proofs.Cases.{by-lt}
 use Rattle.promises.proofs.BoardAfter.{enrol-keeps, enrol-sets, remove-keeps, remove-sets, hear-keeps, hear-faults, hear-sets}
-
--- a number that is none of those that refuse
-pub by-ltb : {A : Type 0} (a b : ℕ) → (a < b → A) → (b ≤ a → A) → A
-by-ltb {A} a b f g = go (ltb a b) refl
-  where
-    go : (t : Bool) → ltb a b ≡ t → A
-    go true e = f (ltb-true a b e)
-    go false e = g (ltb-false a b e)
 
 -- One row is set: what it was set to, and where.
 pub set-only : (rows after : List Row) (i : ℕ) (row : Row) → OnBoard rows i → after ≡ set rows i row → OnlyRow rows i row after
@@ -51,8 +44,8 @@ off-free rows l i p = let k : i < length (boardOf rows) = on-board rows i p in a
 pub board-cases : BoardCases
 board-cases =
     record {
-      address = λ rows address. by-ltb (placeOf address (boardOf rows)) (length (boardOf rows)) (λ l. at-row (placeOf address (boardOf rows)) (place-row rows address l)) (λ l. unknown (off-unknown rows address l));
-      row = λ rows. by-ltb (placeFree (boardOf rows)) (length (boardOf rows)) (λ l. at-free (placeFree (boardOf rows)) (free-first rows l)) (λ l. none-free (off-free rows l));
+      address = λ rows address. by-lt (placeOf address (boardOf rows)) (length (boardOf rows)) (λ l. at-row (placeOf address (boardOf rows)) (place-row rows address l)) (λ l. unknown (off-unknown rows address l));
+      row = λ rows. by-lt (placeFree (boardOf rows)) (length (boardOf rows)) (λ l. at-free (placeFree (boardOf rows)) (free-first rows l)) (λ l. none-free (off-free rows l));
     }
 
 -- An enrolment: refused, or the first free row is taken.
@@ -69,20 +62,20 @@ module _ (rows : List Row) (settings address answer : ℕ) (after : List Row) (e
 
   in-range : asked ≡ 0 → address ≤ 999
   in-range z =
-      by-ltb 15 settings (λ s. absurd (not-0 10 (enrol-10 (boardOf rows) settings address s) refl z))
-      (λ s. by-ltb 999 address (λ a. absurd (not-0 11 (enrol-11 (boardOf rows) settings address s a) refl z)) (λ a. a))
+      by-lt 15 settings (λ s. absurd (not-0 10 (enrol-10 (boardOf rows) settings address s) refl z))
+      (λ s. by-lt 999 address (λ a. absurd (not-0 11 (enrol-11 (boardOf rows) settings address s a) refl z)) (λ a. a))
 
   off-board : asked ≡ 0 → length (boardOf rows) ≤ placeOf address (boardOf rows)
   off-board z =
-      by-ltb 15 settings (λ s. absurd (not-0 10 (enrol-10 (boardOf rows) settings address s) refl z))
-      (λ s. by-ltb 999 address (λ a. absurd (not-0 11 (enrol-11 (boardOf rows) settings address s a) refl z))
-      (λ a. by-ltb (placeOf address (boardOf rows)) (length (boardOf rows)) (λ l. absurd (not-0 18 (enrol-18 (boardOf rows) settings address s a l) refl z)) (λ l. l)))
+      by-lt 15 settings (λ s. absurd (not-0 10 (enrol-10 (boardOf rows) settings address s) refl z))
+      (λ s. by-lt 999 address (λ a. absurd (not-0 11 (enrol-11 (boardOf rows) settings address s a) refl z))
+      (λ a. by-lt (placeOf address (boardOf rows)) (length (boardOf rows)) (λ l. absurd (not-0 18 (enrol-18 (boardOf rows) settings address s a l) refl z)) (λ l. l)))
 
   has-row : asked ≡ 0 → placeFree (boardOf rows) < length (boardOf rows)
   has-row z =
-      by-ltb 15 settings (λ s. absurd (not-0 10 (enrol-10 (boardOf rows) settings address s) refl z))
-      (λ s. by-ltb 999 address (λ a. absurd (not-0 11 (enrol-11 (boardOf rows) settings address s a) refl z))
-      (λ a. by-ltb (placeFree (boardOf rows)) (length (boardOf rows)) (λ l. l) (λ l. absurd (not-0 19 (enrol-19 (boardOf rows) settings address s a (off-board z) l) refl z))))
+      by-lt 15 settings (λ s. absurd (not-0 10 (enrol-10 (boardOf rows) settings address s) refl z))
+      (λ s. by-lt 999 address (λ a. absurd (not-0 11 (enrol-11 (boardOf rows) settings address s a) refl z))
+      (λ a. by-lt (placeFree (boardOf rows)) (length (boardOf rows)) (λ l. l) (λ l. absurd (not-0 19 (enrol-19 (boardOf rows) settings address s a (off-board z) l) refl z))))
 
   pub enrol-done : Enrolled rows settings address answer after
   enrol-done = go (eqb asked 0) refl
@@ -102,8 +95,8 @@ module _ (rows : List Row) (address : ℕ) where
 
   pub found-on : find ≡ 0 → (address ≤ 999) × (placeOf address (boardOf rows) < length (boardOf rows))
   found-on z =
-      by-ltb 999 address (λ a. absurd (eqb-false 11 0 refl (sym (find-11 (boardOf rows) address a) ∙ z)))
-      (λ a. by-ltb (placeOf address (boardOf rows)) (length (boardOf rows)) (λ l. (a, l)) (λ l. absurd (eqb-false 17 0 refl (sym (find-17 (boardOf rows) address a l) ∙ z))))
+      by-lt 999 address (λ a. absurd (eqb-false 11 0 refl (sym (find-11 (boardOf rows) address a) ∙ z)))
+      (λ a. by-lt (placeOf address (boardOf rows)) (length (boardOf rows)) (λ l. (a, l)) (λ l. absurd (eqb-false 17 0 refl (sym (find-17 (boardOf rows) address a l) ∙ z))))
 
 pub data Removed (rows : List Row) (address answer : ℕ) (after : List Row) : Type 0 where
   not-removed : eqb answer 0 ≡ false → after ≡ rows → Removed rows address answer after
@@ -139,7 +132,7 @@ module _ (rows : List Row) (address minute count : ℕ) (reply : List ℕ) (answ
 
   read-on : number ≤ 9 → ReadOn
   read-on small =
-      by-ltb 999 address (λ a. absurd (large 11 (hear-11 (boardOf rows) address count reply a) (omega arith)))
+      by-lt 999 address (λ a. absurd (large 11 (hear-11 (boardOf rows) address count reply a) (omega arith)))
       (λ a. form a (formed count reply) refl)
     where
       large : (n : ℕ) → number ≡ n → 9 < n → ⊥
@@ -148,7 +141,7 @@ module _ (rows : List Row) (address minute count : ℕ) (reply : List ℕ) (answ
       form : address ≤ 999 → (t : Bool) → formed count reply ≡ t → ReadOn
       form a false f = absurd (large 14 (hear-14 (boardOf rows) address count reply a f) (omega arith))
       form a true f =
-          by-ltb place (length (boardOf rows)) (λ l. (l, hear-read (boardOf rows) address count reply a f l, a))
+          by-lt place (length (boardOf rows)) (λ l. (l, hear-read (boardOf rows) address count reply a f l, a))
           (λ l. absurd (large 17 (hear-17 (boardOf rows) address count reply a f l) (omega arith)))
 
   same : number ≤ 9 → rowOf address (boardOf rows) ≡ rowAt rows place

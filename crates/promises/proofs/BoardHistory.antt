@@ -19,7 +19,8 @@ use Rattle.promises.specs.Board.{rowAt, OnBoard, Holds, Unknown, OnlyRow
 use Rattle.promises.specs.BoardHistory.{History, begun, enrolled, heard, removed, looked, Empty, NoneTwice, taken, given, BoardHistory}
 use Rattle.promises.proofs.BoardPlaces.{on-board, board-on, same-row, unknown-off}
 use Rattle.promises.proofs.BoardCount.{used, used-set, used-none, used-full, used-room}
-use Rattle.promises.proofs.BoardDone.{by-ltb, set-only, Enrolled, not-enrolled, took, enrol-done, Removed, not-removed, gave, remove-done, Heard, not-heard, faulty, good, hear-done}
+use Rattle.promises.proofs.Cases.{by-lt}
+use Rattle.promises.proofs.BoardDone.{set-only, Enrolled, not-enrolled, took, enrol-done, Removed, not-removed, gave, remove-done, Heard, not-heard, faulty, good, hear-done}
 
 in-use-free : (row : Row) → isFree row ≡ true → inUse row ≡ true → ⊥
 in-use-free row f u = let z : _≡_ {A = Bool} false true = sym (ap not f) ∙ u in let bad : _≡_ {A = ℕ} 0 1 = cc in omega arith
@@ -202,12 +203,12 @@ module _ (start rows after : List Row) (h : History start rows) (settings addres
 
   room : taken h < given h + min 30 (length start) → answer ≡ 0
   room l =
-      by-ltb (placeFree (boardOf rows)) (length (boardOf rows)) (λ f. e .answers ∙ enrol-0 (boardOf rows) settings address s a (unknown-off rows address u) f)
+      by-lt (placeFree (boardOf rows)) (length (boardOf rows)) (λ f. e .answers ∙ enrol-0 (boardOf rows) settings address s a (unknown-off rows address u) f)
       (λ f. absurd (omega (arith, balance start rows empty h, used-full (boardOf rows) f, size)))
 
   full : given h + min 30 (length start) ≤ taken h → answer ≡ 19
   full l =
-      by-ltb (placeFree (boardOf rows)) (length (boardOf rows)) (λ f. absurd (omega (arith, balance start rows empty h, used-room (boardOf rows) f, size)))
+      by-lt (placeFree (boardOf rows)) (length (boardOf rows)) (λ f. absurd (omega (arith, balance start rows empty h, used-room (boardOf rows) f, size)))
       (λ f. e .answers ∙ enrol-19 (boardOf rows) settings address s a (unknown-off rows address u) f)
 
 pub board-history : BoardHistory

@@ -13,13 +13,10 @@ use Rattle.board.specs.declared.Row.{Row}
 use Rattle.board.specs.Row.{isFree, inUse, freeRow}
 use Rattle.board.specs.Rows.{boardOf, beyond, holds, placeBy, placeOf, placeFree}
 use Rattle.board.proofs.Places.{place-le, place-before, place-at, place-is}
+use Rattle.promises.proofs.Cases.{both}
 use Rattle.promises.specs.Board.{rowAt, OnBoard, Holds, IsRowOf, Unknown, IsFirstFree, NoFree, OnlyRow}
 
--- Two tests that hold together hold each; and a test that fails does not hold.
-both : (a b : Bool) → a && b ≡ true → (a ≡ true) × (b ≡ true)
-both true b e = (refl, e)
-both false b e = let z : _≡_ {A = ℕ} 0 1 = cc in absurd (omega arith)
-
+-- A test that fails does not hold.
 neither : (a : Bool) → a ≡ true → a ≡ false → ⊥
 neither a p q = let z : _≡_ {A = ℕ} 0 1 = cc in omega arith
 

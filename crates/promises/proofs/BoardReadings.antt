@@ -22,7 +22,8 @@ use Rattle.promises.specs.BoardReadings.{Reads, BoardReadings}
 use Rattle.promises.proofs.BoardPlaces.{row-on, row-is, place-row, unknown-off}
 use Rattle.promises.proofs.BoardAfter.{look-refused, look-told, read-is, reads}
 use Rattle.promises.proofs.BoardTold.{tells, reading-held, fault-keeps}
-use Rattle.promises.proofs.BoardDone.{by-ltb, set-only, off-unknown, Enrolled, not-enrolled, took, enrol-done, Removed, not-removed, gave, remove-done, Heard, not-heard, faulty, good as well-heard, hear-done}
+use Rattle.promises.proofs.Cases.{by-lt}
+use Rattle.promises.proofs.BoardDone.{set-only, off-unknown, Enrolled, not-enrolled, took, enrol-done, Removed, not-removed, gave, remove-done, Heard, not-heard, faulty, good as well-heard, hear-done}
 
 never : {A : Type 0} → (n : ℕ) → eqb n 0 ≡ false → n ≡ 0 → A
 never n e z = absurd (eqb-false n 0 e z)
@@ -69,8 +70,8 @@ module _ (rows after : List Row) (address : ℕ) where
 
   apart-look : Apart → (before answer : Looked) → LooksUp rows address before → LooksUp after address answer → answer ≡ before
   apart-look s before answer e f =
-      by-ltb 999 address (λ a. looked-bad after address answer f a ∙ sym (looked-bad rows address before e a))
-      (λ a. by-ltb (placeOf address (boardOf rows)) (length (boardOf rows))
+      by-lt 999 address (λ a. looked-bad after address answer f a ∙ sym (looked-bad rows address before e a))
+      (λ a. by-lt (placeOf address (boardOf rows)) (length (boardOf rows))
       (λ l. let p : IsRowOf rows address (placeOf address (boardOf rows)) = place-row rows address l in
       looked-row after address answer f a (placeOf address (boardOf rows)) (apart-row s (placeOf address (boardOf rows)) p) ∙ ap told (s .kept (placeOf address (boardOf rows)) (p .here)) ∙ sym (looked-row rows address before e a (placeOf address (boardOf rows)) p))
       (λ l. let u : Unknown rows address = off-unknown rows address l in

@@ -1,21 +1,13 @@
 -- The six charts of document 01 are sound. A computed test over the places of a chart says so of each: the code at the place is within the
 -- width, and is found at that place and so at no other.
 use mathlib.Core.Path.{_≡_, sym, ap, _∙_}
-use mathlib.Core.Bool.{Bool, true, false, _&&_}
+use mathlib.Core.Bool.{Bool, _&&_}
 use Prim.Native.Nat.{ℕ, _^_, _<_}
 use lib.Dec.{T, eqb, ltb, ltb→lt, eqb→eq}
 use lib.ListN.{getD}
 use Rattle.frame.specs.Charts.{Chart, sizeOf, placeIn, oneBit, twoBits, feetTens, decimal, inches, sixteenths}
-use Rattle.frame.proofs.Tables.{allBelow, at-below}
+use Rattle.frame.proofs.Tables.{allBelow, at-below, and-left, and-right}
 use Rattle.promises.specs.Rows.{Sound}
-
-left : (a b : Bool) → T (a && b) → T a
-left true b h = tt
-left false b h = absurd h
-
-right : (a b : Bool) → T (a && b) → T b
-right true b h = h
-right false b h = absurd h
 
 -- The code at a place is within the width and is found there.
 abbrev placeRight : Chart → ℕ → Bool
@@ -27,10 +19,10 @@ sound c some h =
     let inside : ℕ → Bool = λ i. ltb (code i) (2 ^ (c .width)) in
     let found : ℕ → Bool = λ i. eqb (placeIn (code i) (c .codes)) i in
     let place : (i : ℕ) → i < sizeOf c → placeIn (code i) (c .codes) ≡ i
-    = λ i k. eqb→eq (placeIn (code i) (c .codes)) i (right (inside i) (found i) (at-below (placeRight c) (sizeOf c) h i k)) in
+    = λ i k. eqb→eq (placeIn (code i) (c .codes)) i (and-right (inside i) (found i) (at-below (placeRight c) (sizeOf c) h i k)) in
     record {
       some = ltb→lt 0 (sizeOf c) some;
-      within = λ i k. ltb→lt (code i) (2 ^ (c .width)) (left (inside i) (found i) (at-below (placeRight c) (sizeOf c) h i k));
+      within = λ i k. ltb→lt (code i) (2 ^ (c .width)) (and-left (inside i) (found i) (at-below (placeRight c) (sizeOf c) h i k));
       single = λ i j k l e. sym (place i k) ∙ ap (λ (x : ℕ). placeIn x (c .codes)) e ∙ place j l;
     }
 

@@ -10,7 +10,7 @@ use borrow.Author.Tests.{eqb-true}
 use Rattle.frame.specs.Line.{field, put}
 use Rattle.frame.specs.Charts.{oneBit, twoBits, feetTens, decimal, inches, sixteenths}
 use Rattle.frame.specs.Level.{Mode, widthOf, modeOf, fractionalMode, decimalMode, twentyMetreMode, thirtyMetreMode, lastBit, fillClear}
-use Rattle.frame.proofs.Verdict.{every-mode}
+use Rattle.frame.proofs.EachMode.{every-mode}
 use Rattle.promises.proofs.Cases.{both}
 use Rattle.promises.proofs.Fields.{within, join}
 

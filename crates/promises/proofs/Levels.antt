@@ -10,7 +10,7 @@ use borrow.Author.Tests.{leb-true, leb-false, le-leb, lt-leb}
 use Rattle.frame.specs.Line.{field}
 use Rattle.frame.specs.Charts.{oneBit, twoBits, feetTens, decimal, inches, sixteenths, turned, placeIn}
 use Rattle.frame.specs.Level.{Mode, known, lost, widthOf, valuesOf, readRow, writeRow, modeOf, fractionalMode, decimalMode, twentyMetreMode, thirtyMetreMode, lastBit, levelOf, digitsOf, putLevel}
-use Rattle.frame.proofs.Verdict.{every-mode}
+use Rattle.frame.proofs.EachMode.{every-mode}
 use Rattle.promises.specs.Rows.{SoundRow}
 use Rattle.promises.specs.Levels.{LevelBothWays}
 use Rattle.promises.proofs.Fields.{put-field, field-lt}

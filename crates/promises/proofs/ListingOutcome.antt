@@ -1,5 +1,5 @@
 -- Each record says what its outcome equals: that outcome is allowed, and any two that are equal it. Assumes nothing.
-use mathlib.Core.Path.{_≡_, refl, sym, _∙_}
+use mathlib.Core.Path.{refl, sym, _∙_}
 use mathlib.Core.Bool.{Bool}
 use mathlib.Core.List.{List}
 use Prim.Native.Nat.{ℕ}
@@ -7,9 +7,7 @@ use Rattle.frame.specs.declared.Written.{Written}
 use Rattle.listing.specs.Calls.{Writes}
 use Rattle.promises.specs.OneOutcome.{One}
 use Rattle.promises.specs.ListingOutcome.{ListingOutcome}
-
-pair : (a b : Written × List ℕ) → a .0 ≡ b .0 → a .1 ≡ b .1 → a ≡ b
-pair a b e f = λ i. (e i, f i)
+use Rattle.promises.proofs.OneOutcome.{pair}
 
 one-write : (there : Bool) (needed : ℕ) (text out : List ℕ) → One (Written × List ℕ) (λ o. Writes there needed text out (o .0) (o .1))
 one-write there needed text out =

@@ -14,14 +14,15 @@ use Rattle.frame.specs.declared.Temperature.the-variants.{Degrees}
 use Rattle.frame.specs.Pick.{pick}
 use Rattle.frame.specs.Line.{line, bit, threeDigits, threeDecimal}
 use Rattle.frame.specs.Faults.{Test, firstOf}
-use Rattle.frame.specs.Level.{Mode, Level, known, lost, modeOf, fractionalMode, decimalMode, twentyMetreMode, thirtyMetreMode, levelOf, valueOf, aboveLargest}
+use Rattle.frame.specs.Level.{Mode, Level, known, lost, levelOf, valueOf, aboveLargest}
 use Rattle.frame.specs.Temperature.{Heat, isPlus, signed, magnitude, degreesAt, hundreds1900, heat1900, heat1800, temperatureOf}
 use Rattle.frame.specs.Reply.{replyTests, replyFault, replyOf, readingAt, modeIn, heatIn, is1800}
 use Rattle.frame.proofs.Tables.{pick-case}
-use Rattle.frame.proofs.Verdict.{every-mode}
+use Rattle.frame.proofs.EachMode.{small-levels}
 use Rattle.listing.specs.Text.{ascii, decimal, digitsUpTo}
 use Rattle.listing.specs.Lines.{temperatureText, alarmText, readingText, replyText}
 use Rattle.listing.proofs.Numbers.{few-digits}
+use Rattle.promises.proofs.Temperatures.{magnitude-signed}
 
 -- tests whose numbers are from 1 to 99
 abbrev numbered : List Test → Bool
@@ -60,27 +61,18 @@ small-level : (m : Mode) (l : Level) → m .largest < 65536 → aboveLargest m l
 small-level m (known v) small below = omega (arith, ltb-false (m .largest) v below)
 small-level m (lost k) small below = omega arith
 
-small-modes : (k : ℕ) → modeOf k .largest < 65536
-unfolding fractionalMode decimalMode twentyMetreMode thirtyMetreMode
-small-modes k = ltb→lt (modeOf k .largest) 65536 (every-mode (λ (m : Mode). T (ltb (m .largest) 65536)) tt tt tt tt k)
-
 level-lt : (settings address count : ℕ) (s : List ℕ) → replyFault settings address count s ≡ 0 → valueOf (levelOf (modeIn settings) (line s)) < 65536
 unfolding replyFault
 level-lt settings address count s e =
-    small-level (modeIn settings) (levelOf (modeIn settings) (line s)) (small-modes (settings % 4))
+    small-level (modeIn settings) (levelOf (modeIn settings) (line s)) (small-levels (settings % 4))
     (none-applies (replyTests settings address count s) (record { applies = false; number = 1 }) tt e 10 (omega arith))
 
 -- a temperature: at most a sign and four digits of four bits
-magnitude-is : (plus : Bool) (m : ℕ) → magnitude (signed plus m) ≡ m
-magnitude-is true m = refl
-magnitude-is false zero = refl
-magnitude-is false (suc m) = refl
-
 degrees-few : (plus : Bool) (m : ℕ) → m < 100000 → length (temperatureText (Degrees (signed plus m))) ≤ 6
 degrees-few plus m small =
     let d = signed plus m in
     let sign : length (pick (isPlus d) [] (ascii "-")) ≤ 1 = pick-case (λ (t : List ℕ). length t ≤ 1) (isPlus d) (omega arith) (omega arith) in
-    let digits : length (decimal (magnitude d)) ≤ 5 = rw (magnitude-is plus m) (few-digits 4 m small) in
+    let digits : length (decimal (magnitude d)) ≤ 5 = rw (magnitude-signed plus m) (few-digits 4 m small) in
     simp length-append (omega arith)
 
 abbrev Short : Heat → Type 0

@@ -5,7 +5,7 @@ use Prim.Native.Nat.{ℕ}
 use Rattle.frame.specs.declared.Written.{Written}
 use Rattle.promises.specs.OneOutcome.{OneOutcome}
 
-pair : (a b : Written × List ℕ) → a .0 ≡ b .0 → a .1 ≡ b .1 → a ≡ b
+pub pair : (a b : Written × List ℕ) → a .0 ≡ b .0 → a .1 ≡ b .1 → a ≡ b
 pair a b e f = λ i. (e i, f i)
 
 pub one-outcome : OneOutcome

@@ -1,6 +1,6 @@
 -- The line of a written reply. It is a sum of parts, each within its own bits, so that each field is its part; and its parity is right.
 use mathlib.Core.Path.{_≡_, refl, sym, ap, subst, _∙_}
-use mathlib.Core.Bool.{Bool, true, false, true≢false, false≢true}
+use mathlib.Core.Bool.{Bool, true, false, true≢false}
 use Prim.Native.Nat.{ℕ, _+_, _-_, _*_, _/_, _%_, _^_, _<_, _≤_}
 use native.Mathlib.Omega.{arith}
 use native.Mathlib.Nat.{add-assoc, mod-lt}
@@ -8,12 +8,10 @@ use lib.Dec.{lit<}
 use Rattle.frame.specs.Pick.{pick}
 use Rattle.frame.specs.Line.{field, bit, put, mark, marks, firstBytes}
 use Rattle.frame.specs.declared.Reading.{Reading}
-use Rattle.frame.specs.declared.Temperature.{Temperature}
-use Rattle.frame.specs.declared.Temperature.the-variants.{Degrees, Above, Below, Absent}
 use Rattle.frame.specs.Level.{Mode, digitsOf, lastBit}
-use Rattle.frame.specs.Temperature.{isAbsent, putHeat, putHeat1900, putHeat1800}
+use Rattle.frame.specs.Temperature.{isAbsent, putHeat}
 use Rattle.frame.specs.Reply.{modeIn, is1800, oddParity, sizeFor, countFor, bodyOf, parityFor, replyLine}
-use Rattle.frame.proofs.Sums.{heat-low}
+use Rattle.frame.proofs.Sums.{heat-low, no-heat}
 use Rattle.promises.proofs.Digits.{mark-lt, three}
 use Rattle.promises.proofs.Levels.{fit, digits-fit}
 use Rattle.promises.proofs.LevelPlace.{placed}
@@ -81,14 +79,6 @@ pub record Sent (settings address : ℕ) (r : Reading) (n : ℕ) : Type 0 where
   pub warmth : isAbsent (r .temperature) ≡ false → field n 40 55 ≡ field (putHeat (is1800 settings) (r .temperature)) 40 55
   pub parity : marks (firstBytes (sizeFor r) n) % 2 ≡ oddParity settings
 
-absent-heat : (ty : Bool) (t : Temperature) → isAbsent t ≡ true → putHeat ty t ≡ 0
-unfolding putHeat1900 putHeat1800
-absent-heat ty (Degrees d) e = absurd (false≢true e)
-absent-heat ty Above e = absurd (false≢true e)
-absent-heat ty Below e = absurd (false≢true e)
-absent-heat true Absent e = refl
-absent-heat false Absent e = refl
-
 tail : (body c heat parity : ℕ) (absent : Bool) → (absent ≡ true → heat ≡ 0) → heat < 2 ^ 25 → heat % 2 ^ 9 ≡ 0 → parity < 2
     → body ≡ c * 2 ^ 25 + heat
     → Tail (body + put parity (pick absent 40 56)) body heat parity absent
@@ -136,7 +126,7 @@ sent settings address r h =
     let q : ℕ = mark (r .alarm0) in
     let heat : ℕ = putHeat (is1800 settings) (r .temperature) in
     let place = heat-low (is1800 settings) (r .temperature) in
-    let none = absent-heat (is1800 settings) (r .temperature) in
+    let none = no-heat (is1800 settings) (r .temperature) in
     let body : ℕ = bodyOf settings address r in
     let parity : ℕ = parityFor settings (firstBytes (sizeFor r) body) in
     let absent : Bool = isAbsent (r .temperature) in

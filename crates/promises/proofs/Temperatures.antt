@@ -30,7 +30,7 @@ pub record Kept (is1800 : Bool) (t : Temperature) (w n : ℕ) : Type 0 where
   pub digits : isError t ≡ false → field w 44 55 ≡ field n 44 55
 
 -- A sign and a number of tenths, taken apart again.
-magnitude-signed : (plus : Bool) (m : ℕ) → magnitude (signed plus m) ≡ m
+pub magnitude-signed : (plus : Bool) (m : ℕ) → magnitude (signed plus m) ≡ m
 magnitude-signed true m = refl
 magnitude-signed false zero = refl
 magnitude-signed false (suc m) = refl

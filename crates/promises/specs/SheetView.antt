@@ -1,5 +1,6 @@
 -- The view: what is seen through it is what a look answers, and a view with a wrong count of slots shows no slot that is not there.
 use mathlib.Core.Path.{_≡_}
+use mathlib.Core.Bool.{true, false}
 use mathlib.Core.List.{List}
 use Prim.Native.Nat.{ℕ, _<_, _≤_}
 use denote.Ref.{RefT, now}
@@ -7,9 +8,9 @@ use Rattle.sheet.specs.declared.Looked.{Looked}
 use Rattle.sheet.specs.declared.Found.the-variants.{Refused}
 use Rattle.sheet.specs.declared.view.Sheet.{Sheet}
 use Rattle.sheet.specs.declared.view.Counted.{Counted}
-use Rattle.sheet.specs.Slots.{slots, slotAt, slotOf}
+use Rattle.sheet.specs.Slots.{sizeAllowed, slots, slotAt, slotOf}
 use Rattle.sheet.specs.Look.{Looks, told, bare}
-use Rattle.sheet.specs.View.{Opens, Sees, Counts}
+use Rattle.sheet.specs.View.{Opens, Sees, Counts, countedNumber, slotsTold}
 use Rattle.promises.specs.OneOutcome.{One}
 
 pub record SheetView : Type 0 where
@@ -21,6 +22,9 @@ pub record SheetView : Type 0 where
       → slot < count → slot < slots bytes → seen ≡ told (slotOf (slotAt bytes slot))
   pub beyond-count : (bytes : List ℕ) (count slot : ℕ) (seen : Looked) → Sees bytes count slot seen → count ≤ slot → seen ≡ bare (Refused 12)
   pub beyond-bytes : (bytes : List ℕ) (count slot : ℕ) (seen : Looked) → Sees bytes count slot seen → slots bytes ≤ slot → seen ≡ bare (Refused 12)
+  -- The slots of a sheet of an allowed size are counted; of any other 12 is told, and no slot.
+  pub counted : (s : List ℕ) (answer : Counted) → Counts s answer → sizeAllowed s ≡ true → (countedNumber answer ≡ 0) × (slotsTold answer ≡ slots s)
+  pub not-counted : (s : List ℕ) (answer : Counted) → Counts s answer → sizeAllowed s ≡ false → (countedNumber answer ≡ 12) × (slotsTold answer ≡ 0)
   -- One outcome of each call.
   pub count-slots : (s : List ℕ) → One Counted (Counts s)
   pub open-view : (lent : RefT (List ℕ)) → One Sheet (Opens lent)

@@ -1,16 +1,12 @@
 -- What the calls below can answer comes back from the integers that tell it. All of them answer what is good where their fault number is 0 and else
 -- refuse by that number, so one law carries each; a refusal's number is then never 0, and 0 tells of none.
-use mathlib.Core.Path.{_≡_, refl, ap}
+use mathlib.Core.Path.{_≡_, refl}
 use mathlib.Core.Bool.{Bool, true, false, _&&_}
 use mathlib.Core.List.{List}
 use Prim.Native.Nat.{ℕ}
 use lib.Dec.{eqb, ltb}
-use Rattle.frame.specs.declared.Poll.{Poll}
 use Rattle.frame.specs.declared.PollAnswer.the-variants as asked
-use Rattle.frame.specs.declared.Reading.{Reading}
 use Rattle.frame.specs.declared.Reply.the-variants as replied
-use Rattle.frame.specs.declared.Temperature.{Temperature}
-use Rattle.frame.specs.declared.Temperature.the-variants.{Degrees, Above, Below, Absent}
 use Rattle.frame.specs.declared.Written.the-variants as written
 use Rattle.frame.specs.Line.{line, mark}
 use Rattle.frame.specs.Pick.{pick}
@@ -22,19 +18,14 @@ use Rattle.sheet.specs.declared.view.Counted.the-variants as counted
 use Rattle.sheet.specs.Slots.{Slot, blank, spoiled, foreign, holds, slotOf, slotAt, slots, sizeAllowed}
 use Rattle.sheet.specs.Look.{bare, told, lookOf}
 use Rattle.sheet.specs.View.{countOf}
-use Rattle.board.specs.Row.{isSet, kindOf, tenthsOf, temperatureBy}
+use Rattle.board.specs.Row.{isSet}
+use Rattle.board.proofs.Told.{temperature-back}
 use Rattle.recorder.specs.Told.{pollTold, pollMeant, replyTold, replyMeant, writtenTold, writtenMeant, savedTold, savedMeant, countedTold, countedMeant, slotTold, slotMeant}
 
--- A flag and a temperature come back from the numbers that tell them.
+-- A flag comes back from the number that tells it.
 flag-back : (b : Bool) → isSet (mark b) ≡ b
 flag-back true = refl
 flag-back false = refl
-
-temperature-back : (t : Temperature) → temperatureBy (kindOf t) (tenthsOf t) ≡ t
-temperature-back (Degrees d) = refl
-temperature-back Above = refl
-temperature-back Below = refl
-temperature-back Absent = refl
 
 -- An answer comes back where a good one does, and a refusal does by any number but 0.
 by-fault : {A T : Type 0} (told : A → T) (meant : T → A) (good : A) (bad : ℕ → A) → meant (told good) ≡ good → ((n : ℕ) → eqb n 0 ≡ false → meant (told (bad n)) ≡ bad n) → (n : ℕ) → meant (told (pick (eqb n 0) good (bad n))) ≡ pick (eqb n 0) good (bad n)

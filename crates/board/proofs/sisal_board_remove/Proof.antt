@@ -141,13 +141,13 @@ module _ {M : Type 1} (𝓤 : URA M) (H : Heap 𝓤) (A : Atoms 𝓤) (W : Given
     puts known r c loaded made is-r is-c =
         assigns ! (addr ! (from ! (fld ! refl (hop ! (look-in ! 16 (sub ! 0 refl (whole !))) (stop !))))) (from ! (stop !)) (init ! 4 refl (tt, tt)) $
         assigns ! (agg ! (and-then ! (load ! (from ! (stop !)) (look ! 4 refl)) (and-then ! (load ! (from ! (fld ! refl (stop !))) (look-in ! 16 (sub ! 1 refl (whole !)))) (no-more !)))) (from ! (stop !)) (init ! 2 refl (tt, (tt, (record { fits = gn .0 }, tt)))) $
-        move ! (1 ∷ 0 ∷ []) $ use2 W (raw (Put 𝓤 H A mem run .pre (to-put 𝓤 H A mem run W b o ys κ q γ r c))) (goes-put 𝓤 H A mem run W b o ys κ q γ r c (within ys r loaded) (LL.owed B.the-type B′.the-laws r _ is-r .1 .0 .1) is-c) $
+        move ! (1 ∷ 0 ∷ []) $ use2 W (raw (Put 𝓤 H A mem run .pre (to-put 𝓤 H A mem run W b o ys κ q γ (r .n) c))) (goes-put 𝓤 H A mem run W b o ys κ q γ (r .n) c (within ys r loaded) (LL.owed B.the-type B′.the-laws r _ is-r .1 .0 .1) is-c) $
         -- [what `put` asks; _8; …]
-        calls-at ! fm (Put 𝓤 H A mem run) known (to-put 𝓤 H A mem run W b o ys κ q γ r c) (and-then ! (load ! (from ! (stop !)) (look ! 1 refl)) (and-then ! (load ! (from ! (fld ! refl (stop !))) (look-in ! 11 (sub ! 1 refl (whole !)))) (and-then ! (load ! (from ! (stop !)) (look ! 9 refl)) (no-more !)))) (λ u.
+        calls-at ! fm (Put 𝓤 H A mem run) known (to-put 𝓤 H A mem run W b o ys κ q γ (r .n) c) (and-then ! (load ! (from ! (stop !)) (look ! 1 refl)) (and-then ! (load ! (from ! (fld ! refl (stop !))) (look-in ! 11 (sub ! 1 refl (whole !)))) (and-then ! (load ! (from ! (stop !)) (look ! 9 refl)) (no-more !)))) (λ u.
         use1 W (later (some (λ (f : ℕ). ((‵ (flft κ q) ⊛ ‵ ftrue) ⊛ ‵ (u8 .own f (u ∷ []))) ⊛ raw (ensured 𝓤 H A put′.ended (put′.clauses 𝓤 H A mem run) (κ, tt) (x γ, (r .n, (c, tt))) tt f)))) (id⊢ 𝓤 _) $ await ! tt $ pick ! (λ f.
         -- what `put` ensures, at some last list
-        split ! $ move ! (1 ∷ []) $ use1 W (some (λ (zs : List Row × (Unit {0} × (Unit {0} × Unit {0}))). ‵ (lasts put′.ended (κ, tt) (x γ, (r .n, (c, tt))) zs) ⊛ raw (fact 𝓤 (Stored 𝓤 H A mem run W b o ys r c f (zs .0))))) (id⊢ 𝓤 _) $ pick ! (λ zs.
-        split ! $ move ! (1 ∷ []) $ heard ! (Stored 𝓤 H A mem run W b o ys r c f (zs .0)) (λ e. fsplit ! $ fsplit ! $ move ! (1 ∷ []) $ feqL ! (λ l.
+        split ! $ move ! (1 ∷ []) $ use1 W (some (λ (zs : List Row × (Unit {0} × (Unit {0} × Unit {0}))). ‵ (lasts put′.ended (κ, tt) (x γ, (r .n, (c, tt))) zs) ⊛ raw (fact 𝓤 (Stored 𝓤 H A mem run W b o ys (r .n) c f (zs .0))))) (id⊢ 𝓤 _) $ pick ! (λ zs.
+        split ! $ move ! (1 ∷ []) $ heard ! (Stored 𝓤 H A mem run W b o ys (r .n) c f (zs .0)) (λ e. fsplit ! $ fsplit ! $ move ! (1 ∷ []) $ feqL ! (λ l.
         -- [the last list; …; the token and the result; _8; …]
         move ! (2 ∷ []) $ split ! $ move ! (1 ∷ []) $ peeks ! u8 (Is u8) (shows 𝓤 H A u8) f (u ∷ []) (λ is.
         land ! (from ! (stop !)) (init ! 20 refl (uint-lawful 𝓤 H A W w8 .typed f _ is .0)) $ drop ! $

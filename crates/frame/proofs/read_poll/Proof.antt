@@ -12,6 +12,7 @@ use Rattle.frame.specs.Line.{line, bit, field, threeDecimal, threeDigits
 use Rattle.frame.specs.Poll.{pollFault, pollOf, pollAt}
 use Rattle.frame.specs.Packed.{threeBy}
 use Rattle.frame.proofs.Three.{was-bad, was-good, number-le}
+use Rattle.frame.proofs.Shifts.{start-clear}
 use borrow.Author.Needs.{needs}
 use Rattle.frame.proofs.read_poll.Statement.{statement}
 use Rattle.frame.proofs.read_poll.Tie as tie
@@ -101,11 +102,8 @@ mul-n c = search needs
 returns-2 : tie.Need-returns-2
 returns-2 c =
     let s = c .before .before .before .before .before .before .args .poll .now in
-    let none : eqb (bit (line s) 1) 0 ≡ true = rw (← line-is (c .before)) (eq-eqb _ _ (zero-bit (c .before .two .result * 2 ^ 48) (c .if2 .taken))) in
+    let none : eqb (bit (line s) 1) 0 ≡ true = rw (← line-is (c .before)) (eq-eqb _ _ (start-clear (c .before .two .result * 2 ^ 48) (c .if2 .taken))) in
     record { answers = no-start s (is-two (c .before)) none }
-  where
-    zero-bit : (n : ℕ) → n / 2 ^ 63 ≡ 0 → bit n 1 ≡ 0
-    zero-bit n h = omega arith
 
 three-requires : tie.Need-three-requires
 three-requires c κs = search needs

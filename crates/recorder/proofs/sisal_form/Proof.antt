@@ -7,15 +7,12 @@ use Rattle.recorder.proofs.sisal_form.Reads as reads
 use Rattle.recorder.proofs.sisal_form.Lts as lts
 use Rattle.frame.proofs.formed.Reads as formed-reads
 
--- src/lib.rt:56:8
 formed-requires : tie.Need-formed-requires
 formed-requires c κs = search needs
 
--- src/lib.rt:52:1
 returns : tie.Need-returns
 returns c = record { answers = simp (sym (c .before .formed .ensures) ∙ c .if1 .taken) }
 
--- src/lib.rt:52:1
 returns-2 : tie.Need-returns-2
 returns-2 c = record { answers = simp (sym (c .before .formed .ensures) ∙ c .if1 .left) }
 

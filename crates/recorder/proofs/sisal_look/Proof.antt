@@ -8,15 +8,12 @@ use Rattle.recorder.proofs.sisal_look.Lts as lts
 use Rattle.recorder.proofs.told.slot.Reads as slot-reads
 use Rattle.sheet.proofs.look.Reads as look-reads
 
--- src/lib.rt:129:16
 look-requires : tie.Need-look-requires
 look-requires c κs = search needs
 
--- src/lib.rt:129:5
 slot-requires : tie.Need-slot-requires
 slot-requires c κs = rw (c .look .ensures .answers) (look-fits (c .before .before .args .sheet .now) (c .before .before .args .slot))
 
--- src/lib.rt:125:1
 returns : tie.Need-returns
 returns c = search needs
 

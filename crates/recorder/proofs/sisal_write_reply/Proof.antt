@@ -10,23 +10,18 @@ use Rattle.frame.proofs.write_reply.Reads as write-reply-reads
 use Rattle.recorder.proofs.told.temperature_by.Reads as temperature-by-reads
 use Rattle.recorder.proofs.told.written.Reads as written-reads
 
--- src/lib.rt:98:9
 temperature-by-requires : tie.Need-temperature-by-requires
 temperature-by-requires c κs = search needs
 
--- src/lib.rt:105:19
 write-reply-requires : tie.Need-write-reply-requires
 write-reply-requires c κs = search needs
 
--- src/lib.rt:105:5
 written-requires : tie.Need-written-requires
 written-requires c κs = search needs
 
--- src/lib.rt:85:1
 same-length : tie.Need-same-length
 same-length c = search needs
 
--- src/lib.rt:85:1
 returns : tie.Need-returns
 returns c =
     let w = c .before .before .before in

@@ -5,32 +5,26 @@ use Rattle.frame.proofs.Tables.{else-sixteenths}
 use Rattle.frame.proofs.charts.places.Statement.{statement}
 use Rattle.frame.proofs.charts.places.Tie as tie
 
--- src/charts.rt:37:1
 returns : tie.Need-returns
 unfolding chartOf oneBit placesOf placeIn
 returns c = rw (c .match .keys1)
 
--- src/charts.rt:37:1
 returns-2 : tie.Need-returns-2
 unfolding chartOf twoBits placesOf placeIn
 returns-2 c = rw (c .match .keys2)
 
--- src/charts.rt:37:1
 returns-3 : tie.Need-returns-3
 unfolding chartOf feetTens placesOf placeIn
 returns-3 c = rw (c .match .keys3)
 
--- src/charts.rt:37:1
 returns-4 : tie.Need-returns-4
 unfolding chartOf decimal placesOf placeIn
 returns-4 c = rw (c .match .keys4)
 
--- src/charts.rt:37:1
 returns-5 : tie.Need-returns-5
 unfolding chartOf inches placesOf placeIn
 returns-5 c = rw (c .match .keys5)
 
--- src/charts.rt:37:1
 returns-6 : tie.Need-returns-6
 unfolding sixteenths placesOf placeIn
 returns-6 c =

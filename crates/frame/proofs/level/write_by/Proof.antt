@@ -1,6 +1,6 @@
 -- `frame::level::write_by` meets its contract: the shifted codes of a level within its mode fit the word, and so do the shifted ones of any
 -- other. Assumes nothing.
-use Prim.Native.Nat.{_+_, _-_, _^_, _<_, _≤_}
+use Prim.Native.Nat.{_+_, _-_, _<_}
 use native.Mathlib.Omega.{arith}
 use borrow.Author.Tests.{le-leb, lt-leb}
 use lib.Pow.{pow-pos, shl-exact, ones-lt}

@@ -2,7 +2,7 @@
 use mathlib.Core.Path.{sym, ap, _∙_}
 use Rattle.frame.specs.Level.{Mode}
 use Rattle.frame.specs.Packed.{levelCode}
-use Rattle.frame.proofs.Constants.{mode-0, mode-1, mode-2, mode-else}
+use Rattle.frame.proofs.EachMode.{mode-0, mode-1, mode-2, mode-else}
 use borrow.Author.Needs.{needs}
 use Rattle.frame.proofs.modes.read_level.Statement.{statement}
 use Rattle.frame.proofs.modes.read_level.Tie as tie

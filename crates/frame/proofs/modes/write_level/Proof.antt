@@ -1,7 +1,7 @@
 -- `frame::modes::write_level` meets its contract: each arm is its mode. Assumes nothing.
 use mathlib.Core.Path.{sym, ap, _∙_}
 use Rattle.frame.specs.Level.{Mode, putLevel}
-use Rattle.frame.proofs.Constants.{mode-0, mode-1, mode-2, mode-else}
+use Rattle.frame.proofs.EachMode.{mode-0, mode-1, mode-2, mode-else}
 use borrow.Author.Needs.{needs}
 use Rattle.frame.proofs.modes.write_level.Statement.{statement}
 use Rattle.frame.proofs.modes.write_level.Tie as tie

@@ -10,6 +10,7 @@ use Rattle.frame.specs.Reply.{modeIn, parityRight}
 use Rattle.frame.specs.Packed.{threeBy, levelCode}
 use Rattle.frame.proofs.Three.{matches, differs}
 use Rattle.frame.proofs.Verdict.{right4, level-lt, line-3, line-4, line-5, line-level, line-read}
+use Rattle.frame.proofs.Shifts.{start-clear}
 use borrow.Author.Needs.{needs}
 use Rattle.frame.proofs.replies.read_line.Statement.{statement}
 use Rattle.frame.proofs.replies.read_line.Tie as tie
@@ -17,9 +18,6 @@ use Rattle.frame.proofs.replies.read_line.Tie as tie
 -- what the tests passed say of the line
 first-bit : (n : ℕ) → (n / 2 ^ 63 ≡ 0 → ⊥) → n < 2 ^ 64 → eqb (bit n 1) 0 ≡ false
 first-bit n h w = ne-eqb (bit n 1) 0 (λ e. h (omega arith))
-
-no-start : (n : ℕ) → n / 2 ^ 63 ≡ 0 → bit n 1 ≡ 0
-no-start n h = omega arith
 
 started : (c : tie.Else1) → eqb (bit (line (c .before .before .before .args .reply .now)) 1) 0 ≡ false
 started c =
@@ -46,7 +44,7 @@ pack-requires c κs = search needs
 returns : tie.Need-returns
 returns c =
     let a = c .before .before .before .args in
-    let e : eqb (bit (line (a .reply .now)) 1) 0 ≡ true = rw (← c .before .pack .ensures) (eq-eqb _ _ (no-start (c .before .pack .result) (c .if1 .taken))) in
+    let e : eqb (bit (line (a .reply .now)) 1) 0 ≡ true = rw (← c .before .pack .ensures) (eq-eqb _ _ (start-clear (c .before .pack .result) (c .if1 .taken))) in
     sym (line-3 (a .settings) (a .address) (a .count) (a .reply .now) e)
 
 three-requires : tie.Need-three-requires

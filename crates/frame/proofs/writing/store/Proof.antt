@@ -1,9 +1,4 @@
 -- `frame::writing::store` meets its contract: by whether the reply is short, each store's own contract is the one asked for. Assumes nothing.
-use mathlib.Core.Path.{_≡_, sym, _∙_}
-use mathlib.Core.Bool.{Bool, true, false}
-use Prim.Native.Nat.{ℕ, _≤_}
-use native.Mathlib.Omega.{arith}
-use Rattle.frame.specs.Pick.{pick}
 use borrow.Author.Needs.{needs}
 use Rattle.frame.proofs.writing.store.Statement.{statement}
 use Rattle.frame.proofs.writing.store.Tie as tie

@@ -3,8 +3,6 @@ use mathlib.Core.Path.{_≡_, sym, _∙_}
 use mathlib.Core.Bool.{true, false}
 use Prim.Native.Nat.{_+_, _^_, _<_, _≤_}
 use native.Mathlib.Omega.{arith}
-use lib.Count.{ones}
-use Rattle.frame.specs.Line.{marks}
 use Rattle.frame.specs.Temperature.{isAbsent}
 use Rattle.frame.specs.Reply.{bodyOf, replyLine}
 use Rattle.frame.proofs.Counted.{counted-5, counted-7}

@@ -6,27 +6,21 @@ use Rattle.recorder.proofs.told.poll.Reads as reads
 use Rattle.recorder.proofs.told.poll.Lts as lts
 use Rattle.recorder.proofs.told.marked.Reads as marked-reads
 
--- src/told.rt:29:27
 enum-known-answer : tie.Need-enum-known-answer
 enum-known-answer c = search needs
 
--- src/told.rt:31:20
 marked-requires : tie.Need-marked-requires
 marked-requires c κs = search needs
 
--- src/told.rt:32:20
 marked-requires-2 : tie.Need-marked-requires-2
 marked-requires-2 c κs = search needs
 
--- src/told.rt:35:29
 enum-known-answer-2 : tie.Need-enum-known-answer-2
 enum-known-answer-2 c = search needs
 
--- src/told.rt:25:1
 returns : tie.Need-returns
 returns c = simp (c .before .before .before .answer .given .1, c .before .marked .ensures, c .marked2 .ensures)
 
--- src/told.rt:25:1
 returns-2 : tie.Need-returns-2
 returns-2 c = simp (c .before .answer2 .given .1)
 

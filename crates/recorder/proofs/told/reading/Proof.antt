@@ -8,43 +8,33 @@ use Rattle.recorder.proofs.told.reading.Reads as reads
 use Rattle.recorder.proofs.told.reading.Lts as lts
 use Rattle.recorder.proofs.told.marked.Reads as marked-reads
 
--- src/told.rt:53:17
 marked-requires : tie.Need-marked-requires
 marked-requires c κs = search needs
 
--- src/told.rt:54:17
 marked-requires-2 : tie.Need-marked-requires-2
 marked-requires-2 c κs = search needs
 
--- src/told.rt:58:30
 enum-known-t : tie.Need-enum-known-t
 enum-known-t c = search needs
 
--- src/told.rt:64:13
 enum-told : tie.Need-enum-told
 enum-told c = search needs
 
--- src/told.rt:68:13
 enum-told-2 : tie.Need-enum-told-2
 enum-told-2 c = search needs
 
--- src/told.rt:71:32
 enum-told-3 : tie.Need-enum-told-3
 enum-told-3 c = search needs
 
--- src/told.rt:45:1
 returns : tie.Need-returns
 returns c = simp (c .before .t .given .1, c .before .before .before .before .marked .ensures, c .before .before .before .marked2 .ensures, toZ-ofZ {w = w16} {z = c .before .t .given .0 .0} (record { sfits = c .known-told .given .0 .1 }))
 
--- src/told.rt:45:1
 returns-2 : tie.Need-returns-2
 returns-2 c = simp (c .enum-told .given .1, c .before .before .before .marked .ensures, c .before .before .marked2 .ensures)
 
--- src/told.rt:45:1
 returns-3 : tie.Need-returns-3
 returns-3 c = simp (c .enum-told2 .given .1, c .before .before .before .marked .ensures, c .before .before .marked2 .ensures)
 
--- src/told.rt:45:1
 returns-4 : tie.Need-returns-4
 returns-4 c = simp (c .enum-told3 .given .1, c .before .before .before .marked .ensures, c .before .before .marked2 .ensures)
 

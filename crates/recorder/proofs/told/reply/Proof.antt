@@ -7,23 +7,18 @@ use Rattle.recorder.proofs.told.reply.Reads as reads
 use Rattle.recorder.proofs.told.reply.Lts as lts
 use Rattle.recorder.proofs.told.reading.Reads as reading-reads
 
--- src/told.rt:79:21
 enum-known-answer : tie.Need-enum-known-answer
 enum-known-answer c = search needs
 
--- src/told.rt:79:27
 reading-requires : tie.Need-reading-requires
 reading-requires c κs = search needs
 
--- src/told.rt:80:24
 enum-known-answer-2 : tie.Need-enum-known-answer-2
 enum-known-answer-2 c = search needs
 
--- src/told.rt:75:1
 returns : tie.Need-returns
 returns c = c .reading .ensures ∙ simp (c .before .before .answer .given .1)
 
--- src/told.rt:75:1
 returns-2 : tie.Need-returns-2
 returns-2 c = simp (c .before .answer2 .given .1)
 

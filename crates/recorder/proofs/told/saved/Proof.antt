@@ -5,19 +5,15 @@ use Rattle.recorder.proofs.told.saved.Tie as tie
 use Rattle.recorder.proofs.told.saved.Reads as reads
 use Rattle.recorder.proofs.told.saved.Lts as lts
 
--- src/told.rt:110:23
 enum-known-answer : tie.Need-enum-known-answer
 enum-known-answer c = search needs
 
--- src/told.rt:114:24
 enum-known-answer-2 : tie.Need-enum-known-answer-2
 enum-known-answer-2 c = search needs
 
--- src/told.rt:106:1
 returns : tie.Need-returns
 returns c = simp (c .before .answer .given .1)
 
--- src/told.rt:106:1
 returns-2 : tie.Need-returns-2
 returns-2 c = simp (c .before .answer2 .given .1)
 

@@ -7,63 +7,48 @@ use Rattle.recorder.proofs.told.slot.Reads as reads
 use Rattle.recorder.proofs.told.slot.Lts as lts
 use Rattle.recorder.proofs.told.bare.Reads as bare-reads
 
--- src/told.rt:155:25
 enum-told : tie.Need-enum-told
 enum-told c = search needs
 
--- src/told.rt:155:25
 bare-requires : tie.Need-bare-requires
 bare-requires c κs = search needs
 
--- src/told.rt:156:27
 enum-told-2 : tie.Need-enum-told-2
 enum-told-2 c = search needs
 
--- src/told.rt:156:27
 bare-requires-2 : tie.Need-bare-requires-2
 bare-requires-2 c κs = search needs
 
--- src/told.rt:157:23
 enum-known-found : tie.Need-enum-known-found
 enum-known-found c = search needs
 
--- src/told.rt:162:20
 cast-t7 : tie.Need-cast-t7
 cast-t7 c = let s = c .before .before .before .before .before in record { fits = simp (c .before .before .found .given .1) at (s .pre) }
 
--- src/told.rt:166:27
 enum-told-3 : tie.Need-enum-told-3
 enum-told-3 c = search needs
 
--- src/told.rt:166:27
 bare-requires-3 : tie.Need-bare-requires-3
 bare-requires-3 c κs = search needs
 
--- src/told.rt:167:24
 enum-known-found-2 : tie.Need-enum-known-found-2
 enum-known-found-2 c = search needs
 
--- src/told.rt:167:35
 bare-requires-4 : tie.Need-bare-requires-4
 bare-requires-4 c κs = search needs
 
--- src/told.rt:148:1
 returns : tie.Need-returns
 returns c = c .bare .ensures ∙ simp (c .before .enum-told .given .1)
 
--- src/told.rt:148:1
 returns-2 : tie.Need-returns-2
 returns-2 c = c .bare2 .ensures ∙ simp (c .before .enum-told2 .given .1)
 
--- src/told.rt:148:1
 returns-3 : tie.Need-returns-3
 returns-3 c = simp (c .before .before .found .given .1)
 
--- src/told.rt:148:1
 returns-4 : tie.Need-returns-4
 returns-4 c = c .bare3 .ensures ∙ simp (c .before .enum-told3 .given .1)
 
--- src/told.rt:148:1
 returns-5 : tie.Need-returns-5
 returns-5 c = c .bare4 .ensures ∙ simp (c .before .before .found2 .given .1)
 

@@ -7,19 +7,15 @@ use Rattle.recorder.proofs.told.temperature_by.Tie as tie
 use Rattle.recorder.proofs.told.temperature_by.Reads as reads
 use Rattle.recorder.proofs.told.temperature_by.Lts as lts
 
--- src/told.rt:122:1
 returns : tie.Need-returns
 returns c = simp (c .match .keys1, toZ-ofZ {w = w16} {z = c .before .args .tenths} (c .before .fits .tenths))
 
--- src/told.rt:122:1
 returns-2 : tie.Need-returns-2
 returns-2 c = simp (c .match .keys2)
 
--- src/told.rt:122:1
 returns-3 : tie.Need-returns-3
 returns-3 c = simp (c .match .keys3)
 
--- src/told.rt:122:1
 returns-4 : tie.Need-returns-4
 returns-4 c = simp (ne-eqb _ _ (c .match .rest .0 .0 .1), ne-eqb _ _ (c .match .rest .0 .1), ne-eqb _ _ (c .match .rest .1))
 

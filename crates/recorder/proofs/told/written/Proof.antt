@@ -5,19 +5,15 @@ use Rattle.recorder.proofs.told.written.Tie as tie
 use Rattle.recorder.proofs.told.written.Reads as reads
 use Rattle.recorder.proofs.told.written.Lts as lts
 
--- src/told.rt:95:24
 enum-known-answer : tie.Need-enum-known-answer
 enum-known-answer c = search needs
 
--- src/told.rt:99:26
 enum-known-answer-2 : tie.Need-enum-known-answer-2
 enum-known-answer-2 c = search needs
 
--- src/told.rt:91:1
 returns : tie.Need-returns
 returns c = simp (c .before .answer .given .1)
 
--- src/told.rt:91:1
 returns-2 : tie.Need-returns-2
 returns-2 c = simp (c .before .answer2 .given .1)
 
