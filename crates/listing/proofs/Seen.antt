@@ -5,7 +5,7 @@ use mathlib.Core.Bool.{Bool, true, false, _&&_}
 use mathlib.Core.List.{List, [], _++_}
 use Prim.Native.Nat.{ℕ, _-_, _%_, _<_, _≤_}
 use native.Mathlib.Omega.{arith}
-use borrow.Author.Tests.{lt-ltb, leb-true}
+use borrow.Author.Tests.{leb-true}
 use lib.Dec.{eqb, leb}
 use lib.ListN.{length, getD, take, replicate}
 use lib.Seq.{take-at}
@@ -18,8 +18,9 @@ use Rattle.sheet.specs.declared.Looked.{Looked}
 use Rattle.sheet.specs.Bytes.{FF, allBlank}
 use Rattle.sheet.specs.Record.{isRecord, fieldsOf}
 use Rattle.sheet.specs.Slots.{Slot, blank, spoiled, foreign, holds, sizeAllowed, slots, slotAt, slotOf, recordIn}
-use Rattle.sheet.specs.Look.{Looks, lookOf, told, headOf, entryWith, recordTold}
+use Rattle.sheet.specs.Look.{Looks, told, headOf, entryWith, recordTold}
 use Rattle.sheet.proofs.Records.{record-passes, passes-formed, formed-few}
+use Rattle.sheet.proofs.SlotParts.{look-within}
 use Rattle.listing.specs.Text.{ascii, decimal}
 use Rattle.listing.specs.Lines.{recordText, lineOf, slotLine}
 
@@ -70,13 +71,9 @@ tells k x = go (allBlank x) (eqb (getD x 0 0) FF) (isRecord x) refl
     go false false false e = record { line = refl; records = refl; bits = omega arith }
 
 -- and of a look at a slot of a sheet
-looked-told : (s : List ℕ) (k : ℕ) → sizeAllowed s ≡ true → k < slots s → lookOf s k ≡ told (slotOf (slotAt s k))
-unfolding lookOf
-looked-told s k size near = simp (size, lt-ltb k (slots s) near)
-
 module _ (s : List ℕ) (k : ℕ) (looked : Looked) (size : sizeAllowed s ≡ true) (near : k < slots s) (looks : Looks s k looked) where
   seen : Tells k (slotOf (slotAt s k)) looked
-  seen = rw (looks .answers, looked-told s k size near) (tells k (slotAt s k))
+  seen = rw (looks .answers, look-within s k size near) (tells k (slotAt s k))
 
   pub seen-line : lineFound k (looked .found) (looked .reply) ≡ slotLine s k
   seen-line = seen .line

@@ -11,7 +11,7 @@ use frame::is_plus;
 use frame::magnitude;
 use sheet::Found;
 use sheet::Head;
-use sheet::view::look_at;
+use sheet::look;
 ghost use mathlib.Core.Path.{_≡_};
 ghost use mathlib.Core.Bool.{true};
 ghost use mathlib.Core.List.{_++_};
@@ -129,7 +129,7 @@ pub(crate) fn put_slot(out: &mut [u8], at: usize, sheet: &[u8], slot: usize) -> 
     ensures { λ r. ⌜ Puts (slotLine (now (sheet .entry)) slot) 40 (now (out .entry)) at (r .end) (now (out .exit)) ⌝ }
     ensures { λ r. ⌜ r .records ≡ length (recordIn (slotOf (slotAt (now (sheet .entry)) slot))) ⌝ }
 {
-    let looked = look_at(sheet, slot);
+    let looked = look(sheet, slot);
     let found = looked.found;
     let reply = looked.reply;
     let number = slot as u16;

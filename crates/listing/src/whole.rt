@@ -3,7 +3,7 @@ use crate::lines::Line;
 use crate::lines::put_count;
 use crate::lines::put_slot;
 use sheet::Found;
-use sheet::view::look_at;
+use sheet::look;
 ghost use mathlib.Core.Path.{_≡_};
 ghost use mathlib.Core.Bool.{true};
 ghost use mathlib.Core.List.{[], _++_};
@@ -36,7 +36,7 @@ pub(crate) fn count_records(sheet: &[u8], many: usize) -> usize
     let mut records = 0;
     let mut k = 0;
     while k < many {
-        let looked = look_at(sheet, k);
+        let looked = look(sheet, k);
         let found = looked.found;
         records += records_in(found);
         k += 1;

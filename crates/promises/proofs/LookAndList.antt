@@ -4,7 +4,6 @@ use mathlib.Core.Bool.{Bool, true, false}
 use mathlib.Core.List.{List, [], _∷_, _++_}
 use Prim.Native.Nat.{ℕ, zero, suc, _-_, _<_, _≤_}
 use native.Mathlib.Omega.{arith}
-use borrow.Author.Tests.{lt-ltb}
 use lib.Dec.{eqb}
 use lib.ListN.{length, getD, take, replicate}
 use lib.Seq.{take-at}
@@ -14,8 +13,9 @@ use Rattle.sheet.specs.declared.Looked.{Looked}
 use Rattle.sheet.specs.Bytes.{FF, allBlank}
 use Rattle.sheet.specs.Record.{Entry, fieldsOf, isRecord}
 use Rattle.sheet.specs.Slots.{blank, spoiled, foreign, holds, recordIn, sizeAllowed, slots, slotAt, slotOf, listUpTo}
-use Rattle.sheet.specs.Look.{told, lookOf, Looks, recordTold}
+use Rattle.sheet.specs.Look.{told, Looks, recordTold}
 use Rattle.sheet.proofs.Records.{record-passes, passes-formed, formed-few}
+use Rattle.sheet.proofs.SlotParts.{look-within}
 use Rattle.promises.specs.LookAndList.{gathered, LookAndList}
 
 -- A reply in form takes the bytes for its count, so that what follows it beside the answer is not told.
@@ -36,10 +36,6 @@ told-slot x = go (allBlank x) (eqb (getD x 0 0) FF) (isRecord x) refl
     go false false true h =
         told-back (fieldsOf x) (formed-few (fieldsOf x .count) (fieldsOf x .reply) (passes-formed (fieldsOf x) (record-passes x h)) .1)
     go false false false h = refl
-
-look-within : (s : List ℕ) (k : ℕ) → sizeAllowed s ≡ true → k < slots s → lookOf s k ≡ told (slotOf (slotAt s k))
-unfolding lookOf
-look-within s k sized h = simp (sized, lt-ltb k (slots s) h)
 
 module _ (s : List ℕ) (sized : sizeAllowed s ≡ true) (answer : ℕ → Looked) (looks : (k : ℕ) → k < slots s → Looks s k (answer k)) where
   up-to : (k : ℕ) → k ≤ slots s → listUpTo s k ≡ gathered answer k

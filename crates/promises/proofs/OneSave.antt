@@ -26,7 +26,8 @@ use Rattle.promises.proofs.StorePlaces.{Places, places-take, places-at,
 use Rattle.promises.proofs.TakenSlot.{blank-is, good-short, version-made}
 use Rattle.promises.proofs.LastUsedSlot.{next-le, next-blank, next-used}
 use Rattle.promises.proofs.SaveMade as made-law
-use Rattle.promises.proofs.SaveMade.{slot-long, slot-byte}
+use Rattle.sheet.proofs.SlotParts.{slot-long}
+use Rattle.promises.proofs.SaveMade.{slot-byte}
 use Rattle.promises.proofs.Fates.{Clear, clear, Fate, refused, idle, broken, closed, fate}
 
 -- Two stores of one record go to two places.

@@ -1,7 +1,11 @@
 -- The laws that several proofs cite, each in a file named for what it speaks of.
 pub mod Numbers
+pub mod Ones
 pub mod Blank
 pub mod Same
+pub mod BlankWords
+pub mod ReplyWord
+pub mod SlotParts
 pub mod LastUsed
 pub mod Filling
 pub mod Records

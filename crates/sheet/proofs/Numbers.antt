@@ -1,16 +1,16 @@
--- Numbers written in bytes, big-endian: one byte more, how large they get, and that a number read from its own bytes comes back.
+-- Numbers written in bytes, big-endian: one byte more, two parts, how large they get, and that a number read from its own bytes comes back.
 -- Assumes nothing.
 use mathlib.Core.Path.{_≡_, refl, ap, _∙_}
 use mathlib.Core.List.{List, [], _∷_, _++_}
-use Prim.Native.Nat.{ℕ, zero, suc, _+_, _*_, _/_, _%_, _^_, _<_, _≤_}
+use Prim.Native.Nat.{ℕ, zero, suc, _+_, _-_, _*_, _/_, _%_, _^_, _<_, _≤_}
 use native.Mathlib.Nat.{pow-suc, pow-succ', pow-le-pow-right, mul-le-mul-right, one-le-pow, mod-eq-of-lt}
 use native.Mathlib.Numerals.{add-one}
 use native.Mathlib.Omega.{arith}
 use lib.Arith.{mod-mul, digits-div, digits-mod}
 use lib.Dec.{lit<}
-use lib.ListN.{length, getD, take, drop}
+use lib.ListN.{length, getD, take, drop, replicate}
 use lib.Seq.{take-suc}
-use Rattle.sheet.specs.Bytes.{bigEndian, numberAfter, numberIn}
+use Rattle.sheet.specs.Bytes.{FF, bigEndian, numberAfter, numberIn}
 
 -- Every element is a byte.
 abbrev pub AreBytes : List ℕ → Type 0
@@ -26,6 +26,16 @@ pub bytes-drop : (n : ℕ) (bs : List ℕ) → AreBytes bs → AreBytes (drop n 
 bytes-drop zero bs h i = h i
 bytes-drop (suc n) [] h i = omega arith
 bytes-drop (suc n) (b ∷ bs) h i = bytes-drop n bs (λ j. h (suc j)) i
+
+pub bytes-append : (bs cs : List ℕ) → AreBytes bs → AreBytes cs → AreBytes (bs ++ cs)
+bytes-append [] cs h k i = k i
+bytes-append (b ∷ bs) cs h k zero = h 0
+bytes-append (b ∷ bs) cs h k (suc i) = bytes-append bs cs (λ j. h (suc j)) k i
+
+pub bytes-replicate : (n b : ℕ) → b < 256 → AreBytes (replicate n b)
+bytes-replicate zero b h i = omega arith
+bytes-replicate (suc n) b h zero = h
+bytes-replicate (suc n) b h (suc i) = bytes-replicate n b h i
 
 after-snoc : (n : ℕ) (bs : List ℕ) (b : ℕ) → numberAfter n (bs ++ (b ∷ [])) ≡ numberAfter n bs * 256 + b
 after-snoc n [] b = refl
@@ -74,6 +84,29 @@ after-split m (b ∷ bs) =
     let here : numberAfter (m * 256 + b) bs ≡ (m * 256 + b) * p + numberIn bs = after-split (m * 256 + b) bs in
     let alone : numberAfter (0 * 256 + b) bs ≡ (0 * 256 + b) * p + numberIn bs = after-split (0 * 256 + b) bs in
     rw (pow-succ' 256 (length bs)) (omega arith)
+
+after-append : (m : ℕ) (bs cs : List ℕ) → numberAfter m (bs ++ cs) ≡ numberAfter (numberAfter m bs) cs
+after-append m [] cs = refl
+after-append m (b ∷ bs) cs = after-append (m * 256 + b) bs cs
+
+-- Two parts: the first stands above the second.
+pub number-append : (bs cs : List ℕ) → numberIn (bs ++ cs) ≡ numberIn bs * 256 ^ length cs + numberIn cs
+number-append bs cs = after-append 0 bs cs ∙ after-split (numberIn bs) cs
+
+pub number-zeros : (n : ℕ) → numberIn (replicate n 0) ≡ 0
+number-zeros zero = refl
+number-zeros (suc n) = number-zeros n
+
+after-ones : (n m : ℕ) → numberAfter m (replicate n FF) + 1 ≡ (m + 1) * 256 ^ n
+after-ones zero m = omega arith
+after-ones (suc n) m =
+    let p = 256 ^ n in
+    let rest : numberAfter (m * 256 + 255) (replicate n FF) + 1 ≡ (m * 256 + 255 + 1) * p = after-ones n (m * 256 + 255) in
+    rw (pow-succ' 256 n) (omega arith)
+
+-- Bytes that are all FF write the largest number.
+pub number-ones : (n : ℕ) → numberIn (replicate n FF) ≡ 256 ^ n - 1
+number-ones n = omega (arith, after-ones n 0)
 
 after-bytes : (m : ℕ) (bs : List ℕ) → AreBytes bs → bigEndian (length bs) (numberAfter m bs) ≡ bs
 after-bytes m [] h = refl

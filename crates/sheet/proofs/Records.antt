@@ -3,12 +3,12 @@
 use mathlib.Core.Path.{_≡_, refl, sym, ap, subst, _∙_}
 use mathlib.Core.Bool.{Bool, true, false, not, _&&_, false≢true}
 use mathlib.Core.List.{List, [], _∷_, _++_}
-use Prim.Native.Nat.{ℕ, zero, suc, _+_, _-_, _≤_}
+use Prim.Native.Nat.{ℕ, zero, suc, _+_, _-_, _*_, _%_, _^_, _≤_}
 use native.Mathlib.Omega.{arith}
 use borrow.Author.Tests.{eqb-true, ltb-false, leb-true}
 use lib.Dec.{eqb, ltb, leb}
-use lib.ListN.{length, getD, take, drop, replicate, length-drop}
-use lib.Seq.{drop-cons, length-take-le, drop-drop}
+use lib.ListN.{length, getD, take, drop, replicate, length-drop, take-append-drop}
+use lib.Seq.{drop-cons, drop-append-le, length-take-le, take-take, drop-drop}
 use Rattle.frame.specs.Pick.{pick}
 use Rattle.frame.specs.Line.{bytesFor, padClear, formed}
 use Rattle.frame.specs.Faults.{firstOf}
@@ -16,6 +16,8 @@ use Rattle.frame.proofs.Three.{both-left, both-right}
 use Rattle.sheet.specs.Bytes.{FF, bigEndian, numberIn, allBlank, same}
 use Rattle.sheet.specs.Record.{Entry, lengthOf, recordOf, picture, fieldsOf, passes, isRecord}
 use Rattle.sheet.proofs.Numbers.{AreBytes, bytes-take, bytes-drop, bytes-back}
+use Rattle.sheet.proofs.Blank.{blank-append}
+use Rattle.sheet.proofs.ReplyWord.{ending, reply-left}
 use Rattle.sheet.proofs.Same.{same-append, same-front, same-tail, same-number}
 
 -- A slot's 32 bytes, taken apart, against those of the record that they tell. Between the version and the reply each byte is what was read from it.
@@ -59,7 +61,7 @@ Told x =
     same x (picture (fieldsOf x)) ≡
     (eqb (numberIn (take 2 x)) (9 + bytesFor (getD x 10 0)) && (eqb (getD x 2 0) 1 && allBlank (drop (11 + bytesFor (getD x 10 0)) x)))
 
-pub same-picture : (x : List ℕ) → AreBytes x → length x ≡ 32 → getD x 10 0 ≤ 64 → Told x
+same-picture : (x : List ℕ) → AreBytes x → length x ≡ 32 → getD x 10 0 ≤ 64 → Told x
 same-picture x bytes long few =
     let rest = drop 11 x in
     let y = row x 11 0 in
@@ -82,13 +84,96 @@ unformed e h = go (ltb 15 (e .settings)) (ltb 999 (e .address)) (formed (e .coun
     go false false true e = e
     go false false false e = refl
 
--- What a slot is found to be by its parts: the checks, the length, the version, and FF after the record.
+-- The checks by their three tests.
+passes-by : (e : Entry) → passes e ≡ (not (ltb 15 (e .settings)) && (not (ltb 999 (e .address)) && formed (e .count) (e .reply)))
+unfolding passes firstOf
+passes-by e = go (ltb 15 (e .settings)) (ltb 999 (e .address)) (formed (e .count) (e .reply))
+  where
+    go : (s a f : Bool) → eqb (pick s 10 (pick a 11 (pick (not f) 14 0))) 0 ≡ (not s && (not a && f))
+    go true a f = refl
+    go false true f = refl
+    go false false true = refl
+    go false false false = refl
+
+-- What follows a reply: the rest of the 8 bytes where one can stand, and the bytes after those.
+behind : (x : List ℕ) (n : ℕ) → length x ≡ 32 → n ≤ 8
+    → allBlank (drop (11 + n) x) ≡ (allBlank (drop n (take 8 (drop 11 x))) && allBlank (drop 19 x))
+behind x n long short =
+    let ys = take 8 (drop 11 x) in
+    let full : length ys ≡ 8 = length-take-le 8 (drop 11 x) (simp length-drop (omega arith)) in
+    let split : drop 11 x ≡ ys ++ drop 19 x =
+    sym (take-append-drop 8 (drop 11 x)) ∙ ap (λ (l : List ℕ). ys ++ l) (drop-drop 8 11 x) in
+    ap allBlank
+    (sym (drop-drop n 11 x) ∙ ap (drop n) split ∙ drop-append-le n ys (drop 19 x) (omega arith))
+    ∙ blank-append (drop n ys) (drop 19 x)
+
+-- The tests of a record, in the order in which the code makes them.
+reorder : (s a f t u b w : Bool) → ((s && (a && f)) && (t && (u && (b && w)))) ≡ (s && (a && (t && (u && (w && (f && b))))))
+reorder false a f t u b w = refl
+reorder true false f t u b w = refl
+reorder true true true false u b w = refl
+reorder true true true true false b w = refl
+reorder true true true true true true true = refl
+reorder true true true true true true false = refl
+reorder true true true true true false true = refl
+reorder true true true true true false false = refl
+reorder true true false false u b w = refl
+reorder true true false true false b w = refl
+reorder true true false true true b true = refl
+reorder true true false true true b false = refl
+
+-- What a slot is found to be by its parts: settings, address, length, version, the FF after the bytes where a reply can stand, and those bytes, of which
+-- one word tells both the pad bits and the FF after the reply.
 pub found : (x : List ℕ) → AreBytes x → length x ≡ 32 → getD x 10 0 ≤ 64
     → isRecord x ≡
-    (passes (fieldsOf x)
-    && (eqb (numberIn (take 2 x)) (9 + bytesFor (getD x 10 0)) && (eqb (getD x 2 0) 1 && allBlank (drop (11 + bytesFor (getD x 10 0)) x))))
-unfolding isRecord
-found x bytes long few = ap (λ (t : Bool). passes (fieldsOf x) && t) (same-picture x bytes long few)
+    (not (ltb 15 (getD x 3 0))
+    && (not (ltb 999 (numberIn (take 2 (drop 8 x))))
+    && (eqb (numberIn (take 2 x)) (9 + bytesFor (getD x 10 0))
+    && (eqb (getD x 2 0) 1
+    && (allBlank (drop 19 x)
+    && eqb (numberIn (take 8 (drop 11 x)) % 2 ^ (64 - getD x 10 0)) (2 ^ (64 - 8 * bytesFor (getD x 10 0)) - 1))))))
+unfolding isRecord fieldsOf
+found x bytes long few =
+    let e = fieldsOf x in
+    let n = getD x 10 0 in
+    let size = bytesFor n in
+    let ys = take 8 (drop 11 x) in
+    let s = not (ltb 15 (e .settings)) in
+    let a = not (ltb 999 (e .address)) in
+    let t = eqb (numberIn (take 2 x)) (9 + size) in
+    let u = eqb (getD x 2 0) 1 in
+    let w = allBlank (drop 19 x) in
+    let own : formed n (take size (drop 11 x)) ≡ formed n (take size ys) = ap (formed n) (sym (take-take size 8 (drop 11 x) (omega arith))) in
+    let full : length ys ≡ 8 = length-take-le 8 (drop 11 x) (simp length-drop (omega arith)) in
+    let last = ending ys (bytes-take 8 (drop 11 x) (bytes-drop 11 x bytes)) full n few in
+    ap (λ (r : Bool). passes e && r) (same-picture x bytes long few)
+    ∙ (λ i. (passes-by e ∙ ap (λ (f : Bool). s && (a && f)) own) i && (t && (u && behind x size long (omega arith) i)))
+    ∙ reorder s a (formed n (take size ys)) t u (allBlank (drop size ys)) w
+    ∙ ap (λ (r : Bool). s && (a && (t && (u && (w && r))))) (sym last)
+
+last-of : (s a t u w z : Bool) → (s && (a && (t && (u && (w && z))))) ≡ true → z ≡ true
+last-of s a t u w true h = refl
+last-of false a t u w false h = h
+last-of true false t u w false h = h
+last-of true true false u w false h = h
+last-of true true true false w false h = h
+last-of true true true true false false h = h
+last-of true true true true true false h = h
+
+-- Of a record, the bytes where its reply stands: with the bits after the count cleared they are the reply's, and 0 after them.
+pub record-reply : (x : List ℕ) → AreBytes x → length x ≡ 32 → getD x 10 0 ≤ 64 → isRecord x ≡ true
+    → let w = numberIn (take 8 (drop 11 x)) in bigEndian 8 (w - w % 2 ^ (64 - getD x 10 0))
+    ≡ take (bytesFor (getD x 10 0)) (drop 11 x) ++ replicate (8 - bytesFor (getD x 10 0)) 0
+record-reply x bytes long few is =
+    let n = getD x 10 0 in
+    let size = bytesFor n in
+    let ys = take 8 (drop 11 x) in
+    let full : length ys ≡ 8 = length-take-le 8 (drop 11 x) (simp length-drop (omega arith)) in
+    let last =
+    last-of (not (ltb 15 (getD x 3 0))) (not (ltb 999 (numberIn (take 2 (drop 8 x))))) (eqb (numberIn (take 2 x)) (9 + size)) (eqb (getD x 2 0) 1)
+    (allBlank (drop 19 x)) (eqb (numberIn ys % 2 ^ (64 - n)) (2 ^ (64 - 8 * size) - 1)) (sym (found x bytes long few) ∙ is) in
+    reply-left ys (bytes-take 8 (drop 11 x) (bytes-drop 11 x bytes)) full n few last
+    ∙ ap (λ (l : List ℕ). l ++ replicate (8 - size) 0) (take-take size 8 (drop 11 x) (omega arith))
 
 -- What a record in a slot says of itself passes the checks, so its count is at most 64.
 pub record-passes : (x : List ℕ) → isRecord x ≡ true → passes (fieldsOf x) ≡ true

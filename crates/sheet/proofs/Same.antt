@@ -3,13 +3,14 @@ use mathlib.Core.Path.{_≡_, refl, sym, ap, _∙_}
 use mathlib.Core.Bool.{Bool, true, false, _&&_, and-assoc, false≢true}
 use mathlib.Core.List.{List, [], _∷_, _++_}
 use Prim.Native.Nat.{ℕ, _-_, _^_, _<_}
+use native.Mathlib.Nat.{one-le-pow}
 use native.Mathlib.Omega.{arith}
 use borrow.Author.Tests.{eq-eqb, eqb-true, eqb-false}
-use lib.Dec.{eqb}
-use lib.ListN.{length, take, drop, replicate, length-drop, take-append-drop}
+use lib.Dec.{eqb, lit<}
+use lib.ListN.{length, take, drop, replicate, length-drop, length-replicate, take-append-drop}
 use Rattle.frame.proofs.Three.{both-left, both-right}
 use Rattle.sheet.specs.Bytes.{FF, bigEndian, numberIn, allBlank, same}
-use Rattle.sheet.proofs.Numbers.{AreBytes, number-back, bytes-back}
+use Rattle.sheet.proofs.Numbers.{AreBytes, bytes-replicate, number-ones, number-back, bytes-back}
 
 pub same-self : (xs : List ℕ) → same xs xs ≡ true
 unfolding same
@@ -66,3 +67,12 @@ same-number bs n bytes small = go (eqb (numberIn bs) n) refl
         let own : bigEndian k n ≡ bs = ap (bigEndian k) (sym (eqb-true (numberIn bs) n h)) ∙ bytes-back bs bytes in
         ap (same bs) own ∙ same-self bs
     go false h = other (same bs (bigEndian k n)) refl (eqb-false (numberIn bs) n h)
+
+-- Bytes are blank exactly where they write the largest number.
+pub blank-number : (bs : List ℕ) → AreBytes bs → allBlank bs ≡ eqb (numberIn bs) (256 ^ length bs - 1)
+blank-number bs bytes =
+    let k = length bs in
+    let some : 0 < 256 ^ k = one-le-pow k 256 (lit< tt) in
+    let ones : bigEndian k (256 ^ k - 1) ≡ replicate k FF =
+    sym (λ i. bigEndian (length-replicate k FF i) (number-ones k i)) ∙ bytes-back (replicate k FF) (bytes-replicate k FF (lit< tt)) in
+    sym (same-blank bs) ∙ ap (same bs) (sym ones) ∙ same-number bs (256 ^ k - 1) bytes (omega arith)

@@ -2,8 +2,10 @@
 pub mod Bytes
 pub mod Record
 pub mod Slots
+pub mod Passing
 pub mod Stores
 pub mod Save
 pub mod Look
 pub mod InOrder
 pub mod View
+pub mod Word

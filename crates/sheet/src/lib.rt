@@ -5,17 +5,16 @@ mod record;
 mod slot;
 mod stores;
 pub mod view;
+mod words;
 
 use next::next_slot;
 use record::check;
-use slot::no_reply;
-use slot::read_slot;
 use stores::make_stores;
 ghost use mathlib.Core.Path.{_≡_};
 ghost use Rattle.sheet.specs.Record.{entryOf};
 ghost use Rattle.sheet.specs.Slots.{lengthAllowed};
 ghost use Rattle.sheet.specs.Save.{Saves};
-ghost use Rattle.sheet.specs.Look.{Looks};
+pub use view::look;
 
 // What a record says beside its reply bytes.
 pub struct Head {
@@ -84,18 +83,4 @@ pub fn save(
         count: count,
     };
     Saved::Stores(make_stores(sheet, 32 * next, head, reply, allowance))
-}
-
-// What a slot of a sheet reads as. Refuses by 12.
-pub fn look(sheet: &[u8], slot: usize) -> Looked
-    ensures { λ r. ⌜ Looks (now (sheet .entry)) slot r ⌝ }
-{
-    if !size_allowed(sheet.len()) {
-        return no_reply(Found::Refused(12));
-    }
-    if sheet.len() / 32 <= slot {
-        return no_reply(Found::Refused(12));
-    }
-    let at = 32 * slot;
-    read_slot(&sheet[at..at + 32])
 }

@@ -1,15 +1,19 @@
 // A record in the bytes of a slot: its checks, what it says, and whether it is one.
 use crate::Head;
-use crate::bytes::blank;
+use crate::bytes::bytes_of;
 use crate::bytes::number;
+use crate::bytes::past;
+use crate::bytes::past_bytes;
 use crate::bytes::wide;
+use crate::words::blank_after;
 ghost use mathlib.Core.Path.{_≡_};
-ghost use mathlib.Core.List.{_++_};
-ghost use Prim.Native.Nat.{_-_, _≤_};
-ghost use lib.ListN.{length, take, drop, replicate};
+ghost use Prim.Native.Nat.{_≤_};
+ghost use lib.ListN.{length, take, drop};
 ghost use Rattle.frame.specs.Faults.{firstOf};
+ghost use Rattle.sheet.specs.Bytes.{bigEndian, numberIn};
 ghost use Rattle.sheet.specs.Record.{entryOf, checks, isRecord, fieldsOf};
 ghost use Rattle.sheet.specs.Look.{headOf};
+ghost use Rattle.sheet.specs.Word.{firstBits};
 
 // The number of the first check that a record fails, 0 where it passes them all. No check looks at the minute.
 pub(crate) fn check(settings: u8, address: u16, count: usize, reply: &[u8]) -> u8
@@ -50,31 +54,32 @@ pub(crate) fn is_record(part: &[u8]) -> bool
     if 64 < count {
         return false;
     }
-    let size = (count + 7) / 8;
-    let end = 11 + size;
-    if check(head.settings, head.address, count, &part[11..end]) != 0 {
+    if 15 < head.settings {
         return false;
     }
+    if 999 < head.address {
+        return false;
+    }
+    let size = (count + 7) / 8;
     if number(&part[0..2]) != 9 + size as u64 {
         return false;
     }
     if part[2] != 1 {
         return false;
     }
-    blank(&part[end..])
+    if !blank_after(part) {
+        return false;
+    }
+    number(&part[11..19]) & past(count) == past_bytes(size)
 }
 
-// The first bytes of a record's reply, and 0 after them.
-pub(crate) fn reply_in(part: &[u8], size: usize) -> [u8; 8]
+// The bytes where a reply can stand, with 0 in every bit after the first `count`. Of a record these are its reply bytes, and 0 after them. The bits are
+// those that `is_record` looks at, so the compiler works them out once.
+pub(crate) fn reply_in(part: &[u8], count: usize) -> [u8; 8]
     requires { ⌜ length (now part) ≡ 32 ⌝ }
-    requires { ⌜ size ≤ 8 ⌝ }
-    ensures { λ r. ⌜ r ≡ take size (drop 11 (now (part .entry))) ++ replicate (8 - size) 0 ⌝ }
+    requires { ⌜ count ≤ 64 ⌝ }
+    ensures { λ r. ⌜ r ≡ bigEndian 8 (firstBits count (numberIn (take 8 (drop 11 (now (part .entry)))))) ⌝ }
 {
-    let mut reply = [0u8; 8];
-    let mut i = 0;
-    while i < size {
-        reply[i] = part[11 + i];
-        i += 1;
-    }
-    reply
+    let word = number(&part[11..19]);
+    bytes_of(word - (word & past(count)))
 }

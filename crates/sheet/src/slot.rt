@@ -1,10 +1,10 @@
 // The slot reader: what the 32 bytes of a slot read as.
 use crate::Found;
 use crate::Looked;
-use crate::bytes::blank;
 use crate::record::head_in;
 use crate::record::is_record;
 use crate::record::reply_in;
+use crate::words::blank_slot;
 ghost use mathlib.Core.Path.{_≡_};
 ghost use Rattle.sheet.specs.Look.{partOf, bare};
 
@@ -25,16 +25,15 @@ pub(crate) fn read_slot(part: &[u8]) -> Looked
     if part.len() != 32 {
         return no_reply(Found::Refused(12));
     }
-    if blank(part) {
-        return no_reply(Found::Blank);
-    }
     if part[0] == 0xff {
+        if blank_slot(part) {
+            return no_reply(Found::Blank);
+        }
         return no_reply(Found::Spoiled);
     }
     if is_record(part) {
         let head = head_in(part);
-        let size = (head.count + 7) / 8;
-        let reply = reply_in(part, size);
+        let reply = reply_in(part, head.count);
         return Looked {
             found: Found::Record(head),
             reply: reply,

@@ -78,7 +78,7 @@ pub fn slot_in<'a>(sheet: Sheet<'a>, slot: usize) -> Looked
 }
 
 // What a slot of a sheet reads as, seen through its view: for callers that have the sheet's bytes. Refuses by 12.
-pub fn look_at(sheet: &[u8], slot: usize) -> Looked
+pub fn look(sheet: &[u8], slot: usize) -> Looked
     ensures { λ r. ⌜ Looks (now (sheet .entry)) slot r ⌝ }
 {
     slot_in(open(sheet), slot)

@@ -3,9 +3,6 @@ use mathlib.Core.Path.{sym, _∙_}
 use borrow.Author.Needs.{needs}
 use Rattle.recorder.proofs.sisal_form.Statement.{statement}
 use Rattle.recorder.proofs.sisal_form.Tie as tie
-use Rattle.recorder.proofs.sisal_form.Reads as reads
-use Rattle.recorder.proofs.sisal_form.Lts as lts
-use Rattle.frame.proofs.formed.Reads as formed-reads
 
 formed-requires : tie.Need-formed-requires
 formed-requires c κs = search needs

@@ -3,10 +3,6 @@ use Rattle.recorder.proofs.Fits.{look-fits}
 use borrow.Author.Needs.{needs}
 use Rattle.recorder.proofs.sisal_look.Statement.{statement}
 use Rattle.recorder.proofs.sisal_look.Tie as tie
-use Rattle.recorder.proofs.sisal_look.Reads as reads
-use Rattle.recorder.proofs.sisal_look.Lts as lts
-use Rattle.recorder.proofs.told.slot.Reads as slot-reads
-use Rattle.sheet.proofs.look.Reads as look-reads
 
 look-requires : tie.Need-look-requires
 look-requires c κs = search needs

@@ -4,11 +4,6 @@ use mir.Facts.{toZ-ofZ}
 use borrow.Author.Needs.{needs}
 use Rattle.recorder.proofs.sisal_write_reply.Statement.{statement}
 use Rattle.recorder.proofs.sisal_write_reply.Tie as tie
-use Rattle.recorder.proofs.sisal_write_reply.Reads as reads
-use Rattle.recorder.proofs.sisal_write_reply.Lts as lts
-use Rattle.frame.proofs.write_reply.Reads as write-reply-reads
-use Rattle.recorder.proofs.told.temperature_by.Reads as temperature-by-reads
-use Rattle.recorder.proofs.told.written.Reads as written-reads
 
 temperature-by-requires : tie.Need-temperature-by-requires
 temperature-by-requires c κs = search needs

@@ -5,28 +5,16 @@ use mathlib.Core.Bool.{Bool, true, false, _&&_}
 use mathlib.Core.List.{List, []}
 use Prim.Native.Nat.{ℕ, _+_, _-_, _*_, _/_, _<_, _≤_}
 use native.Mathlib.Omega.{arith}
-use borrow.Author.Tests.{ltb-true, ltb-false, lt-ltb, le-ltb, eq-eqb, ne-eqb}
+use borrow.Author.Tests.{ltb-true, ltb-false, lt-ltb, le-ltb, eq-eqb}
 use lib.Dec.{ltb}
-use lib.ListN.{length, take, drop, length-take, length-drop}
+use lib.ListN.{length, take, drop}
 use Rattle.frame.specs.Pick.{pick}
 use Rattle.sheet.specs.declared.Found.the-variants.{Refused}
 use Rattle.sheet.specs.declared.view.Span.{Span}
 use Rattle.sheet.specs.Slots.{sizeAllowed, slots, slotAt, slotOf}
 use Rattle.sheet.specs.Look.{bare, told, partOf, lookOf}
 use Rattle.sheet.specs.View.{slotsFor, spanOf, seenOf}
-
--- the 32 bytes of a slot that are all there, and of one whose bytes are not
-slot-long : (s : List ℕ) (k : ℕ) → k < slots s → length (slotAt s k) ≡ 32
-slot-long s k near = simp (length-take, length-drop) (omega arith)
-
-slot-short : (s : List ℕ) (k : ℕ) → slots s ≤ k → length (slotAt s k) ≡ 32 → ⊥
-slot-short s k far long =
-    let size = simp (length-take, length-drop) at long in
-    omega arith
-
-no-slot : (x : List ℕ) → (length x ≡ 32 → ⊥) → partOf x ≡ bare (Refused 12)
-unfolding partOf
-no-slot x h = simp (ne-eqb (length x) 32 h)
+use Rattle.sheet.proofs.SlotParts.{slot-long, slot-short, no-slot}
 
 -- what is seen of a slot that is counted and there, of one beyond the count, and of one beyond the bytes
 pub seen-there : (s : List ℕ) (n k : ℕ) → k < n → k < slots s → seenOf s n k ≡ told (slotOf (slotAt s k))

@@ -17,30 +17,30 @@ use Rattle.listing.proofs.lines.put_slot.Statement.{statement}
 use Rattle.listing.proofs.lines.put_slot.Tie as tie
 
 -- what the look tells, by the case that the match saw
-module _ (l : tie.After-look-at) where
+module _ (l : tie.After-look) where
   abbrev s : List ℕ
   s = l .before .before .before .args .sheet .now
 
   abbrev k : ℕ
   k = l .before .before .before .args .slot
 
-  line-is : (f : Found) → l .look-at .result .found ≡ f → lineFound k f (l .look-at .result .reply) ≡ slotLine s k
+  line-is : (f : Found) → l .look .result .found ≡ f → lineFound k f (l .look .result .reply) ≡ slotLine s k
   line-is f e =
       let asked = l .before .before .before .pre in
-      ap (λ (g : Found). lineFound k g (l .look-at .result .reply)) (sym e) ∙ seen-line s k (l .look-at .result) (asked .1 .0) (asked .1 .1) (l .look-at .ensures)
+      ap (λ (g : Found). lineFound k g (l .look .result .reply)) (sym e) ∙ seen-line s k (l .look .result) (asked .1 .0) (asked .1 .1) (l .look .ensures)
 
-  records-are : (f : Found) → l .look-at .result .found ≡ f → recordsFound f ≡ length (recordIn (slotOf (slotAt s k)))
+  records-are : (f : Found) → l .look .result .found ≡ f → recordsFound f ≡ length (recordIn (slotOf (slotAt s k)))
   records-are f e =
       let asked = l .before .before .before .pre in
-      ap recordsFound (sym e) ∙ seen-records s k (l .look-at .result) (asked .1 .0) (asked .1 .1) (l .look-at .ensures)
+      ap recordsFound (sym e) ∙ seen-records s k (l .look .result) (asked .1 .0) (asked .1 .1) (l .look .ensures)
 
-  bits-few : (h : Head) → l .look-at .result .found ≡ Record h → h .count ≤ 64
+  bits-few : (h : Head) → l .look .result .found ≡ Record h → h .count ≤ 64
   bits-few h e =
       let asked = l .before .before .before .pre in
-      seen-bits s k (l .look-at .result) (asked .1 .0) (asked .1 .1) (l .look-at .ensures) h e
+      seen-bits s k (l .look .result) (asked .1 .0) (asked .1 .1) (l .look .ensures) h e
 
-look-at-requires : tie.Need-look-at-requires
-look-at-requires c κs = search needs
+look-requires : tie.Need-look-requires
+look-requires c κs = search needs
 
 cast-number : tie.Need-cast-number
 cast-number c =
@@ -125,7 +125,7 @@ pub put-slot-spec : {M : Type 1} → statement M
 put-slot-spec =
     tie.close
     (tie.spec
-    look-at-requires
+    look-requires
     cast-number
     enum-told
     enum-told-2

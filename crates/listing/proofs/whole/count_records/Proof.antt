@@ -25,7 +25,7 @@ counted : (c : tie.After-records-in Inv-loop μ-loop) → c .before .before .bef
 counted c =
     let l = c .before .before .before .loop in
     let start = c .before .before .before .before .before in
-    let look = c .before .look-at in
+    let look = c .before .look in
     let near : l .k < slots (sheet-of c) = omega (arith, start .pre .1) in
     let one : c .records-in .result ≡ length (recordIn (slotOf (slotAt (sheet-of c) (l .k)))) = c .records-in .ensures ∙ seen-records (sheet-of c) (l .k) (look .result) (start .pre .0) near (look .ensures) in
     let before : l .records ≡ length (listUpTo (sheet-of c) (l .k)) = l .inv .1 in
@@ -35,8 +35,8 @@ loop-holds : tie.Need-loop-holds Inv-loop μ-loop
 unfolding listUpTo
 loop-holds c = (omega arith, refl)
 
-look-at-requires : tie.Need-look-at-requires Inv-loop μ-loop
-look-at-requires c κs = search needs
+look-requires : tie.Need-look-requires Inv-loop μ-loop
+look-requires c κs = search needs
 
 records-in-requires : tie.Need-records-in-requires Inv-loop μ-loop
 records-in-requires c κs = search needs
@@ -62,4 +62,4 @@ returns c =
 
 pub count-records-spec : {M : Type 1} → statement M
 count-records-spec =
-    tie.close (tie.spec Inv-loop μ-loop loop-holds look-at-requires records-in-requires add-records add-k loop-less loop-again returns)
+    tie.close (tie.spec Inv-loop μ-loop loop-holds look-requires records-in-requires add-records add-k loop-less loop-again returns)

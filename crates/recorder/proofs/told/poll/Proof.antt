@@ -2,9 +2,6 @@
 use borrow.Author.Needs.{needs}
 use Rattle.recorder.proofs.told.poll.Statement.{statement}
 use Rattle.recorder.proofs.told.poll.Tie as tie
-use Rattle.recorder.proofs.told.poll.Reads as reads
-use Rattle.recorder.proofs.told.poll.Lts as lts
-use Rattle.recorder.proofs.told.marked.Reads as marked-reads
 
 enum-known-answer : tie.Need-enum-known-answer
 enum-known-answer c = search needs

@@ -4,9 +4,6 @@ use mir.Facts.{toZ-ofZ}
 use borrow.Author.Needs.{needs}
 use Rattle.recorder.proofs.told.reading.Statement.{statement}
 use Rattle.recorder.proofs.told.reading.Tie as tie
-use Rattle.recorder.proofs.told.reading.Reads as reads
-use Rattle.recorder.proofs.told.reading.Lts as lts
-use Rattle.recorder.proofs.told.marked.Reads as marked-reads
 
 marked-requires : tie.Need-marked-requires
 marked-requires c κs = search needs

@@ -3,9 +3,6 @@ use mathlib.Core.Path.{_∙_}
 use borrow.Author.Needs.{needs}
 use Rattle.recorder.proofs.told.reply.Statement.{statement}
 use Rattle.recorder.proofs.told.reply.Tie as tie
-use Rattle.recorder.proofs.told.reply.Reads as reads
-use Rattle.recorder.proofs.told.reply.Lts as lts
-use Rattle.recorder.proofs.told.reading.Reads as reading-reads
 
 enum-known-answer : tie.Need-enum-known-answer
 enum-known-answer c = search needs

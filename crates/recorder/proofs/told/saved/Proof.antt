@@ -2,8 +2,6 @@
 use borrow.Author.Needs.{needs}
 use Rattle.recorder.proofs.told.saved.Statement.{statement}
 use Rattle.recorder.proofs.told.saved.Tie as tie
-use Rattle.recorder.proofs.told.saved.Reads as reads
-use Rattle.recorder.proofs.told.saved.Lts as lts
 
 enum-known-answer : tie.Need-enum-known-answer
 enum-known-answer c = search needs

@@ -3,9 +3,6 @@ use mathlib.Core.Path.{_∙_}
 use borrow.Author.Needs.{needs}
 use Rattle.recorder.proofs.told.slot.Statement.{statement}
 use Rattle.recorder.proofs.told.slot.Tie as tie
-use Rattle.recorder.proofs.told.slot.Reads as reads
-use Rattle.recorder.proofs.told.slot.Lts as lts
-use Rattle.recorder.proofs.told.bare.Reads as bare-reads
 
 enum-told : tie.Need-enum-told
 enum-told c = search needs

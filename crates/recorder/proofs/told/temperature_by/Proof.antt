@@ -4,8 +4,6 @@ use mir.Syntax.{w16}
 use mir.Facts.{toZ-ofZ}
 use Rattle.recorder.proofs.told.temperature_by.Statement.{statement}
 use Rattle.recorder.proofs.told.temperature_by.Tie as tie
-use Rattle.recorder.proofs.told.temperature_by.Reads as reads
-use Rattle.recorder.proofs.told.temperature_by.Lts as lts
 
 returns : tie.Need-returns
 returns c = simp (c .match .keys1, toZ-ofZ {w = w16} {z = c .before .args .tenths} (c .before .fits .tenths))

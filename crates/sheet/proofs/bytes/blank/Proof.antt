@@ -8,7 +8,7 @@ use lib.Dec.{eqb}
 use lib.ListN.{length, take, getD}
 use lib.Seq.{take-all}
 use Rattle.sheet.specs.Bytes.{FF, allBlank}
-use Rattle.sheet.proofs.Blank.{blank-more, common-blank}
+use Rattle.sheet.proofs.Blank.{blank-more, common-full}
 use Rattle.sheet.proofs.bytes.blank.Statement.{statement}
 use Rattle.sheet.proofs.bytes.blank.Tie as tie
 
@@ -39,7 +39,7 @@ loop-again c =
     let byte : b < 256 = omega (arith, c .shared-slice-known .given (l .i)) in (
       omega arith,
       omega (arith, and-le-l (l .common) b),
-      common-blank (l .common) b (l .inv .1) byte
+      common-full FF (l .common) b (omega arith) (omega arith)
           ∙ ap (λ (t : Bool). t && eqb b FF) (l .inv .2)
           ∙ sym (blank-more part (l .i) (omega arith)),
     )

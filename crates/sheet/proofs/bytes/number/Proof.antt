@@ -27,15 +27,6 @@ room part n i bytes short more e =
 loop-holds : tie.Need-loop-holds Inv-loop μ-loop
 loop-holds c = omega arith
 
-mul-n : tie.Need-mul-n Inv-loop μ-loop
-mul-n c =
-    let a = c .before .before .before .args in
-    let l = c .before .loop in
-    let small =
-    room (a .part .now) (l .n) (l .i) (λ i. omega (arith, c .before .before .shared-slice-known .given i)) (omega arith) (omega arith) (l .inv .1)
-    in
-    omega arith
-
 shared-slice-read-wide : tie.Need-shared-slice-read-wide Inv-loop μ-loop
 shared-slice-read-wide c = omega arith
 
@@ -60,6 +51,8 @@ loop-again : tie.Need-loop-again Inv-loop μ-loop
 loop-again c =
     let a = c .before .before .before .before .before .args in
     let l = c .before .before .before .loop in
+    let known = c .before .shared-slice-known2 .given in
+    let small = room (a .part .now) (l .n) (l .i) (λ i. omega (arith, known i)) (omega arith) (omega arith) (l .inv .1) in
     let more = number-more (a .part .now) (l .i) (omega arith) in
     (omega arith, omega arith)
 
@@ -75,7 +68,6 @@ number-spec =
     Inv-loop
     μ-loop
     loop-holds
-    mul-n
     shared-slice-read-wide
     wide-requires
     add-n

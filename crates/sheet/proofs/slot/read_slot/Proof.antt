@@ -3,7 +3,7 @@
 use mathlib.Core.Path.{_≡_, refl, sym, ap, _∙_}
 use mathlib.Core.Bool.{Bool, true, false}
 use mathlib.Core.List.{List, _++_}
-use Prim.Native.Nat.{ℕ, _≤_, _+_, _-_, _/_}
+use Prim.Native.Nat.{ℕ, _≤_, _+_, _-_}
 use native.Mathlib.Omega.{arith}
 use borrow.Author.Needs.{needs}
 use borrow.Author.Tests.{eq-eqb, ne-eqb}
@@ -14,12 +14,16 @@ use Rattle.frame.specs.Pick.{pick}
 use Rattle.frame.specs.Line.{bytesFor}
 use Rattle.sheet.specs.declared.Head.{Head}
 use Rattle.sheet.specs.declared.Looked.{Looked}
-use Rattle.sheet.specs.declared.Found.the-variants.{Record, Refused}
-use Rattle.sheet.specs.Bytes.{FF, allBlank}
+use Rattle.sheet.specs.declared.Found.the-variants.{Record}
+use Rattle.sheet.specs.Bytes.{FF, bigEndian, numberIn, allBlank}
 use Rattle.sheet.specs.Record.{fieldsOf, isRecord}
 use Rattle.sheet.specs.Slots.{blank, spoiled, foreign, holds, slotOf}
-use Rattle.sheet.specs.Look.{bare, told, partOf, headOf}
-use Rattle.sheet.proofs.Records.{record-passes, passes-formed, formed-few}
+use Rattle.sheet.specs.Look.{told, partOf, headOf}
+use Rattle.sheet.specs.Word.{firstBits}
+use Rattle.sheet.proofs.Numbers.{AreBytes}
+use Rattle.sheet.proofs.Blank.{blank-first}
+use Rattle.sheet.proofs.Records.{record-passes, record-reply, passes-formed, formed-few}
+use Rattle.sheet.proofs.SlotParts.{no-slot}
 use Rattle.sheet.proofs.slot.read_slot.Statement.{statement}
 use Rattle.sheet.proofs.slot.read_slot.Tie as tie
 
@@ -29,19 +33,22 @@ reads-as : (x : List ℕ) (a f r : Bool) → length x ≡ 32 → allBlank x ≡ 
 unfolding partOf slotOf
 reads-as x a f r long ea ef er = simp (eq-eqb (length x) 32 long, ea, ef, er)
 
-no-slot : (x : List ℕ) → (length x ≡ 32 → ⊥) → partOf x ≡ bare (Refused 12)
-unfolding partOf
-no-slot x h = simp (ne-eqb (length x) 32 h)
-
--- what is known of a slot once it is asked whether it holds a record
-asked : (c : tie.After-is-record) (r : Bool)
-    → let x = c .before .before .before .before .before .before .before .args .part .now in c .is-record .result ≡ r
+-- what is known of a slot once it is asked whether it holds a record: one that does not begin with FF is not blank
+asked : (c : tie.After-is-record) (r : Bool) → let x = c .before .before .before .before .before .args .part .now in c .is-record .result ≡ r
     → partOf x ≡ told (pick r (holds (fieldsOf x)) foreign)
 asked c r e =
     let d = c .before .before .before in
-    let x = d .before .before .before .before .args .part .now in
-    let used = sym (d .before .blank .ensures) ∙ d .if2 .left in
-    reads-as x false false r (d .before .before .if1 .left) used (ne-eqb _ _ (c .before .if3 .left)) (sym (c .is-record .ensures) ∙ e)
+    let x = d .before .before .args .part .now in
+    let other = ne-eqb (getD x 0 0) FF (c .before .if2 .left) in
+    reads-as x false false r (d .if1 .left) (blank-first x (omega arith) other) other (sym (c .is-record .ensures) ∙ e)
+
+-- and of one that begins with FF once it is asked whether it is blank
+begun : (c : tie.After-blank-slot) (a : Bool) → let x = c .before .before .before .before .before .args .part .now in c .blank-slot .result ≡ a
+    → partOf x ≡ told (pick a blank spoiled)
+begun c a e =
+    let d = c .before .before .before in
+    let x = d .before .before .args .part .now in
+    reads-as x a true (isRecord x) (d .if1 .left) (sym (c .blank-slot .ensures) ∙ e) (eq-eqb (getD x 0 0) FF (c .before .if2 .taken)) refl
 
 -- of a record: its count, and the bytes of its reply
 record-few : (x : List ℕ) (h : Head) → h ≡ headOf (fieldsOf x) → isRecord x ≡ true → h .count ≤ 64
@@ -50,19 +57,19 @@ record-few x h e is =
     let few = formed-few (fieldsOf x .count) (fieldsOf x .reply) (passes-formed (fieldsOf x) (record-passes x is)) .0 in
     omega arith
 
-record-told : (x : List ℕ) (h : Head) (r : List ℕ) → length x ≡ 32 → h ≡ headOf (fieldsOf x) → h .count ≤ 64
-    → r ≡ take ((h .count + 7) / 8) (drop 11 x) ++ replicate (8 - (h .count + 7) / 8) 0
+record-told : (x : List ℕ) (h : Head) (r : List ℕ) → AreBytes x → length x ≡ 32 → h ≡ headOf (fieldsOf x) → h .count ≤ 64 → isRecord x ≡ true
+    → r ≡ bigEndian 8 (firstBits (h .count) (numberIn (take 8 (drop 11 x))))
     → _≡_ {A = Looked} (record { found = Record h; reply = r }) (told (holds (fieldsOf x)))
 unfolding fieldsOf
-record-told x h r long e few q =
+record-told x h r bytes long e few is q =
     let same-count : h .count ≡ getD x 10 0 = ap (λ (k : Head). k .count) e in
     let size = bytesFor (getD x 10 0) in
     let rest : length (drop 11 x) ≡ length x - 11 = length-drop 11 x in
     let short : length (take size (drop 11 x)) ≡ size = length-take-le size (drop 11 x) (omega arith) in
-    let bytes : r ≡ take size (drop 11 x) ++ replicate (8 - length (take size (drop 11 x))) 0 =
-    q ∙ ap (λ (n : ℕ). take (bytesFor n) (drop 11 x) ++ replicate (8 - bytesFor n) 0) same-count
+    let own : r ≡ take size (drop 11 x) ++ replicate (8 - length (take size (drop 11 x))) 0 =
+    q ∙ ap (λ (n : ℕ). bigEndian 8 (firstBits n (numberIn (take 8 (drop 11 x))))) same-count ∙ record-reply x bytes long (omega arith) is
     ∙ ap (λ (n : ℕ). take size (drop 11 x) ++ replicate (8 - n) 0) (sym short) in
-    λ i. record { found = Record (e i); reply = bytes i }
+    λ i. record { found = Record (e i); reply = own i }
 
 no-reply-requires : tie.Need-no-reply-requires
 no-reply-requires c κs = search needs
@@ -70,31 +77,23 @@ no-reply-requires c κs = search needs
 returns : tie.Need-returns
 returns c = c .no-reply .ensures ∙ sym (no-slot (c .before .before .before .args .part .now) (c .before .if1 .taken))
 
-blank-requires : tie.Need-blank-requires
-blank-requires c κs = search needs
+shared-slice-read-if2 : tie.Need-shared-slice-read-if2
+shared-slice-read-if2 c = search needs
+
+blank-slot-requires : tie.Need-blank-slot-requires
+blank-slot-requires c κs = search needs
 
 no-reply-requires-2 : tie.Need-no-reply-requires-2
 no-reply-requires-2 c κs = search needs
 
 returns-2 : tie.Need-returns-2
-returns-2 c =
-    let d = c .before .before in
-    let x = d .before .before .before .args .part .now in
-    c .no-reply2 .ensures
-    ∙ sym (reads-as x true _ _ (d .before .if1 .left) (sym (d .blank .ensures) ∙ c .before .if2 .taken) refl refl)
-
-shared-slice-read-if3 : tie.Need-shared-slice-read-if3
-shared-slice-read-if3 c = search needs
+returns-2 c = c .no-reply2 .ensures ∙ sym (begun (c .before .before) true (c .before .if3 .taken))
 
 no-reply-requires-3 : tie.Need-no-reply-requires-3
 no-reply-requires-3 c κs = search needs
 
 returns-3 : tie.Need-returns-3
-returns-3 c =
-    let d = c .before .before .before in
-    let x = d .before .before .before .before .args .part .now in
-    let used = sym (d .before .blank .ensures) ∙ d .if2 .left in
-    c .no-reply3 .ensures ∙ sym (reads-as x false true _ (d .before .before .if1 .left) used (eq-eqb _ _ (c .before .if3 .taken)) refl)
+returns-3 c = c .no-reply3 .ensures ∙ sym (begun (c .before .before) false (c .before .if3 .left))
 
 is-record-requires : tie.Need-is-record-requires
 is-record-requires c κs = search needs
@@ -102,28 +101,22 @@ is-record-requires c κs = search needs
 head-in-requires : tie.Need-head-in-requires
 head-in-requires c κs = search needs
 
-add-size : tie.Need-add-size
-add-size c =
-    let d = c .before .before in
-    let x = d .before .before .before .before .before .before .before .before .args .part .now in
-    let few = record-few x (c .before .head-in .result) (c .before .head-in .ensures) (sym (d .before .is-record .ensures) ∙ d .if4 .taken) in
-    omega arith
-
 reply-in-requires : tie.Need-reply-in-requires
 reply-in-requires c κs =
-    let d = c .before .before in
-    let x = d .before .before .before .before .before .before .before .before .args .part .now in
-    let few = record-few x (c .before .head-in .result) (c .before .head-in .ensures) (sym (d .before .is-record .ensures) ∙ d .if4 .taken) in
+    let d = c .before in
+    let x = d .before .before .before .before .before .before .args .part .now in
+    let few = record-few x (c .head-in .result) (c .head-in .ensures) (sym (d .before .is-record .ensures) ∙ d .if4 .taken) in
     (omega arith, omega arith)
 
 returns-4 : tie.Need-returns-4
 returns-4 c =
-    let d = c .before .before .before in
-    let x = d .before .before .before .before .before .before .before .before .args .part .now in
-    let h = c .before .before .head-in in
+    let d = c .before .before in
+    let e = d .before .before .before .before in
+    let x = e .before .before .args .part .now in
+    let h = c .before .head-in in
     let is = sym (d .before .is-record .ensures) ∙ d .if4 .taken in
-    record-told x (h .result) (c .reply-in .result) (d .before .before .before .before .before .before .if1 .left) (h .ensures)
-    (record-few x (h .result) (h .ensures) is) (c .reply-in .ensures)
+    record-told x (h .result) (c .reply-in .result) (λ i. omega (arith, e .before .shared-slice-known .given i)) (e .if1 .left) (h .ensures)
+    (record-few x (h .result) (h .ensures) is) is (c .reply-in .ensures)
     ∙ sym (asked (d .before) true (d .if4 .taken))
 
 no-reply-requires-4 : tie.Need-no-reply-requires-4
@@ -138,15 +131,14 @@ read-slot-spec =
     (tie.spec
     no-reply-requires
     returns
-    blank-requires
+    shared-slice-read-if2
+    blank-slot-requires
     no-reply-requires-2
     returns-2
-    shared-slice-read-if3
     no-reply-requires-3
     returns-3
     is-record-requires
     head-in-requires
-    add-size
     reply-in-requires
     returns-4
     no-reply-requires-4

@@ -1,4 +1,4 @@
--- `sheet::view::look_at` meets its contract: a walk of its code, by hand. `open` makes the view of the lent bytes, `slot_in` reads the slot through it,
+-- `sheet::view::look` meets its contract: a walk of its code, by hand. `open` makes the view of the lent bytes, `slot_in` reads the slot through it,
 -- and what it sees there is what a look answers. Assumes nothing.
 use mathlib.Core.Path.{_≡_, refl, ap, _∙_}
 use Prim.Native.Nat.{ℕ, _<_, _^_}
@@ -53,10 +53,10 @@ use Rattle.sheet.proofs.view.slot_in as reader
 use Rattle.sheet.proofs.view.slot_in.Symbol as reader-def
 use Rattle.sheet.proofs.view.slot_in.Symbol.{name as #slot-in}
 use Rattle.sheet.proofs.view.slot_in.Met as reader-thm
-use Rattle.sheet.proofs.view.look_at.Key.{name as #look-at}
-use Rattle.sheet.proofs.view.look_at as self
-use Rattle.sheet.proofs.view.look_at.Statement as stated
-use Rattle.sheet.proofs.view.look_at.Code as code
+use Rattle.sheet.proofs.view.look.Key.{name as #look}
+use Rattle.sheet.proofs.view.look as self
+use Rattle.sheet.proofs.view.look.Statement as stated
+use Rattle.sheet.proofs.view.look.Code as code
 
 -- the view's type, over the signature's lifetimes
 abbrev View : Lfts 1 → RattleType
@@ -155,22 +155,22 @@ module _ {M : Type 1} (𝓤 : URA M) (H : Heap 𝓤) (A : Atoms 𝓤) (W : Given
         by ! (exits t u′ (answered s k r t opens sees))))))))))))))
 
 module _ {M : Type 1} (𝓤 : URA M) (H : Heap 𝓤) (A : Atoms 𝓤) (W : Given 𝓤 H A) (mem : Memory → SProp 𝓤) (run : Routine → Fun 𝓤) (𝓣 : Tables 𝓤 H) (known-open : Triple 𝓤 (𝓣 .C #open) (Opener 𝓤 H A mem run)) (known-read : Triple 𝓤 (𝓣 .C #slot-in) (Reader 𝓤 H A mem run)) where
-  look-at-walks : Walks 𝓤 H A self.ended stayed (WpFn 𝓤 H (𝓣 .C) (𝓣 .Λ) code.function) (self.clauses 𝓤 H A mem run)
-  look-at-walks =
+  look-walks : Walks 𝓤 H A self.ended stayed (WpFn 𝓤 H (𝓣 .C) (𝓣 .Λ) code.function) (self.clauses 𝓤 H A mem run)
+  look-walks =
       walked 𝓤 H A self.ended stayed (self.clauses 𝓤 H A mem run) (WpFn 𝓤 H (𝓣 .C) (𝓣 .Λ) code.function)
       (λ κs. (slice-vals, (uint-vals w64, tt))) (λ κs. (shr-slice-tells (named 0) (κs .0) u8, (uint-tells w64, tt)))
       (λ κs qs bounds a g are. via 𝓤 _ (fst∗ 𝓤 _ (emp 𝓤)) (walk 𝓤 H A W mem run (κs .0) (qs .0) (a .0) (a .1 .0) (are .1 .0 .1) (𝓣 .C) (𝓣 .Λ) (fmOf 𝓤 H (W .laws) 𝓣) known-open known-read (are .0)))
 
-  look-at-meets : Meets 𝓤 H A self.signature (WpFn 𝓤 H (𝓣 .C) (𝓣 .Λ) code.function) (self.spec 𝓤 H A mem run)
-  look-at-meets =
+  look-meets : Meets 𝓤 H A self.signature (WpFn 𝓤 H (𝓣 .C) (𝓣 .Λ) code.function) (self.spec 𝓤 H A mem run)
+  look-meets =
       walk-meets 𝓤 H A self.ended stayed W (goes-none-slice 𝓤 H A W 1 (0 ∷ []) tt (plain (λ _. u8)) yes, (goes-none 𝓤 H A W 1 (λ _. usize) yes (λ κs x f. refl), tt)) (self.clauses 𝓤 H A mem run)
-      (WpFn 𝓤 H (𝓣 .C) (𝓣 .Λ) code.function) (WpFn-mono 𝓤 H (W .laws) 𝓣 code.function) look-at-walks
+      (WpFn 𝓤 H (𝓣 .C) (𝓣 .Λ) code.function) (WpFn-mono 𝓤 H (W .laws) 𝓣 code.function) look-walks
 
-pub look-at-spec : {M : Type 1} → stated.statement M
+pub look-spec : {M : Type 1} → stated.statement M
 unfolding code.routine tablesOf
-look-at-spec 𝓤 H 𝓜 𝓖 𝓡 =
+look-spec 𝓤 H 𝓜 𝓖 𝓡 =
     entered 𝓤 H (tripleOf 𝓤 H (𝓖 .A) self.signature (self.spec 𝓤 H (𝓖 .A) (𝓜 .mem) (𝓡 .run)))
-    (tables 𝓤 H 𝓜 𝓡 code.env .C) (tables 𝓤 H 𝓜 𝓡 code.env .Λ) #look-at code.function (code.unfolded 𝓤 H 𝓜 𝓡)
-    (look-at-meets 𝓤 H (𝓖 .A) (givenOf 𝓤 H 𝓜 𝓖) (𝓜 .mem) (𝓡 .run) (tablesOf 𝓤 H 𝓜 (tables 𝓤 H 𝓜 𝓡 code.env))
+    (tables 𝓤 H 𝓜 𝓡 code.env .C) (tables 𝓤 H 𝓜 𝓡 code.env .Λ) #look code.function (code.unfolded 𝓤 H 𝓜 𝓡)
+    (look-meets 𝓤 H (𝓖 .A) (givenOf 𝓤 H 𝓜 𝓖) (𝓜 .mem) (𝓡 .run) (tablesOf 𝓤 H 𝓜 (tables 𝓤 H 𝓜 𝓡 code.env))
     (cited 𝓤 H (Opener 𝓤 H (𝓖 .A) (𝓜 .mem) (𝓡 .run)) 𝓜 𝓡 code.env #open opener-def.routine code.calls-sheet·view·open (opener-thm.met 𝓤 H 𝓜 𝓖 𝓡))
     (cited 𝓤 H (Reader 𝓤 H (𝓖 .A) (𝓜 .mem) (𝓡 .run)) 𝓜 𝓡 code.env #slot-in reader-def.routine code.calls-sheet·view·slot-in (reader-thm.met 𝓤 H 𝓜 𝓖 𝓡)))
