@@ -1,40 +1,11 @@
--- The promises, a file for each.
-pub mod Bits
-pub mod Rows
-pub mod Levels
-pub mod NotTold
-pub mod Temperatures
-pub mod Calls
-pub mod WrittenThenRead
-pub mod OutsideItsRange
-pub mod WrittenAgain
-pub mod Parity
-pub mod FirstFault
-pub mod OneOutcome
-pub mod OnlyItsBytes
-pub mod Bench
-pub mod DemandTwo
--- The month sheet.
-pub mod History
-pub mod ListAndFull
-pub mod OneSave
-pub mod LookAndList
-pub mod SheetFault
-pub mod SheetOutcome
-pub mod DemandThree
+-- The promises, a folder for each crate that they speak of and a file for each promise.
+-- What one outcome is, said of every call.
+pub mod One
+-- Polls and replies.
+pub mod frame
+-- The month sheet, and the view of one that is lent.
+pub mod sheet
 -- The board.
-pub mod Board
-pub mod BoardReadings
-pub mod BoardHistory
-pub mod BoardFree
-pub mod BoardPromises
--- The view of a sheet, and its listing.
-pub mod SheetView
-pub mod ListingCalls
-pub mod ListingInOrder
-pub mod ListingRecords
-pub mod ListingDecimals
-pub mod ListingBench
-pub mod ListingRoom
-pub mod ListingOutcome
-pub mod Listing
+pub mod board
+-- The listing of a sheet.
+pub mod listing

@@ -1,0 +1,12 @@
+-- Places, what a call leaves and tells, how many rows are free.
+pub mod Places
+pub mod After
+pub mod Told
+pub mod Count
+-- The promises.
+pub mod Calls
+pub mod Done
+pub mod Readings
+pub mod History
+pub mod Free
+pub mod Promises

@@ -1,0 +1,17 @@
+-- Demand 3 whole. Assumes nothing.
+use Rattle.promises.specs.sheet.DemandThree.{DemandThree}
+use Rattle.promises.proofs.sheet.ListAndFull.{list-and-full}
+use Rattle.promises.proofs.sheet.OneSave.{one-save}
+use Rattle.promises.proofs.sheet.LookAndList.{look-and-list}
+use Rattle.promises.proofs.sheet.FirstFault.{sheet-fault}
+use Rattle.promises.proofs.sheet.OneOutcome.{sheet-outcome}
+
+pub demand-three : DemandThree
+demand-three =
+    record {
+      list-and-full = list-and-full;
+      one-save = one-save;
+      look-and-list = look-and-list;
+      first-fault = sheet-fault;
+      one-outcome = sheet-outcome;
+    }

@@ -1,0 +1,6 @@
+-- The board: each call, then calls after one another; the last file is all of it.
+pub mod Calls
+pub mod Readings
+pub mod History
+pub mod Free
+pub mod Promises

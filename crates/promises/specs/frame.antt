@@ -1,0 +1,16 @@
+-- Polls and replies: bits, levels and temperatures, then whole replies; the last file is the whole demand.
+pub mod Bits
+pub mod Rows
+pub mod Levels
+pub mod NotTold
+pub mod Temperatures
+pub mod Calls
+pub mod WrittenThenRead
+pub mod OutsideItsRange
+pub mod WrittenAgain
+pub mod Parity
+pub mod FirstFault
+pub mod OneOutcome
+pub mod OnlyItsBytes
+pub mod Bench
+pub mod DemandTwo

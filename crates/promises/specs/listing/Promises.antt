@@ -1,0 +1,17 @@
+-- The listing and the view whole: each promise, by the name that it has in its own file.
+use Rattle.promises.specs.listing.InOrder.{ListingInOrder}
+use Rattle.promises.specs.listing.Records.{ListingRecords}
+use Rattle.promises.specs.listing.Decimals.{ListingDecimals}
+use Rattle.promises.specs.listing.Bench.{ListingBench}
+use Rattle.promises.specs.listing.Room.{ListingRoom}
+use Rattle.promises.specs.listing.OneOutcome.{ListingOutcome}
+use Rattle.promises.specs.sheet.View.{SheetView}
+
+pub record Listing : Type 0 where
+  pub in-order : ListingInOrder
+  pub records : ListingRecords
+  pub decimals : ListingDecimals
+  pub bench : ListingBench
+  pub room : ListingRoom
+  pub one-outcome : ListingOutcome
+  pub view : SheetView

@@ -1,0 +1,9 @@
+-- The month sheet; `DemandThree` is the whole demand. Then the view of a lent sheet.
+pub mod History
+pub mod ListAndFull
+pub mod OneSave
+pub mod LookAndList
+pub mod FirstFault
+pub mod OneOutcome
+pub mod DemandThree
+pub mod View

@@ -1,0 +1,13 @@
+-- Demand 3 whole: each promise, by the name that it has in its own file.
+use Rattle.promises.specs.sheet.ListAndFull.{ListAndFull}
+use Rattle.promises.specs.sheet.OneSave.{OneSave}
+use Rattle.promises.specs.sheet.LookAndList.{LookAndList}
+use Rattle.promises.specs.sheet.FirstFault.{SheetFault}
+use Rattle.promises.specs.sheet.OneOutcome.{SheetOutcome}
+
+pub record DemandThree : Type 0 where
+  pub list-and-full : ListAndFull
+  pub one-save : OneSave
+  pub look-and-list : LookAndList
+  pub first-fault : SheetFault
+  pub one-outcome : SheetOutcome
