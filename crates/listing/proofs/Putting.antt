@@ -7,7 +7,7 @@ use native.Mathlib.Numerals.{add-one}
 use native.Mathlib.Omega.{arith}
 use lib.ListN.{length, getD, take, set, length-append}
 use lib.Seq.{sets, set-comm, take-suc, length-take-le}
-use Rattle.listing.specs.Puts.{Puts}
+use Rattle.listing.specs.inside.Puts.{Puts}
 
 -- a part after a part is their join
 sets-append : (vs ws l : List ℕ) (i : ℕ) → sets (sets l i vs) (i + length vs) ws ≡ sets l i (vs ++ ws)

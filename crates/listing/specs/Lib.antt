@@ -2,4 +2,5 @@
 pub mod Text
 pub mod Lines
 pub mod Calls
-pub mod Puts
+-- What only the code needs.
+pub mod inside

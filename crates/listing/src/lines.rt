@@ -22,7 +22,7 @@ ghost use Rattle.sheet.specs.Slots.{sizeAllowed, slots, slotAt, slotOf, recordI
 ghost use Rattle.sheet.specs.Look.{entryWith};
 ghost use Rattle.listing.specs.Text.{ascii, decimal, digit};
 ghost use Rattle.listing.specs.Lines.{temperatureText, readingText, replyText, recordText, slotLine};
-ghost use Rattle.listing.specs.Puts.{Puts};
+ghost use Rattle.listing.specs.inside.Puts.{Puts};
 
 // A line that was put: the place after it, and how many records it shows.
 pub(crate) struct Line {

@@ -12,7 +12,7 @@ use lib.ListN.{length, getD, take, replicate, set, length-append, length-set, ge
 use lib.Seq.{take-suc, take-all, take-length, getD-append-add}
 use Rattle.frame.specs.Pick.{pick}
 use Rattle.sheet.specs.Record.{Entry, bodyOf, lengthOf, lengthBytes}
-use Rattle.sheet.specs.InOrder.{inOrder, placeOf}
+use Rattle.sheet.specs.inside.InOrder.{inOrder, placeOf}
 use Rattle.sheet.specs.Stores.{Store, _puts_, made, ascending, stores}
 
 pub made-append : (s : List ℕ) (ps qs : List Store) → made s (ps ++ qs) ≡ made (made s ps) qs

@@ -2,10 +2,9 @@
 pub mod Bytes
 pub mod Record
 pub mod Slots
-pub mod Passing
 pub mod Stores
 pub mod Save
 pub mod Look
-pub mod InOrder
 pub mod View
-pub mod Word
+-- What only the code needs.
+pub mod inside

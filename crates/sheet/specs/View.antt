@@ -1,18 +1,16 @@
 -- Document 01, "The sheet is seen through a view of the lent bytes, one slot at a time".
 use mathlib.Core.Path.{_≡_}
-use mathlib.Core.Bool.{_&&_}
 use mathlib.Core.List.{List, []}
-use Prim.Native.Nat.{ℕ, _+_, _*_, _/_, _%_}
+use Prim.Native.Nat.{ℕ, _/_}
 use denote.Ref.{RefT, now}
-use lib.Dec.{eqb, ltb, leb}
+use lib.Dec.{ltb}
 use lib.ListN.{length}
 use Rattle.frame.specs.Pick.{pick}
 use Rattle.sheet.specs.declared.Looked.{Looked}
 use Rattle.sheet.specs.declared.view.Sheet.{Sheet}
-use Rattle.sheet.specs.declared.view.Span.{Span}
 use Rattle.sheet.specs.declared.view.Counted.{Counted}
 use Rattle.sheet.specs.declared.view.Counted.the-variants.{Slots, Refused}
-use Rattle.sheet.specs.Slots.{sizeAllowed, slots, slotAt}
+use Rattle.sheet.specs.Slots.{lengthAllowed, sizeAllowed, slots, slotAt}
 use Rattle.sheet.specs.Look.{partOf}
 
 -- What `count_slots` answers: the slots of a sheet, or 12 where its size is not allowed.
@@ -24,7 +22,7 @@ pub record Counts (sheet : List ℕ) (answer : Counted) : Type 0 where
 
 -- The slots that so many bytes make: none where the size is not allowed.
 unfoldable pub slotsFor : ℕ → ℕ
-slotsFor len = pick (eqb (len % 32) 0 && leb len 65536) (len / 32) 0
+slotsFor len = pick (lengthAllowed len) (len / 32) 0
 
 -- What `open` answers: a view of the very bytes that were lent, and their slots.
 pub record Opens (lent : RefT (List ℕ)) (answer : Sheet) : Type 0 where
@@ -47,8 +45,3 @@ countedNumber (Refused n) = n
 abbrev pub slotsTold : Counted → ℕ
 slotsTold (Slots n) = n
 slotsTold (Refused n) = 0
-
--- Where the code looks for a slot: its 32 bytes where the view counts it and they are there, else no byte.
-unfoldable pub spanOf : ℕ → ℕ → ℕ → Span
-spanOf len slots k =
-    pick (ltb k slots && ltb k (len / 32)) (record { from = 32 * k; to = 32 * k + 32 }) (record { from = 0; to = 0 })

@@ -3,7 +3,7 @@ use crate::bytes::blank;
 ghost use mathlib.Core.Path.{_≡_};
 ghost use Prim.Native.Nat.{_-_, _≤_};
 ghost use Rattle.sheet.specs.Slots.{slots, next};
-ghost use Rattle.sheet.specs.Passing.{Passes, Stops};
+ghost use Rattle.sheet.specs.inside.Passing.{Passes, Stops};
 
 // The first of the last eight slots.
 fn eight_before(slots: usize) -> usize

@@ -13,7 +13,7 @@ ghost use Rattle.frame.specs.Faults.{firstOf};
 ghost use Rattle.sheet.specs.Bytes.{bigEndian, numberIn};
 ghost use Rattle.sheet.specs.Record.{entryOf, checks, isRecord, fieldsOf};
 ghost use Rattle.sheet.specs.Look.{headOf};
-ghost use Rattle.sheet.specs.Word.{firstBits};
+ghost use Rattle.sheet.specs.inside.Word.{firstBits};
 
 // The number of the first check that a record fails, 0 where it passes them all. No check looks at the minute.
 pub(crate) fn check(settings: u8, address: u16, count: usize, reply: &[u8]) -> u8

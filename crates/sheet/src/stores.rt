@@ -6,7 +6,7 @@ ghost use mathlib.Core.List.{[], _++_};
 ghost use lib.ListN.{length, set, replicate};
 ghost use Rattle.sheet.specs.Record.{bodyOf};
 ghost use Rattle.sheet.specs.Look.{entryWith};
-ghost use Rattle.sheet.specs.InOrder.{inOrder, placeOf, MakesStores};
+ghost use Rattle.sheet.specs.inside.InOrder.{inOrder, placeOf, MakesStores};
 
 // The one way in which a sheet is written: this single byte changes.
 fn store(sheet: &mut [u8], place: usize, byte: u8)

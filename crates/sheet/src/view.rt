@@ -5,7 +5,8 @@ use crate::size_allowed;
 use crate::slot::read_slot;
 ghost use mathlib.Core.Path.{_≡_};
 ghost use Rattle.sheet.specs.Look.{Looks};
-ghost use Rattle.sheet.specs.View.{Opens, Counts, Sees, slotsFor, spanOf};
+ghost use Rattle.sheet.specs.View.{Opens, Counts, Sees, slotsFor};
+ghost use Rattle.sheet.specs.inside.Span.{spanOf};
 
 pub struct Sheet<'a> {
     pub bytes: &'a [u8],

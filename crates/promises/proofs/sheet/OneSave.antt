@@ -17,7 +17,7 @@ use Rattle.sheet.specs.Bytes.{FF, allBlank}
 use Rattle.sheet.specs.Record.{Entry, lengthOf}
 use Rattle.sheet.specs.Slots.{Slot, spoiled, holds, slots, slotAt, slotOf, next}
 use Rattle.sheet.specs.Stores.{Store, _puts_, made, stores, after}
-use Rattle.sheet.specs.InOrder.{placeOf}
+use Rattle.sheet.specs.inside.InOrder.{placeOf}
 use Rattle.sheet.specs.Save.{saveFault, Saves, savedNumber, storesMade}
 use Rattle.sheet.proofs.Storing.{stores-length, store-at, made-length}
 use Rattle.promises.specs.sheet.History.{Save, Takes, allStores}

@@ -13,7 +13,8 @@ use Rattle.sheet.specs.declared.Found.the-variants.{Refused}
 use Rattle.sheet.specs.declared.view.Span.{Span}
 use Rattle.sheet.specs.Slots.{sizeAllowed, slots, slotAt, slotOf}
 use Rattle.sheet.specs.Look.{bare, told, partOf, lookOf}
-use Rattle.sheet.specs.View.{slotsFor, spanOf, seenOf}
+use Rattle.sheet.specs.View.{slotsFor, seenOf}
+use Rattle.sheet.specs.inside.Span.{spanOf}
 use Rattle.sheet.proofs.SlotParts.{slot-long, slot-short, no-slot}
 
 -- what is seen of a slot that is counted and there, of one beyond the count, and of one beyond the bytes

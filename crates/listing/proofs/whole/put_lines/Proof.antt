@@ -7,7 +7,7 @@ use native.Mathlib.Omega.{arith}
 use lib.ListN.{length}
 use Rattle.sheet.specs.Slots.{slots, listUpTo}
 use Rattle.listing.specs.Lines.{linesUpTo}
-use Rattle.listing.specs.Puts.{Puts}
+use Rattle.listing.specs.inside.Puts.{Puts}
 use Rattle.listing.proofs.Putting.{then, text-is, at-most, nothing-put}
 use Rattle.listing.proofs.Slotwise.{lines-more, records-more, few-records}
 use Rattle.listing.proofs.whole.put_lines.Statement.{statement}

@@ -6,7 +6,7 @@ use Prim.Native.Nat.{ℕ, zero, suc}
 use native.Mathlib.Omega.{arith}
 use borrow.Author.Needs.{needs}
 use Rattle.sheet.specs.Slots.{nextUpTo}
-use Rattle.sheet.specs.Passing.{Stops}
+use Rattle.sheet.specs.inside.Passing.{Stops}
 use Rattle.sheet.proofs.next.next_slot.Statement.{statement}
 use Rattle.sheet.proofs.next.next_slot.Tie as tie
 

@@ -3,7 +3,7 @@ use mathlib.Core.Path.{_≡_, ap, _∙_}
 use Prim.Native.Nat.{ℕ, _-_, _^_}
 use lib.Bits.{bitAnd, and-mask, and-le-l}
 use Rattle.sheet.specs.Bytes.{bigEndian}
-use Rattle.sheet.specs.Word.{firstBits}
+use Rattle.sheet.specs.inside.Word.{firstBits}
 use borrow.Author.Needs.{needs}
 use Rattle.sheet.proofs.record.reply_in.Statement.{statement}
 use Rattle.sheet.proofs.record.reply_in.Tie as tie

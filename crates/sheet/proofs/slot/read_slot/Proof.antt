@@ -19,7 +19,7 @@ use Rattle.sheet.specs.Bytes.{FF, bigEndian, numberIn, allBlank}
 use Rattle.sheet.specs.Record.{fieldsOf, isRecord}
 use Rattle.sheet.specs.Slots.{blank, spoiled, foreign, holds, slotOf}
 use Rattle.sheet.specs.Look.{told, partOf, headOf}
-use Rattle.sheet.specs.Word.{firstBits}
+use Rattle.sheet.specs.inside.Word.{firstBits}
 use Rattle.sheet.proofs.Numbers.{AreBytes}
 use Rattle.sheet.proofs.Blank.{blank-first}
 use Rattle.sheet.proofs.Records.{record-passes, record-reply, passes-formed, formed-few}

@@ -8,7 +8,7 @@ use lib.ListN.{length, take, getD, replicate, set, length-append}
 use lib.Seq.{take-length, set-at}
 use Rattle.sheet.specs.declared.Head.{Head}
 use Rattle.sheet.specs.Record.{bodyOf, lengthOf}
-use Rattle.sheet.specs.InOrder.{inOrder}
+use Rattle.sheet.specs.inside.InOrder.{inOrder}
 use Rattle.sheet.specs.Look.{entryWith}
 use Rattle.sheet.proofs.Filling.{fill}
 use Rattle.sheet.proofs.stores.in_order.Statement.{statement}

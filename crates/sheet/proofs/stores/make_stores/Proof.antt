@@ -8,7 +8,7 @@ use borrow.Author.Needs.{needs}
 use lib.ListN.{length, take, getD, set, length-set}
 use Rattle.sheet.specs.Record.{Entry, lengthOf}
 use Rattle.sheet.specs.Stores.{Store, _puts_, made, stores}
-use Rattle.sheet.specs.InOrder.{inOrder, placeOf}
+use Rattle.sheet.specs.inside.InOrder.{inOrder, placeOf}
 use Rattle.sheet.specs.Look.{entryWith}
 use Rattle.sheet.proofs.Storing.{place-in, take-min, made-more, stores-length, store-at}
 use Rattle.sheet.proofs.stores.make_stores.Statement.{statement}

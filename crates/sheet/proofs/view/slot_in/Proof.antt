@@ -49,7 +49,8 @@ use Rattle.sheet.specs.declared.Looked.{Looked}
 use Rattle.sheet.specs.declared.view.Sheet.{Sheet}
 use Rattle.sheet.specs.declared.view.Span.{Span}
 use Rattle.sheet.specs.Look.{partOf}
-use Rattle.sheet.specs.View.{spanOf, seenOf}
+use Rattle.sheet.specs.View.{seenOf}
+use Rattle.sheet.specs.inside.Span.{spanOf}
 use Rattle.sheet.proofs.view.Part as P
 use Rattle.sheet.proofs.view.Spans.{span-in, span-seen}
 use Rattle.sheet.proofs.view.Sheet as view

@@ -1,7 +1,7 @@
 -- `sheet::view::span_of` meets its contract: each return is the definition after the tests that led there. Assumes nothing.
 use borrow.Author.Needs.{needs}
 use borrow.Author.Tests.{lt-ltb, le-ltb}
-use Rattle.sheet.specs.View.{spanOf}
+use Rattle.sheet.specs.inside.Span.{spanOf}
 use Rattle.sheet.proofs.view.span_of.Statement.{statement}
 use Rattle.sheet.proofs.view.span_of.Tie as tie
 

@@ -1,5 +1,5 @@
--- How the code makes a record's stores: one row of bytes in the order of their stores, and where each goes. A reader of document 01 need not believe
--- this file: that these are the stores of `specs/Stores.antt` is proved.
+-- How the code makes a record's stores: one row of bytes in the order of their stores, and where each goes. That these are the
+-- stores of `specs/Stores.antt` is proved.
 use mathlib.Core.Path.{_≡_}
 use mathlib.Core.List.{List, _∷_, _++_}
 use Prim.Native.Nat.{ℕ, _+_, _-_, min}

@@ -1,4 +1,4 @@
--- What the calls that put text into an output do. A reader of document 01 need not believe this file: it is between these calls alone.
+-- What the calls that put text into an output do, among themselves.
 use mathlib.Core.Path.{_≡_}
 use mathlib.Core.List.{List}
 use Prim.Native.Nat.{ℕ, _+_, _≤_}

@@ -1,5 +1,5 @@
--- How the code searches for the slot that a save goes to: by passing over blank slots from the end. A reader of document 01 need not believe this file:
--- that the search ends at `next` of `specs/Slots.antt` is proved.
+-- How the code searches for the slot that a save goes to: by passing over blank slots from the end. That the search ends
+-- at `next` of `specs/Slots.antt` is proved.
 use mathlib.Core.Path.{_≡_}
 use mathlib.Core.List.{List}
 use Prim.Native.Nat.{ℕ, _<_, _≤_}
