@@ -1,3 +1,0 @@
--- What the walks of the desk share.
-pub mod Three
-pub mod HadBack
