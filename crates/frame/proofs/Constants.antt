@@ -1,85 +1,156 @@
--- The constants of each mode's type give what its mode says: the same fill bits, the same digit bits, the same row. The top digit may be
--- read in four bits because no bit stands above it. Assumes nothing.
-use mathlib.Core.Path.{_≡_, refl}
+-- The constants that a mode's type carries give what its mode says. The law is one for all modes: where constants and a mode fit (the same
+-- fill bits, the same digit bits, the same charts, the first digit read straight), reading and writing by the one is reading and writing by
+-- the other. The top digit may be read in four bits because no bit stands above it. That each of the four modes fits is computed. Assumes
+-- nothing.
+use mathlib.Core.Path.{_≡_, refl, ap, _∙_}
 use mathlib.Core.Bool.{Bool, true, false, _&&_}
 use mathlib.Core.List.{List, [], _∷_}
-use Prim.Native.Nat.{ℕ, _-_, _/_, _%_, _^_, _<_, _≤_}
-use native.Mathlib.Nat.{mod-eq-of-lt, mod-one}
+use Prim.Native.Nat.{ℕ, _+_, _-_, _*_, _/_, _%_, _^_, _<_, _≤_}
+use native.Mathlib.Nat.{mod-eq-of-lt, mod-one, mod-lt}
 use native.Mathlib.Omega.{arith}
 use lib.Dec.{eqb, lit<, lit≤}
+use lib.Pow.{pow-pos}
 use Rattle.frame.specs.Charts.{Chart, oneBit, twoBits, feetTens, decimal, inches, sixteenths}
-use Rattle.frame.specs.Level.{widthOf, valuesOf, readRow, writeRow, fractionalMode, decimalMode, twentyMetreMode, thirtyMetreMode, putLevel}
-use Rattle.frame.specs.Packed.{chartOf, rowOf, levelCode, readBy, writeUp, placedAt}
+use Rattle.frame.specs.Level.{Mode, widthOf, valuesOf, readRow, writeRow, fillClear, lastBit, putLevel, fractionalMode, decimalMode, twentyMetreMode, thirtyMetreMode}
+use Rattle.frame.specs.inside.Packed.{chartOf, rowOf, levelCode, writeUp}
+use Rattle.frame.specs.inside.Constants.{Constants, fractional, decimalFeet, metres20, metres30, fillAt, digitBits, readBy, writeBy}
+use Rattle.frame.proofs.Both.{and-true}
 use Rattle.frame.proofs.Upward.{placed-up}
 
-and-true : (b : Bool) → (b && true) ≡ b
-and-true true = refl
-and-true false = refl
+-- a digit's chart read in four bits
+abbrev inFourBits : Chart → Chart
+inFourBits c = record { width = 4; codes = c .codes }
 
 -- a digit read in four bits, where the bits fit its own width
 top-in-four : (c : Chart) (cs : List Chart) (bits : ℕ) (odd : Bool) (sofar place : ℕ) → bits / 2 ^ widthOf cs < 2 ^ (c .width) → 2 ^ (c .width) ≤ 16
-    → readRow (record { width = 4; codes = c .codes } ∷ cs) bits odd sofar place ≡ readRow (c ∷ cs) bits odd sofar place
+    → readRow (inFourBits c ∷ cs) bits odd sofar place ≡ readRow (c ∷ cs) bits odd sofar place
 unfolding readRow
 top-in-four c cs bits odd sofar place h w =
     let few : bits / 2 ^ widthOf cs < 16 = omega arith in
     rw (mod-eq-of-lt few, mod-eq-of-lt h)
 
-pub fractional-read : (n : ℕ) → readBy n 4 17 6 15359 0x5432 ≡ levelCode fractionalMode n
-unfolding levelCode fractionalMode widthOf rowOf chartOf oneBit twoBits feetTens decimal inches sixteenths
-fractional-read n =
-    let bits = n / 2 ^ 33 % 2 ^ 15 in
-    let few : bits / 2 ^ 12 < 2 ^ 3 = omega arith in
-    rw (top-in-four feetTens (decimal ∷ inches ∷ sixteenths ∷ []) bits false 0 0 few (lit≤ tt), and-true (eqb (n / 2 ^ 27 % 2 ^ 6) 0))
+-- constants that fit a mode, whose top digit and other digits are these
+pub record Fits (m : Mode) (k : Constants) : Type 0 where
+  pub top : Chart
+  pub rest : List Chart
+  pub row : m .row ≡ top ∷ rest
+  pub charts : rowOf (k .charts) (k .digits) ≡ inFourBits top ∷ rest
+  pub narrow : 2 ^ (top .width) ≤ 16
+  pub alone : (bits : ℕ) → bits < 2 ^ digitBits (k .first) (k .after) → bits / 2 ^ widthOf rest < 2 ^ (top .width)
+  pub wide : digitBits (k .first) (k .after) ≡ widthOf (m .row)
+  pub cut : digitBits (k .first) (k .after) ≡ lastBit m + 1 - m .first
+  pub last : 27 + k .after ≡ 64 - lastBit m
+  pub fill : (n : ℕ) → fillAt n (k .before) (k .after) ≡ fillClear n (m .fill)
+  pub largest : k .largest ≡ m .largest
+  pub straight : k .start ≡ false
+  pub values : k .largest < valuesOf (rowOf (k .charts) (k .digits))
+  pub begins : 16 ≤ k .first
+  pub ends : 4 * k .digits + (27 + k .after) ≤ 53
 
-pub decimal-read : (n : ℕ) → readBy n 4 17 6 7999 0x3332 ≡ levelCode decimalMode n
-unfolding levelCode decimalMode widthOf rowOf chartOf oneBit twoBits feetTens decimal inches sixteenths
-decimal-read n =
-    let bits = n / 2 ^ 33 % 2 ^ 15 in
-    let few : bits / 2 ^ 12 < 2 ^ 3 = omega arith in
-    rw (top-in-four feetTens (decimal ∷ decimal ∷ decimal ∷ []) bits false 0 0 few (lit≤ tt), and-true (eqb (n / 2 ^ 27 % 2 ^ 6) 0))
+module _ (m : Mode) (k : Constants) (f : Fits m k) where
+  pub read-is : (n : ℕ) → readBy k n ≡ levelCode m n
+  unfolding levelCode
+  read-is n =
+      let bits = n / 2 ^ (27 + k .after) % 2 ^ digitBits (k .first) (k .after) in
+      let few : bits < 2 ^ digitBits (k .first) (k .after) = mod-lt (n / 2 ^ (27 + k .after)) (pow-pos (digitBits (k .first) (k .after))) in
+      rw (f .fill n, f .charts, f .straight, f .largest, top-in-four (f .top) (f .rest) bits false 0 0 (f .alone bits few) (f .narrow), f .cut, f .last, f .row)
 
-pub metres20-read : (n : ℕ) → readBy n 5 16 5 19999 0x33330 ≡ levelCode twentyMetreMode n
-unfolding levelCode twentyMetreMode widthOf rowOf chartOf oneBit twoBits feetTens decimal inches sixteenths
-metres20-read n =
-    let bits = n / 2 ^ 32 % 2 ^ 17 in
-    let few : bits / 2 ^ 16 < 2 ^ 1 = omega arith in
-    rw (top-in-four oneBit (decimal ∷ decimal ∷ decimal ∷ decimal ∷ []) bits false 0 0 few (lit≤ tt), mod-one (n / 2 ^ 49), and-true (eqb (n / 2 ^ 27 % 2 ^ 5) 0))
+  same-codes : (v : ℕ) → writeRow (rowOf (k .charts) (k .digits)) false v ≡ writeRow (m .row) false v
+  unfolding writeRow
+  same-codes v = rw (f .charts, f .row)
 
-pub metres30-read : (n : ℕ) → readBy n 5 16 4 32699 0x33331 ≡ levelCode thirtyMetreMode n
-unfolding levelCode thirtyMetreMode widthOf rowOf chartOf oneBit twoBits feetTens decimal inches sixteenths
-metres30-read n =
-    let bits = n / 2 ^ 31 % 2 ^ 18 in
-    let few : bits / 2 ^ 16 < 2 ^ 2 = omega arith in
-    rw (top-in-four twoBits (decimal ∷ decimal ∷ decimal ∷ decimal ∷ []) bits false 0 0 few (lit≤ tt), mod-one (n / 2 ^ 49), and-true (eqb (n / 2 ^ 27 % 2 ^ 4) 0))
+  pub write-is : (v : ℕ) → writeBy k v ≡ putLevel m v
+  write-is v =
+      placed-up v (k .charts) (k .digits) (k .first) (k .after) (k .largest) (f .values)
+      ∙ rw (same-codes v, f .wide, f .last, f .largest)
 
-fractional-values : 15359 < valuesOf (rowOf 0x5432 4)
-unfolding valuesOf rowOf chartOf oneBit twoBits feetTens decimal inches sixteenths
-fractional-values = lit< tt
+-- fill on both sides of the digits, or only after them
+both-sides : (n j : ℕ) → fillAt n 1 j ≡ (eqb (n / 2 ^ 48 % 2 ^ 1) 0 && (eqb (n / 2 ^ 27 % 2 ^ j) 0 && true))
+both-sides n j = rw (and-true (eqb (n / 2 ^ 27 % 2 ^ j) 0))
 
-pub fractional-write : (v : ℕ) → placedAt v (writeUp 0x5432 4 v) 17 6 15359 ≡ putLevel fractionalMode v
-unfolding fractionalMode widthOf valuesOf writeRow rowOf chartOf oneBit twoBits feetTens decimal inches sixteenths
-fractional-write v = placed-up v 0x5432 4 17 6 15359 fractional-values
+only-after : (n j : ℕ) → fillAt n 0 j ≡ (eqb (n / 2 ^ 27 % 2 ^ j) 0 && true)
+only-after n j = rw (mod-one (n / 2 ^ 49), and-true (eqb (n / 2 ^ 27 % 2 ^ j) 0))
 
-decimal-values : 7999 < valuesOf (rowOf 0x3332 4)
-unfolding valuesOf rowOf chartOf oneBit twoBits feetTens decimal inches sixteenths
-decimal-values = lit< tt
+pub fractional-fits : Fits fractionalMode fractional
+unfolding fractionalMode widthOf valuesOf rowOf chartOf feetTens decimal inches sixteenths
+fractional-fits =
+    record {
+      top = feetTens;
+      rest = decimal ∷ inches ∷ sixteenths ∷ [];
+      row = refl;
+      charts = refl;
+      narrow = lit≤ tt;
+      alone = λ bits h. omega arith;
+      wide = refl;
+      cut = refl;
+      last = refl;
+      fill = λ n. both-sides n 6;
+      largest = refl;
+      straight = refl;
+      values = lit< tt;
+      begins = lit≤ tt;
+      ends = lit≤ tt;
+    }
 
-pub decimal-write : (v : ℕ) → placedAt v (writeUp 0x3332 4 v) 17 6 7999 ≡ putLevel decimalMode v
-unfolding decimalMode widthOf valuesOf writeRow rowOf chartOf oneBit twoBits feetTens decimal inches sixteenths
-decimal-write v = placed-up v 0x3332 4 17 6 7999 decimal-values
+pub decimal-fits : Fits decimalMode decimalFeet
+unfolding decimalMode widthOf valuesOf rowOf chartOf feetTens decimal
+decimal-fits =
+    record {
+      top = feetTens;
+      rest = decimal ∷ decimal ∷ decimal ∷ [];
+      row = refl;
+      charts = refl;
+      narrow = lit≤ tt;
+      alone = λ bits h. omega arith;
+      wide = refl;
+      cut = refl;
+      last = refl;
+      fill = λ n. both-sides n 6;
+      largest = refl;
+      straight = refl;
+      values = lit< tt;
+      begins = lit≤ tt;
+      ends = lit≤ tt;
+    }
 
-metres20-values : 19999 < valuesOf (rowOf 0x33330 5)
-unfolding valuesOf rowOf chartOf oneBit twoBits feetTens decimal inches sixteenths
-metres20-values = lit< tt
+pub metres20-fits : Fits twentyMetreMode metres20
+unfolding twentyMetreMode widthOf valuesOf rowOf chartOf oneBit decimal
+metres20-fits =
+    record {
+      top = oneBit;
+      rest = decimal ∷ decimal ∷ decimal ∷ decimal ∷ [];
+      row = refl;
+      charts = refl;
+      narrow = lit≤ tt;
+      alone = λ bits h. omega arith;
+      wide = refl;
+      cut = refl;
+      last = refl;
+      fill = λ n. only-after n 5;
+      largest = refl;
+      straight = refl;
+      values = lit< tt;
+      begins = lit≤ tt;
+      ends = lit≤ tt;
+    }
 
-pub metres20-write : (v : ℕ) → placedAt v (writeUp 0x33330 5 v) 16 5 19999 ≡ putLevel twentyMetreMode v
-unfolding twentyMetreMode widthOf valuesOf writeRow rowOf chartOf oneBit twoBits feetTens decimal inches sixteenths
-metres20-write v = placed-up v 0x33330 5 16 5 19999 metres20-values
-
-metres30-values : 32699 < valuesOf (rowOf 0x33331 5)
-unfolding valuesOf rowOf chartOf oneBit twoBits feetTens decimal inches sixteenths
-metres30-values = lit< tt
-
-pub metres30-write : (v : ℕ) → placedAt v (writeUp 0x33331 5 v) 16 4 32699 ≡ putLevel thirtyMetreMode v
-unfolding thirtyMetreMode widthOf valuesOf writeRow rowOf chartOf oneBit twoBits feetTens decimal inches sixteenths
-metres30-write v = placed-up v 0x33331 5 16 4 32699 metres30-values
+pub metres30-fits : Fits thirtyMetreMode metres30
+unfolding thirtyMetreMode widthOf valuesOf rowOf chartOf twoBits decimal
+metres30-fits =
+    record {
+      top = twoBits;
+      rest = decimal ∷ decimal ∷ decimal ∷ decimal ∷ [];
+      row = refl;
+      charts = refl;
+      narrow = lit≤ tt;
+      alone = λ bits h. omega arith;
+      wide = refl;
+      cut = refl;
+      last = refl;
+      fill = λ n. only-after n 4;
+      largest = refl;
+      straight = refl;
+      values = lit< tt;
+      begins = lit≤ tt;
+      ends = lit≤ tt;
+    }

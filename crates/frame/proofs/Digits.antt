@@ -10,7 +10,7 @@ use borrow.Author.Tests.{lt-ltb, le-ltb, ltb-true}
 use lib.Dec.{ltb, lit≤}
 use Rattle.frame.specs.Charts.{Chart, sizeOf, isOdd, turned, placeIn}
 use Rattle.frame.specs.Level.{Level, known, lost, widthOf, readRow}
-use Rattle.frame.specs.Packed.{chartOf, digitOf, rowOf, readCode, levelNumber}
+use Rattle.frame.specs.inside.Packed.{chartOf, digitOf, rowOf, readCode, levelNumber}
 use Rattle.frame.proofs.Tables.{size-high}
 
 -- n and n - 1

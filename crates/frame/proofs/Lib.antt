@@ -1,4 +1,6 @@
 -- The laws that several proofs cite, each in a file named for what it speaks of.
+pub mod Both
+pub mod Answers
 pub mod Marks
 pub mod Shifts
 pub mod Tables

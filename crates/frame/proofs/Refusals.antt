@@ -4,19 +4,20 @@ use mathlib.Core.Bool.{Bool, true, false, not, _&&_}
 use mathlib.Core.List.{List}
 use Prim.Native.Nat.{ℕ, _+_, _/_, _≤_}
 use native.Mathlib.Omega.{arith}
-use borrow.Author.Tests.{ne-eqb, eqb-true}
+use borrow.Author.Tests.{eqb-true}
 use lib.Dec.{eqb, ltb, leb}
 use lib.ListN.{length}
-use Rattle.frame.specs.declared.Reply.the-variants.{Refused}
-use Rattle.frame.specs.Line.{formed, bytesFor, padClear}
-use Rattle.frame.specs.Reply.{replyFault, replyOf}
-use Rattle.frame.specs.Packed.{lineFault, lineReply}
-use Rattle.frame.proofs.Three.{both-left, both-right}
+use Rattle.frame.specs.declared.Reply.the-variants.{Read, Refused}
+use Rattle.frame.specs.Line.{line, formed, bytesFor, padClear}
+use Rattle.frame.specs.Reply.{readingAt, replyFault, replyOf}
+use Rattle.frame.specs.inside.Packed.{lineFault, lineReply}
+use Rattle.frame.proofs.Answers.{refused-by}
+use Rattle.frame.proofs.Both.{both-left, both-right}
 
 module _ (settings address count : ℕ) (s : List ℕ) where
   answer-is : (f : ℕ) → replyFault settings address count s ≡ f → (f ≡ 0 → ⊥) → replyOf settings address count s ≡ Refused f
   unfolding replyOf
-  answer-is f e some = rw e (simp (ne-eqb _ _ some))
+  answer-is f e some = refused-by (Read (readingAt settings count (line s))) Refused _ f e some
 
   pub reply-10 : ltb 15 settings ≡ true → replyOf settings address count s ≡ Refused 10
   unfolding replyFault

@@ -1,11 +1,12 @@
 -- The digits of a level, written from the ones digit up, in one sum: dividing by a digit's values and then by the next one's is dividing by
 -- both. Assumes nothing.
 use mathlib.Core.Path.{_≡_}
-use Prim.Native.Nat.{ℕ, _+_, _*_, _/_}
+use Prim.Native.Nat.{ℕ, _+_, _*_, _/_, _%_, _^_, _<_}
 use native.Mathlib.Nat.{div-div-eq-div-mul}
 use native.Mathlib.Omega.{arith}
-use Rattle.frame.specs.Charts.{oneBit, twoBits, feetTens, decimal, inches, sixteenths}
-use Rattle.frame.specs.Packed.{chartOf, onesCode, writeUp}
+use Rattle.frame.specs.Charts.{feetTens, decimal, inches, sixteenths}
+use Rattle.frame.specs.inside.Packed.{chartOf, onesCode, writeUp}
+use Rattle.frame.specs.inside.Constants.{fractional, decimalFeet, codesBy}
 
 -- the last three digits of the decimal modes
 pub three-up : (v : ℕ) → writeUp 0x333 3 v ≡ onesCode decimal v + 16 * onesCode decimal (v / 10) + 256 * onesCode decimal (v / 100)
@@ -14,18 +15,33 @@ three-up v = rw (div-div-eq-div-mul v 10 10) (omega arith)
 
 -- and each mode's digits
 pub fractional-up : (v : ℕ)
-    → writeUp 0x5432 4 v ≡ onesCode sixteenths v + 16 * onesCode inches (v / 16) + 256 * onesCode decimal (v / 192) + 4096 * onesCode feetTens (v / 1920)
+    → codesBy fractional v ≡ onesCode sixteenths v + 16 * onesCode inches (v / 16) + 256 * onesCode decimal (v / 192) + 4096 * onesCode feetTens (v / 1920)
 unfolding writeUp chartOf feetTens decimal inches sixteenths
 fractional-up v = rw (div-div-eq-div-mul v 16 12, div-div-eq-div-mul v 192 10) (omega arith)
 
-pub decimal-up : (v : ℕ) → writeUp 0x3332 4 v ≡ writeUp 0x333 3 v + 4096 * onesCode feetTens (v / 1000)
+pub decimal-up : (v : ℕ) → codesBy decimalFeet v ≡ writeUp 0x333 3 v + 4096 * onesCode feetTens (v / 1000)
 unfolding writeUp chartOf feetTens decimal
 decimal-up v = rw (div-div-eq-div-mul v 10 10, div-div-eq-div-mul v 100 10) (omega arith)
 
-pub metres20-up : (v : ℕ) → writeUp 0x33330 5 v ≡ writeUp 0x333 3 v + 4096 * onesCode decimal (v / 1000) + 65536 * onesCode oneBit (v / 10000)
-unfolding writeUp chartOf oneBit decimal
-metres20-up v = rw (div-div-eq-div-mul v 10 10, div-div-eq-div-mul v 100 10, div-div-eq-div-mul v 1000 10) (omega arith)
+-- in metres four decimal digits stand below a digit of any chart
+module _ (top : ℕ) (few : top < 16) where
+  chart-0 : (0x33330 + top) / 16 ^ 0 % 16 ≡ top
+  chart-0 = omega arith
 
-pub metres30-up : (v : ℕ) → writeUp 0x33331 5 v ≡ writeUp 0x333 3 v + 4096 * onesCode decimal (v / 1000) + 65536 * onesCode twoBits (v / 10000)
-unfolding writeUp chartOf twoBits decimal
-metres30-up v = rw (div-div-eq-div-mul v 10 10, div-div-eq-div-mul v 100 10, div-div-eq-div-mul v 1000 10) (omega arith)
+  above-1 : (0x33330 + top) / 16 ^ 1 ≡ 0x3333
+  above-1 = omega arith
+
+  above-2 : (0x33330 + top) / 16 ^ 2 ≡ 0x333
+  above-2 = omega arith
+
+  above-3 : (0x33330 + top) / 16 ^ 3 ≡ 0x33
+  above-3 = omega arith
+
+  above-4 : (0x33330 + top) / 16 ^ 4 ≡ 0x3
+  above-4 = omega arith
+
+  pub five-up : (v : ℕ)
+      → writeUp (0x33330 + top) 5 v ≡ writeUp 0x333 3 v + 4096 * onesCode decimal (v / 1000) + 65536 * onesCode (chartOf top) (v / 10000)
+  unfolding writeUp chartOf decimal
+  five-up v =
+      rw (above-4, above-3, above-2, above-1, chart-0, div-div-eq-div-mul v 10 10, div-div-eq-div-mul v 100 10, div-div-eq-div-mul v 1000 10) (omega arith)

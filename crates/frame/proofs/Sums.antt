@@ -9,13 +9,14 @@ use lib.Pow.{pow-add, pow-mono, shl-lt, ones-lt}
 use Rattle.frame.specs.declared.Temperature.{Temperature}
 use Rattle.frame.specs.declared.Temperature.the-variants.{Degrees, Above, Below, Absent}
 use Rattle.frame.specs.Line.{put, mark}
-use Rattle.frame.specs.Level.{Mode, modeOf, putLevel}
+use Rattle.frame.specs.Level.{Mode, modeOf, putLevel, fractionalMode, decimalMode, twentyMetreMode, thirtyMetreMode}
 use Rattle.frame.specs.Temperature.{isPlus, magnitude, putDegrees, putDegrees1900, putHeat1900, putDegrees1800, putHeat1800, putHeat, isAbsent}
 use Rattle.frame.specs.declared.Reading.{Reading}
 use Rattle.frame.specs.Reply.{modeIn, is1800, bodyOf}
-use Rattle.frame.specs.Packed.{writeUp, placedAt, digitBits, threeOf}
-use Rattle.frame.proofs.Constants.{fractional-write, decimal-write, metres20-write, metres30-write}
-use Rattle.frame.proofs.Upward.{up-lt}
+use Rattle.frame.specs.inside.Packed.{threeOf}
+use Rattle.frame.specs.inside.Constants.{Constants, fractional, decimalFeet, metres20, metres30, digitBits, codesBy, writeBy}
+use Rattle.frame.proofs.Constants.{Fits, write-is, fractional-fits, decimal-fits, metres20-fits, metres30-fits}
+use Rattle.frame.proofs.Upward.{up-lt, sixteen}
 use Rattle.frame.proofs.Tables.{pick-case}
 use Rattle.frame.proofs.EachMode.{every-mode}
 
@@ -31,21 +32,28 @@ shifted a j fill h w =
       ends = rw (pow-add 2 27 fill, mul-comm (2 ^ 27) (2 ^ fill), ← mul-assoc a (2 ^ fill) (2 ^ 27)) (mul-mod-left (a * 2 ^ fill) (2 ^ 27));
     }
 
-placed : (v codes bits first fill largest : ℕ) → codes < 2 ^ bits → 16 ≤ first → first ≤ 17 → fill ≤ 6 → bits + (27 + fill) ≤ 53 → Middle (placedAt v codes first fill largest)
-placed v codes bits first fill largest few low high room total = go (leb v largest) refl
-  where
-    go : (b : Bool) → leb v largest ≡ b → Middle (placedAt v codes first fill largest)
-    go true e = rw e (shifted codes bits fill few total)
-    go false e = rw e (shifted (2 ^ digitBits first fill - 1) (digitBits first fill) fill (ones-lt (digitBits first fill)) (omega arith))
+-- the level's part of any mode that constants fit, and so in every mode
+module _ (m : Mode) (k : Constants) (f : Fits m k) where
+  placed : (v : ℕ) → Middle (writeBy k v)
+  placed v = go (leb v (k .largest)) refl
+    where
+      few : codesBy k v < 2 ^ (4 * k .digits)
+      few = rw (sixteen (k .digits)) (up-lt (k .charts) (k .digits) v)
 
--- the level's part, in every mode
+      go : (b : Bool) → leb v (k .largest) ≡ b → Middle (writeBy k v)
+      go true e = rw e (shifted (codesBy k v) (4 * k .digits) (k .after) few (f .ends))
+      go false e = rw e (shifted (2 ^ digitBits (k .first) (k .after) - 1) (digitBits (k .first) (k .after)) (k .after) (ones-lt (digitBits (k .first) (k .after))) (omega (arith, f .begins, f .ends)))
+
+  middle : (v : ℕ) → Middle (putLevel m v)
+  middle v = rw (← write-is m k f v) (placed v)
+
 pub level-middle : (k v : ℕ) → Middle (putLevel (modeOf k) v)
 level-middle k v =
     every-mode (λ (m : Mode). Middle (putLevel m v))
-    (rw (← fractional-write v) (placed v (writeUp 0x5432 4 v) 16 17 6 15359 (up-lt 0x5432 4 v) (lit≤ tt) (lit≤ tt) (lit≤ tt) (lit≤ tt)))
-    (rw (← decimal-write v) (placed v (writeUp 0x3332 4 v) 16 17 6 7999 (up-lt 0x3332 4 v) (lit≤ tt) (lit≤ tt) (lit≤ tt) (lit≤ tt)))
-    (rw (← metres20-write v) (placed v (writeUp 0x33330 5 v) 20 16 5 19999 (up-lt 0x33330 5 v) (lit≤ tt) (lit≤ tt) (lit≤ tt) (lit≤ tt)))
-    (rw (← metres30-write v) (placed v (writeUp 0x33331 5 v) 20 16 4 32699 (up-lt 0x33331 5 v) (lit≤ tt) (lit≤ tt) (lit≤ tt) (lit≤ tt)))
+    (middle fractionalMode fractional fractional-fits v)
+    (middle decimalMode decimalFeet decimal-fits v)
+    (middle twentyMetreMode metres20 metres20-fits v)
+    (middle thirtyMetreMode metres30 metres30-fits v)
     k
 
 -- a part that begins at bit 9 of the word and stays below bit 25

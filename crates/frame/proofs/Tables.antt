@@ -10,7 +10,8 @@ use lib.Dec.{T, eqb, eqb→eq, leb, leb→le}
 use lib.ListN.{getD}
 use Rattle.frame.specs.Pick.{pick}
 use Rattle.frame.specs.Charts.{Chart, oneBit, twoBits, feetTens, decimal, inches, sixteenths, placeIn, sizeOf}
-use Rattle.frame.specs.Packed.{chartOf, placesOf, codesOf}
+use Rattle.frame.specs.inside.Packed.{chartOf, placesOf, codesOf}
+use Rattle.frame.proofs.Both.{and-left, and-right}
 
 pub pick-case : {A : Type 0} (P : A → Type 0) (t : Bool) {a b : A} → P a → P b → P (pick t a b)
 pick-case P true pa pb = pa
@@ -27,14 +28,6 @@ every-chart P a b c d e f k =
 abbrev pub allBelow : (ℕ → Bool) → ℕ → Bool
 allBelow f zero = true
 allBelow f (suc n) = allBelow f n && f n
-
-pub and-left : (a b : Bool) → T (a && b) → T a
-and-left true b t = tt
-and-left false b t = t
-
-pub and-right : (a b : Bool) → T (a && b) → T b
-and-right true b t = t
-and-right false b t = absurd t
 
 pub at-below : (f : ℕ → Bool) (n : ℕ) → T (allBelow f n) → (k : ℕ) → k < n → T (f k)
 at-below f zero t k h = absurd (omega arith)

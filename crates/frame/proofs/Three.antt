@@ -6,6 +6,7 @@ use native.Mathlib.Omega.{arith}
 use borrow.Author.Tests.{leb-true, eq-eqb, ne-eqb}
 use lib.Dec.{leb, eqb}
 use Rattle.frame.specs.Pick.{pick}
+use Rattle.frame.proofs.Both.{both-left, both-right}
 
 -- the three digits, each decimal or not
 abbrev pub decimals : ℕ → ℕ → ℕ → Bool
@@ -13,14 +14,6 @@ decimals h t u = leb h 9 && leb t 9 && leb u 9
 
 abbrev pub number : ℕ → ℕ → ℕ → ℕ
 number h t u = h * 100 + t * 10 + u
-
-pub both-left : (a b : Bool) → (a && b) ≡ true → a ≡ true
-both-left true b e = refl
-both-left false b e = e
-
-pub both-right : (a b : Bool) → (a && b) ≡ true → b ≡ true
-both-right true b e = e
-both-right false b e = let z : _≡_ {A = ℕ} 0 1 = cc in absurd (omega arith)
 
 pub number-le : (h t u : ℕ) → decimals h t u ≡ true → number h t u ≤ 999
 number-le h t u e =

@@ -12,7 +12,8 @@ use lib.Dec.{eqb, leb, lit<}
 use lib.Pow.{pow-add, pow-mono}
 use Rattle.frame.specs.Charts.{Chart, sizeOf, isOdd, turned, codeOf}
 use Rattle.frame.specs.Level.{widthOf, valuesOf, writeRow}
-use Rattle.frame.specs.Packed.{chartOf, codesOf, rowOf, writeUp, placedAt}
+use Rattle.frame.specs.inside.Packed.{chartOf, codesOf, rowOf, writeUp}
+use Rattle.frame.specs.inside.Constants.{placedAt}
 use Rattle.frame.proofs.Digits.{turned-lt}
 use Rattle.frame.proofs.Tables.{size-low, size-high, size-even, codes-rule}
 

@@ -5,7 +5,7 @@ use mathlib.Core.Bool.{Bool, true, false, not, _&&_}
 use mathlib.Core.List.{List, [], _∷_}
 use Prim.Native.Nat.{ℕ, suc, _+_, _*_, _/_, _%_, _^_, _<_, _≤_}
 use native.Mathlib.Omega.{arith}
-use borrow.Author.Tests.{ltb-false, ne-eqb}
+use borrow.Author.Tests.{ltb-false}
 use lib.Dec.{eqb, ltb}
 use lib.ListN.{length}
 use Rattle.frame.specs.declared.Reply.the-variants.{Read, Refused}
@@ -15,7 +15,8 @@ use Rattle.frame.specs.Charts.{Chart, sizeOf, isOdd, turned, placeIn}
 use Rattle.frame.specs.Level.{Level, known, lost, Mode, widthOf, readRow, levelOf, fillClear, noChart, valueOf, aboveLargest}
 use Rattle.frame.specs.Temperature.{isBad}
 use Rattle.frame.specs.Reply.{modeIn, heatIn, parityRight, readingAt}
-use Rattle.frame.specs.Packed.{levelNumber, levelCode, lineFault, lineReply, heatReply}
+use Rattle.frame.specs.inside.Packed.{levelNumber, levelCode, lineFault, lineReply, heatReply}
+use Rattle.frame.proofs.Answers.{refused-by}
 use Rattle.frame.proofs.Tables.{pick-case}
 use Rattle.frame.proofs.EachMode.{small-levels, few-digits}
 
@@ -109,7 +110,7 @@ module _ (settings address count : ℕ) (s : List ℕ) where
 
   answer-is : (f : ℕ) → lineFault settings address count s ≡ f → (f ≡ 0 → ⊥) → lineReply settings address count s ≡ Refused f
   unfolding lineReply
-  answer-is f e some = rw e (simp (ne-eqb _ _ some))
+  answer-is f e some = refused-by (Read (readingAt settings count (line s))) Refused _ f e some
 
   pub line-3 : eqb (bit (line s) 1) 0 ≡ true → lineReply settings address count s ≡ Refused 3
   unfolding lineFault

@@ -26,12 +26,21 @@ decimal =
 
 unfoldable pub inches : Chart
 inches =
-    record { width = 4; codes = 0b0000 ∷ 0b0001 ∷ 0b0011 ∷ 0b0010 ∷ 0b0110 ∷ 0b0111 ∷ 0b0101 ∷ 0b0100 ∷ 0b1100 ∷ 0b1101 ∷ 0b1111 ∷ 0b1110 ∷ [] }
+    record {
+      width = 4;
+      codes =
+          0b0000 ∷ 0b0001 ∷ 0b0011 ∷ 0b0010 ∷ 0b0110 ∷ 0b0111 ∷ 0b0101 ∷ 0b0100 ∷ 0b1100 ∷ 0b1101 ∷ 0b1111 ∷ 0b1110 ∷ [];
+    }
 
 -- The twelve codes of the inches, then four more.
 unfoldable pub sixteenths : Chart
 sixteenths =
-    record { width = 4; codes = 0b0000 ∷ 0b0001 ∷ 0b0011 ∷ 0b0010 ∷ 0b0110 ∷ 0b0111 ∷ 0b0101 ∷ 0b0100 ∷ 0b1100 ∷ 0b1101 ∷ 0b1111 ∷ 0b1110 ∷ 0b1010 ∷ 0b1011 ∷ 0b1001 ∷ 0b1000 ∷ [] }
+    record {
+      width = 4;
+      codes =
+          0b0000 ∷ 0b0001 ∷ 0b0011 ∷ 0b0010 ∷ 0b0110 ∷ 0b0111 ∷ 0b0101 ∷ 0b0100 ∷ 0b1100 ∷ 0b1101 ∷ 0b1111 ∷ 0b1110
+          ∷ 0b1010 ∷ 0b1011 ∷ 0b1001 ∷ 0b1000 ∷ [];
+    }
 
 -- How many values a digit has; its largest digit is one less.
 abbrev pub sizeOf : Chart → ℕ

@@ -55,19 +55,39 @@ pub record Mode : Type 0 where
 
 unfoldable pub fractionalMode : Mode
 fractionalMode =
-    record { row = feetTens ∷ decimal ∷ inches ∷ sixteenths ∷ []; first = 17; fill = record { from = 16; to = 16 } ∷ record { from = 32; to = 37 } ∷ []; largest = 15359 }
+    record {
+      row = feetTens ∷ decimal ∷ inches ∷ sixteenths ∷ [];
+      first = 17;
+      fill = record { from = 16; to = 16 } ∷ record { from = 32; to = 37 } ∷ [];
+      largest = 15359;
+    }
 
 unfoldable pub decimalMode : Mode
 decimalMode =
-    record { row = feetTens ∷ decimal ∷ decimal ∷ decimal ∷ []; first = 17; fill = record { from = 16; to = 16 } ∷ record { from = 32; to = 37 } ∷ []; largest = 7999 }
+    record {
+      row = feetTens ∷ decimal ∷ decimal ∷ decimal ∷ [];
+      first = 17;
+      fill = record { from = 16; to = 16 } ∷ record { from = 32; to = 37 } ∷ [];
+      largest = 7999;
+    }
 
 unfoldable pub twentyMetreMode : Mode
 twentyMetreMode =
-    record { row = oneBit ∷ decimal ∷ decimal ∷ decimal ∷ decimal ∷ []; first = 16; fill = record { from = 33; to = 37 } ∷ []; largest = 19999 }
+    record {
+      row = oneBit ∷ decimal ∷ decimal ∷ decimal ∷ decimal ∷ [];
+      first = 16;
+      fill = record { from = 33; to = 37 } ∷ [];
+      largest = 19999;
+    }
 
 unfoldable pub thirtyMetreMode : Mode
 thirtyMetreMode =
-    record { row = twoBits ∷ decimal ∷ decimal ∷ decimal ∷ decimal ∷ []; first = 16; fill = record { from = 34; to = 37 } ∷ []; largest = 32699 }
+    record {
+      row = twoBits ∷ decimal ∷ decimal ∷ decimal ∷ decimal ∷ [];
+      first = 16;
+      fill = record { from = 34; to = 37 } ∷ [];
+      largest = 32699;
+    }
 
 -- The mode of a number from 0 to 3.
 unfoldable pub modeOf : ℕ → Mode

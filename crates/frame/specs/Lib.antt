@@ -7,4 +7,4 @@ pub mod Temperature
 pub mod Faults
 pub mod Poll
 pub mod Reply
-pub mod Packed
+pub mod inside

@@ -62,7 +62,12 @@ replyFault settings address count s = firstOf (replyTests settings address count
 
 abbrev pub readingAt : ℕ → ℕ → ℕ → Reading
 readingAt settings count n =
-    record { level = valueOf (levelOf (modeIn settings) n); temperature = temperatureOf (heatIn settings count n); alarm1 = eqb (bit n 38) 1; alarm0 = eqb (bit n 39) 1 }
+    record {
+      level = valueOf (levelOf (modeIn settings) n);
+      temperature = temperatureOf (heatIn settings count n);
+      alarm1 = eqb (bit n 38) 1;
+      alarm0 = eqb (bit n 39) 1;
+    }
 
 unfoldable pub replyOf : ℕ → ℕ → ℕ → List ℕ → Reply
 replyOf settings address count s =
@@ -105,8 +110,10 @@ writeReplyFault settings address r out =
 
 -- What `write_reply` answers, and the output after it: only the first 5 or 7 bytes change, and none where it refuses.
 pub record WritesReply (settings address : ℕ) (r : Reading) (out : List ℕ) (answer : Written) (after : List ℕ) : Type 0 where
-  pub answers : answer ≡ pick (eqb (writeReplyFault settings address r out) 0) (Bytes (sizeFor r)) (written.Refused (writeReplyFault settings address r out))
-  pub leaves : after ≡ pick (eqb (writeReplyFault settings address r out) 0) (firstBytes (sizeFor r) (replyLine settings address r) ++ drop (sizeFor r) out) out
+  pub answers : answer ≡ pick (eqb (writeReplyFault settings address r out) 0) (Bytes (sizeFor r))
+      (written.Refused (writeReplyFault settings address r out))
+  pub leaves : after ≡ pick (eqb (writeReplyFault settings address r out) 0)
+      (firstBytes (sizeFor r) (replyLine settings address r) ++ drop (sizeFor r) out) out
 
 -- The paper's number of the answer, 0 where nothing is refused.
 abbrev pub replyNumber : Reply → ℕ

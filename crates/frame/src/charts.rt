@@ -4,7 +4,7 @@ ghost use mathlib.Core.Path.{_≡_};
 ghost use Prim.Native.Nat.{_/_, _%_, _<_};
 ghost use lib.ListN.{getD};
 ghost use Rattle.frame.specs.Charts.{sizeOf, placeIn, codeOf};
-ghost use Rattle.frame.specs.Packed.{chartOf, placesOf, codesOf, digitOf};
+ghost use Rattle.frame.specs.inside.Packed.{chartOf, placesOf, codesOf, digitOf};
 
 // How many values a digit has.
 pub(crate) fn size(chart: u64) -> u64

@@ -2,7 +2,7 @@
 ghost use mathlib.Core.Path.{_≡_};
 ghost use Prim.Native.Nat.{_≤_, min};
 ghost use Rattle.frame.specs.Temperature.{signed, isPlus, magnitude, degreesAt, heat1900, heat1800, putDegrees, putDegrees1900, putDegrees1800, putHeat1900, putHeat1800};
-ghost use Rattle.frame.specs.Packed.{heatFor};
+ghost use Rattle.frame.specs.inside.Packed.{heatFor};
 use crate::Temperature;
 use crate::line;
 
@@ -85,9 +85,9 @@ pub(crate) fn read_1800(n: u64) -> Told
 fn put_degrees(plus: bool, m: u64) -> u64
     ensures { λ r. ⌜ r ≡ putDegrees plus m ⌝ }
 {
-    let digits = line::three_of(m % 1000) * 512;
+    let digits = line::three_of(m % 1000) * line::BIT_55;
     if plus {
-        return 8388608 + digits;
+        return line::BIT_41 + digits;
     }
     digits
 }
@@ -96,7 +96,9 @@ fn put_1900(plus: bool, m: u64) -> u64
     ensures { λ r. ⌜ r ≡ putDegrees1900 plus m ⌝ }
 {
     let h = m / 1000;
-    let hundreds = (1 - h % 2) * 16777216 + (1 - h / 2 % 2) * 4194304 + (1 - h / 4 % 2) * 2097152;
+    let hundreds = (1 - h % 2) * line::BIT_40
+        + (1 - h / 2 % 2) * line::BIT_42
+        + (1 - h / 4 % 2) * line::BIT_43;
     hundreds + put_degrees(plus, m)
 }
 
@@ -120,9 +122,9 @@ pub(crate) fn write_1900(t: Temperature) -> u64
 }
 
 // Above range sets bit 43 and a plus; below sets bits 43 and 40.
-const ABOVE_1800: u64 = 10485760;
+const ABOVE_1800: u64 = line::BIT_41 + line::BIT_43;
 
-const BELOW_1800: u64 = 18874368;
+const BELOW_1800: u64 = line::BIT_40 + line::BIT_43;
 
 fn degrees_1800(plus: bool, m: u64) -> u64
     ensures { λ r. ⌜ r ≡ putDegrees1800 plus m ⌝ }

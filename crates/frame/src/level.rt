@@ -3,11 +3,15 @@ ghost use mathlib.Core.Path.{_≡_};
 ghost use Prim.Native.Nat.{_+_, _-_, _*_, _/_, _%_, _^_, _<_, _≤_};
 ghost use Rattle.frame.specs.Charts.{sizeOf};
 ghost use Rattle.frame.specs.Level.{readRow};
-ghost use Rattle.frame.specs.Packed.{chartOf, digitOf, rowOf, readCode, onesCode, writeUp, fillAt, readBy, placedAt};
+ghost use Rattle.frame.specs.inside.Packed.{chartOf, digitOf, rowOf, readCode, onesCode, writeUp};
+ghost use Rattle.frame.specs.inside.Constants.{Constants, fillAt, readBy, placedAt};
 use crate::charts;
 
 // What the reader gives for a digit in no chart: this, and the digit's place. Every level is below it.
-const LOST: u64 = 4294967296;
+const LOST: u64 = 1 << 32;
+
+// The refusal of a level is its number times this. Every level is below it.
+pub(crate) const FAULT: u64 = 1 << 16;
 
 // The top one of `left` digits.
 fn top_digit(row: u64, left: u64, bits: u64, odd: bool) -> u64
@@ -61,51 +65,68 @@ pub(crate) fn three_decimals(v: u64) -> u64
     ones_code(3, v) + 16 * ones_code(3, v / 10) + 256 * ones_code(3, v / 100)
 }
 
-// The fill bits of a mode are 0: those from bit 16 up to its first digit bit, and those after its digits up to bit 37.
-fn fill_clear(n: u64, first: u64, fill: u64) -> bool
-    requires { ⌜ 16 ≤ first ⌝ }
-    requires { ⌜ first ≤ 17 ⌝ }
-    requires { ⌜ fill ≤ 6 ⌝ }
-    ensures { λ r. ⌜ r ≡ fillAt n first fill ⌝ }
+// The five digits of a level in metres in their codes: the chart of the top one is handed over by its number.
+pub(crate) fn five_digits(top: u64, v: u64) -> u64
+    requires { ⌜ top < 16 ⌝ }
+    ensures { λ r. ⌜ (r ≡ writeUp (0x33330 + top) 5 v) × (r < 2 ^ 20) ⌝ }
 {
-    let head = (n >> (65 - first)) % (1 << (first - 16));
-    let tail = (n >> 27) % (1 << fill);
+    three_decimals(v) + 4096 * ones_code(3, v / 1000) + 65536 * ones_code(top, v / 10000)
+}
+
+// The fill bits of a mode are 0: those from bit 16 up to its first digit bit, and those after its digits up to bit 37.
+fn fill_clear(n: u64, before: u64, after: u64) -> bool
+    requires { ⌜ before ≤ 1 ⌝ }
+    requires { ⌜ after ≤ 6 ⌝ }
+    ensures { λ r. ⌜ r ≡ fillAt n before after ⌝ }
+{
+    let head = (n >> (49 - before)) % (1 << before);
+    let tail = (n >> 27) % (1 << after);
     head == 0 && tail == 0
 }
 
-// A level by its mode's constants: the level, or 65,536 times the fault, to which 7 adds the place of the digit in no chart.
+// A level by its mode's constants: the level, or 2 ^ 16 times the fault, to which 7 adds the place of the digit in no chart.
 // Fill is tested before code, code before range.
-pub(crate) fn read_by(n: u64, digits: u64, first: u64, fill: u64, largest: u64, start: u64) -> u64
+pub(crate) fn read_by(
+    n: u64,
+    digits: u64,
+    first: u64,
+    before: u64,
+    after: u64,
+    largest: u64,
+    charts: u64,
+    start: bool,
+) -> u64
     requires { ⌜ digits ≤ 5 ⌝ }
     requires { ⌜ 16 ≤ first ⌝ }
     requires { ⌜ first ≤ 17 ⌝ }
-    requires { ⌜ fill ≤ 6 ⌝ }
-    ensures { λ r. ⌜ r ≡ readBy n digits first fill largest start ⌝ }
+    requires { ⌜ before ≤ 1 ⌝ }
+    requires { ⌜ after ≤ 6 ⌝ }
+    ensures { λ r. ⌜ r ≡ readBy (record { digits = digits; first = first; before = before; after = after; largest = largest; charts = charts; start = start }) n ⌝ }
 {
-    if !fill_clear(n, first, fill) {
-        return 6 * 65536;
+    if !fill_clear(n, before, after) {
+        return 6 * FAULT;
     }
-    let bits = (n >> (27 + fill)) % (1 << (38 - first - fill));
-    let v = read_digits(start, digits, bits, false, 0, 0);
+    let bits = (n >> (27 + after)) % (1 << (38 - first - after));
+    let v = read_digits(charts, digits, bits, start, 0, 0);
     if LOST <= v {
-        return 7 * 65536 + (v - LOST);
+        return 7 * FAULT + (v - LOST);
     }
     if largest < v {
-        return 8 * 65536;
+        return 8 * FAULT;
     }
     v
 }
 
 // A level's bits by its mode's constants and its digits in their codes. A level outside its mode has every digit bit 1; the fill is 0.
-pub(crate) fn write_by(v: u64, codes: u64, first: u64, fill: u64, largest: u64) -> u64
+pub(crate) fn write_by(v: u64, codes: u64, first: u64, after: u64, largest: u64) -> u64
     requires { ⌜ codes < 2 ^ 20 ⌝ }
     requires { ⌜ 16 ≤ first ⌝ }
     requires { ⌜ first ≤ 17 ⌝ }
-    requires { ⌜ fill ≤ 6 ⌝ }
-    ensures { λ r. ⌜ r ≡ placedAt v codes first fill largest ⌝ }
+    requires { ⌜ after ≤ 6 ⌝ }
+    ensures { λ r. ⌜ r ≡ placedAt v codes first after largest ⌝ }
 {
     if v <= largest {
-        return codes << (27 + fill);
+        return codes << (27 + after);
     }
-    ((1 << (38 - first - fill)) - 1) << (27 + fill)
+    ((1 << (38 - first - after)) - 1) << (27 + after)
 }

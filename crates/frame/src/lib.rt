@@ -62,7 +62,7 @@ pub fn read_poll(poll: &[u8]) -> PollAnswer
     if poll.len() != 2 {
         return PollAnswer::Refused(16);
     }
-    let n = (line::two(poll[0], poll[1]) as u64) * 281474976710656;
+    let n = (line::two(poll[0], poll[1]) as u64) * line::BIT_16;
     if n >> 63 == 0 {
         return PollAnswer::Refused(16);
     }

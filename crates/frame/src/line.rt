@@ -1,10 +1,10 @@
 // Bits on the line: the form of what is lent, its bytes as one word, and its marks.
 ghost use mathlib.Core.Path.{_≡_};
-ghost use Prim.Native.Nat.{_+_, _*_, _≤_};
+ghost use Prim.Native.Nat.{_+_, _*_, _^_, _≤_};
 ghost use mathlib.Core.Logic.{_≢_};
 ghost use lib.ListN.{length};
 ghost use Rattle.frame.specs.Line.{formed, line, marks, mark};
-ghost use Rattle.frame.specs.Packed.{threeBy, threeOf};
+ghost use Rattle.frame.specs.inside.Packed.{threeBy, threeOf};
 
 // A line is lent in the right form: at most 64 bits, exactly the bytes for its count, pad bits 0.
 pub fn formed(count: usize, reply: &[u8]) -> bool
@@ -24,6 +24,29 @@ pub fn formed(count: usize, reply: &[u8]) -> bool
     last % (1u8 << (8 - over)) == 0
 }
 
+// A one at the bit of the line that each is named by: bit 1 is the word's highest bit, bit b stands 64 - b bits above its lowest.
+pub(crate) const BIT_1: u64 = 1 << 63;
+
+pub(crate) const BIT_15: u64 = 1 << 49;
+
+pub(crate) const BIT_16: u64 = 1 << 48;
+
+pub(crate) const BIT_38: u64 = 1 << 26;
+
+pub(crate) const BIT_39: u64 = 1 << 25;
+
+pub(crate) const BIT_40: u64 = 1 << 24;
+
+pub(crate) const BIT_41: u64 = 1 << 23;
+
+pub(crate) const BIT_42: u64 = 1 << 22;
+
+pub(crate) const BIT_43: u64 = 1 << 21;
+
+pub(crate) const BIT_55: u64 = 1 << 9;
+
+pub(crate) const BIT_56: u64 = 1 << 8;
+
 // A mark is 1.
 pub(crate) fn mark(b: bool) -> u64
     ensures { λ r. ⌜ (r ≡ mark b) × (r ≤ 1) ⌝ }
@@ -39,15 +62,15 @@ pub(crate) fn two(a: u8, b: u8) -> u16
 }
 
 fn four(a: u16, b: u16) -> u32
-    ensures { λ r. ⌜ r ≡ a * 65536 + b ⌝ }
+    ensures { λ r. ⌜ r ≡ a * 2 ^ 16 + b ⌝ }
 {
-    (a as u32) * 65536 + (b as u32)
+    (a as u32) * 0x10000 + (b as u32)
 }
 
 fn eight(a: u32, b: u32) -> u64
-    ensures { λ r. ⌜ r ≡ a * 4294967296 + b ⌝ }
+    ensures { λ r. ⌜ r ≡ a * 2 ^ 32 + b ⌝ }
 {
-    (a as u64) * 4294967296 + (b as u64)
+    (a as u64) * 0x100000000 + (b as u64)
 }
 
 // The 5 or 7 bytes of a reply as one word, bit 1 highest.
@@ -64,14 +87,18 @@ pub(crate) fn pack(reply: &[u8]) -> u64
     eight(front, four(two(reply[4], 0), 0))
 }
 
-// The marks of a reply, counted over its bytes, which stand in one word: one count for them all.
+// The marks of a reply, counted over its bytes.
 pub(crate) fn marks(reply: &[u8]) -> u32
-    requires { ⌜ 5 ≤ length (now reply) ⌝ }
-    requires { ⌜ length (now reply) ≤ 7 ⌝ }
-    requires { ⌜ length (now reply) ≢ 6 ⌝ }
+    requires { ⌜ length (now reply) ≤ 8 ⌝ }
     ensures { λ r. ⌜ r ≡ marks (now (reply .entry)) ⌝ }
 {
-    u64::count_ones(pack(reply))
+    let mut ones: u32 = 0;
+    let mut i = 0;
+    while i < reply.len() {
+        ones += u8::count_ones(reply[i]);
+        i += 1;
+    }
+    ones
 }
 
 // Three decimal digits, the last at `shift` bits above the lowest bit: their number, or 1000 where one is above 9.

@@ -1,10 +1,11 @@
-// The four modes. Each mode's type carries its constants: digit count, first bit, fill bits after the digits, largest level, and the
-// starting state of the digit reader, which is its row of charts: four bits a digit, the top digit lowest. The first digit is always
-// read straight.
+// The four modes. Each mode's type carries its constants: digit count, first bit, the fill bits before the digits (from bit 16) and after
+// them (up to bit 37), largest level, the charts of its digits in a word (four bits a digit, the top digit lowest), and the starting
+// state of the digit reader: no odd digit stands above the first, which is always read straight.
 ghost use mathlib.Core.Path.{_≡_};
 ghost use Prim.Native.Nat.{_<_, _^_};
 ghost use Rattle.frame.specs.Level.{modeOf, fractionalMode, decimalMode, twentyMetreMode, thirtyMetreMode, putLevel};
-ghost use Rattle.frame.specs.Packed.{levelCode, writeUp};
+ghost use Rattle.frame.specs.inside.Packed.{levelCode};
+ghost use Rattle.frame.specs.inside.Constants.{fractional, decimalFeet, codesBy};
 use crate::level;
 
 // Feet, inches and sixteenths.
@@ -15,11 +16,15 @@ impl Fractional {
 
     const FIRST: u64 = 17;
 
-    const FILL: u64 = 6;
+    const BEFORE: u64 = 1;
+
+    const AFTER: u64 = 6;
 
     const LARGEST: u64 = 15359;
 
-    const START: u64 = 0x5432;
+    const CHARTS: u64 = 0x5432;
+
+    const START: bool = false;
 
     fn read(n: u64) -> u64
         ensures { λ r. ⌜ r ≡ levelCode fractionalMode n ⌝ }
@@ -28,15 +33,17 @@ impl Fractional {
             n,
             Self::DIGITS,
             Self::FIRST,
-            Self::FILL,
+            Self::BEFORE,
+            Self::AFTER,
             Self::LARGEST,
+            Self::CHARTS,
             Self::START,
         )
     }
 
     // The codes of a level's digits, the ones digit lowest, each by its chart.
     fn codes(v: u64) -> u64
-        ensures { λ r. ⌜ (r ≡ writeUp 0x5432 4 v) × (r < 2 ^ 20) ⌝ }
+        ensures { λ r. ⌜ (r ≡ codesBy fractional v) × (r < 2 ^ 20) ⌝ }
     {
         level::ones_code(5, v)
             + 16 * level::ones_code(4, v / 16)
@@ -47,7 +54,7 @@ impl Fractional {
     fn write(v: u64) -> u64
         ensures { λ r. ⌜ r ≡ putLevel fractionalMode v ⌝ }
     {
-        level::write_by(v, Self::codes(v), Self::FIRST, Self::FILL, Self::LARGEST)
+        level::write_by(v, Self::codes(v), Self::FIRST, Self::AFTER, Self::LARGEST)
     }
 }
 
@@ -59,11 +66,15 @@ impl Decimal {
 
     const FIRST: u64 = 17;
 
-    const FILL: u64 = 6;
+    const BEFORE: u64 = 1;
+
+    const AFTER: u64 = 6;
 
     const LARGEST: u64 = 7999;
 
-    const START: u64 = 0x3332;
+    const CHARTS: u64 = 0x3332;
+
+    const START: bool = false;
 
     fn read(n: u64) -> u64
         ensures { λ r. ⌜ r ≡ levelCode decimalMode n ⌝ }
@@ -72,15 +83,16 @@ impl Decimal {
             n,
             Self::DIGITS,
             Self::FIRST,
-            Self::FILL,
+            Self::BEFORE,
+            Self::AFTER,
             Self::LARGEST,
+            Self::CHARTS,
             Self::START,
         )
     }
 
-    // The codes of a level's digits, the ones digit lowest, each by its chart.
     fn codes(v: u64) -> u64
-        ensures { λ r. ⌜ (r ≡ writeUp 0x3332 4 v) × (r < 2 ^ 20) ⌝ }
+        ensures { λ r. ⌜ (r ≡ codesBy decimalFeet v) × (r < 2 ^ 20) ⌝ }
     {
         level::three_decimals(v) + 4096 * level::ones_code(2, v / 1000)
     }
@@ -88,7 +100,7 @@ impl Decimal {
     fn write(v: u64) -> u64
         ensures { λ r. ⌜ r ≡ putLevel decimalMode v ⌝ }
     {
-        level::write_by(v, Self::codes(v), Self::FIRST, Self::FILL, Self::LARGEST)
+        level::write_by(v, Self::codes(v), Self::FIRST, Self::AFTER, Self::LARGEST)
     }
 }
 
@@ -100,11 +112,15 @@ impl Metres20 {
 
     const FIRST: u64 = 16;
 
-    const FILL: u64 = 5;
+    const BEFORE: u64 = 0;
+
+    const AFTER: u64 = 5;
 
     const LARGEST: u64 = 19999;
 
-    const START: u64 = 0x33330;
+    const CHARTS: u64 = 0x33330;
+
+    const START: bool = false;
 
     fn read(n: u64) -> u64
         ensures { λ r. ⌜ r ≡ levelCode twentyMetreMode n ⌝ }
@@ -113,25 +129,24 @@ impl Metres20 {
             n,
             Self::DIGITS,
             Self::FIRST,
-            Self::FILL,
+            Self::BEFORE,
+            Self::AFTER,
             Self::LARGEST,
+            Self::CHARTS,
             Self::START,
         )
-    }
-
-    // The codes of a level's digits, the ones digit lowest, each by its chart.
-    fn codes(v: u64) -> u64
-        ensures { λ r. ⌜ (r ≡ writeUp 0x33330 5 v) × (r < 2 ^ 20) ⌝ }
-    {
-        level::three_decimals(v)
-            + 4096 * level::ones_code(3, v / 1000)
-            + 65536 * level::ones_code(0, v / 10000)
     }
 
     fn write(v: u64) -> u64
         ensures { λ r. ⌜ r ≡ putLevel twentyMetreMode v ⌝ }
     {
-        level::write_by(v, Self::codes(v), Self::FIRST, Self::FILL, Self::LARGEST)
+        level::write_by(
+            v,
+            level::five_digits(0, v),
+            Self::FIRST,
+            Self::AFTER,
+            Self::LARGEST,
+        )
     }
 }
 
@@ -143,11 +158,15 @@ impl Metres30 {
 
     const FIRST: u64 = 16;
 
-    const FILL: u64 = 4;
+    const BEFORE: u64 = 0;
+
+    const AFTER: u64 = 4;
 
     const LARGEST: u64 = 32699;
 
-    const START: u64 = 0x33331;
+    const CHARTS: u64 = 0x33331;
+
+    const START: bool = false;
 
     fn read(n: u64) -> u64
         ensures { λ r. ⌜ r ≡ levelCode thirtyMetreMode n ⌝ }
@@ -156,29 +175,28 @@ impl Metres30 {
             n,
             Self::DIGITS,
             Self::FIRST,
-            Self::FILL,
+            Self::BEFORE,
+            Self::AFTER,
             Self::LARGEST,
+            Self::CHARTS,
             Self::START,
         )
-    }
-
-    // The codes of a level's digits, the ones digit lowest, each by its chart.
-    fn codes(v: u64) -> u64
-        ensures { λ r. ⌜ (r ≡ writeUp 0x33331 5 v) × (r < 2 ^ 20) ⌝ }
-    {
-        level::three_decimals(v)
-            + 4096 * level::ones_code(3, v / 1000)
-            + 65536 * level::ones_code(1, v / 10000)
     }
 
     fn write(v: u64) -> u64
         ensures { λ r. ⌜ r ≡ putLevel thirtyMetreMode v ⌝ }
     {
-        level::write_by(v, Self::codes(v), Self::FIRST, Self::FILL, Self::LARGEST)
+        level::write_by(
+            v,
+            level::five_digits(1, v),
+            Self::FIRST,
+            Self::AFTER,
+            Self::LARGEST,
+        )
     }
 }
 
-// The level of a line in the mode of this number: the level, or 65,536 times the fault.
+// The level of a line in the mode of this number: the level, or 2 ^ 16 times the fault.
 pub(crate) fn read_level(mode: u64, n: u64) -> u64
     ensures { λ r. ⌜ r ≡ levelCode (modeOf mode) n ⌝ }
 {

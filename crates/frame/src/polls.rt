@@ -4,10 +4,17 @@ ghost use Prim.Native.Nat.{_*_, _^_, _≤_};
 ghost use Rattle.frame.specs.Poll.{pollLine};
 use crate::line;
 
-// Bit 1 is the start, 3 raise, 4 reset; the address follows in three digits.
+// Bit 1 of a poll, its start, bit 3, raise, and bit 4, reset.
+const START: u64 = 0x8000;
+
+const RAISE: u64 = 0x2000;
+
+const RESET: u64 = 0x1000;
+
+// The address follows them in three digits.
 pub(crate) fn word(address: u16, raise: bool, reset: bool) -> u64
     requires { ⌜ address ≤ 999 ⌝ }
     ensures { λ r. ⌜ r * 2 ^ 48 ≡ pollLine address raise reset ⌝ }
 {
-    32768 + 8192 * line::mark(raise) + 4096 * line::mark(reset) + line::three_of(address as u64)
+    START + RAISE * line::mark(raise) + RESET * line::mark(reset) + line::three_of(address as u64)
 }

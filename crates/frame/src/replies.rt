@@ -6,12 +6,13 @@ ghost use lib.Dec.{eqb};
 ghost use Prim.Native.Nat.{_≤_, _<_, _^_};
 ghost use lib.ListN.{length};
 ghost use Rattle.frame.specs.Reply.{heatIn, parityRight};
-ghost use Rattle.frame.specs.Packed.{heatFor, heatReply, lineReply};
+ghost use Rattle.frame.specs.inside.Packed.{heatFor, heatReply, lineReply};
 use crate::Reading;
 use crate::Reply;
 use crate::Temperature;
 use crate::heat;
 use crate::heat::Told;
+use crate::level;
 use crate::line;
 use crate::modes;
 
@@ -25,11 +26,9 @@ pub(crate) fn whole(count: usize) -> bool
     count == 56
 }
 
-// Parity covers the whole reply, parity bit included: the marks over its bytes, against the even or odd setting.
+// Parity covers the whole reply, parity bit included: the ones over its bytes, compared with the even or odd setting.
 fn parity_right(settings: u8, reply: &[u8]) -> bool
-    requires { ⌜ 5 ≤ length (now reply) ⌝ }
-    requires { ⌜ length (now reply) ≤ 7 ⌝ }
-    requires { ⌜ length (now reply) ≢ 6 ⌝ }
+    requires { ⌜ length (now reply) ≤ 8 ⌝ }
     ensures { λ r. ⌜ r ≡ parityRight settings (now (reply .entry)) ⌝ }
 {
     line::marks(reply) % 2 == (settings / 8 % 2) as u32
@@ -83,8 +82,8 @@ pub(crate) fn read_line(settings: u8, address: u16, count: usize, reply: &[u8]) 
         return Reply::Refused(5);
     }
     let level = modes::read_level((settings % 4) as u64, n);
-    if 65536 <= level {
-        return Reply::Refused((level / 65536) as u8);
+    if level::FAULT <= level {
+        return Reply::Refused((level / level::FAULT) as u8);
     }
     with_level(settings, count, n, level)
 }

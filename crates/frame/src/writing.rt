@@ -49,9 +49,10 @@ fn body(settings: u8, address: u16, reading: Reading) -> u64
     ensures { λ r. ⌜ r ≡ bodyOf settings address reading ⌝ }
 {
     let t = reading.temperature;
-    let head = 9223372036854775808 + line::three_of(address as u64) * 562949953421312;
+    let head = line::BIT_1 + line::three_of(address as u64) * line::BIT_15;
     let level = modes::write_level((settings % 4) as u64, reading.level as u64);
-    let alarms = line::mark(reading.alarm1) * 67108864 + line::mark(reading.alarm0) * 33554432;
+    let alarms = line::mark(reading.alarm1) * line::BIT_38
+        + line::mark(reading.alarm0) * line::BIT_39;
     head + level + alarms + heat_bits(settings, t)
 }
 
@@ -71,9 +72,9 @@ pub(crate) fn whole_line(settings: u8, address: u16, reading: Reading) -> u64
     let n = body(settings, address, reading);
     let parity = parity_bit(settings, n);
     if is_absent(t) {
-        return n + parity * 16777216;
+        return n + parity * line::BIT_40;
     }
-    n + parity * 256
+    n + parity * line::BIT_56
 }
 
 // One byte of a line, by how many bits stand below it.

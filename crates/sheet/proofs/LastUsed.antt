@@ -8,7 +8,7 @@ use lib.ListN.{take, drop}
 use lib.Seq.{take-add, drop-drop}
 use Rattle.frame.specs.Pick.{pick}
 use Rattle.frame.proofs.Digits.{down}
-use Rattle.frame.proofs.Three.{both-left, both-right}
+use Rattle.frame.proofs.Both.{both-left, both-right}
 use Rattle.sheet.specs.Bytes.{allBlank}
 use Rattle.sheet.specs.Slots.{slotAt, nextUpTo}
 use Rattle.sheet.proofs.Blank.{blank-append}

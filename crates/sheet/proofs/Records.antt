@@ -12,7 +12,7 @@ use lib.Seq.{drop-cons, drop-append-le, length-take-le, take-take, drop-drop}
 use Rattle.frame.specs.Pick.{pick}
 use Rattle.frame.specs.Line.{bytesFor, padClear, formed}
 use Rattle.frame.specs.Faults.{firstOf}
-use Rattle.frame.proofs.Three.{both-left, both-right}
+use Rattle.frame.proofs.Both.{both-left, both-right}
 use Rattle.sheet.specs.Bytes.{FF, bigEndian, numberIn, allBlank, same}
 use Rattle.sheet.specs.Record.{Entry, lengthOf, recordOf, picture, fieldsOf, passes, isRecord}
 use Rattle.sheet.proofs.Numbers.{AreBytes, bytes-take, bytes-drop, bytes-back}

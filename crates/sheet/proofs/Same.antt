@@ -8,7 +8,7 @@ use native.Mathlib.Omega.{arith}
 use borrow.Author.Tests.{eq-eqb, eqb-true, eqb-false}
 use lib.Dec.{eqb, lit<}
 use lib.ListN.{length, take, drop, replicate, length-drop, length-replicate, take-append-drop}
-use Rattle.frame.proofs.Three.{both-left, both-right}
+use Rattle.frame.proofs.Both.{both-left, both-right}
 use Rattle.sheet.specs.Bytes.{FF, bigEndian, numberIn, allBlank, same}
 use Rattle.sheet.proofs.Numbers.{AreBytes, bytes-replicate, number-ones, number-back, bytes-back}
 

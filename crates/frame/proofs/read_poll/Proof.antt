@@ -10,7 +10,7 @@ use lib.ListN.{length, getD, List·getD-eq-default}
 use Rattle.frame.specs.declared.PollAnswer.the-variants.{Asked, Refused}
 use Rattle.frame.specs.Line.{line, bit, field, threeDecimal, threeDigits}
 use Rattle.frame.specs.Poll.{pollFault, pollOf, pollAt}
-use Rattle.frame.specs.Packed.{threeBy}
+use Rattle.frame.specs.inside.Packed.{threeBy}
 use Rattle.frame.proofs.Three.{was-bad, was-good, number-le}
 use Rattle.frame.proofs.Shifts.{start-clear}
 use borrow.Author.Needs.{needs}

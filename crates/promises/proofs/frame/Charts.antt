@@ -6,7 +6,8 @@ use Prim.Native.Nat.{ℕ, _^_, _<_}
 use lib.Dec.{T, eqb, ltb, ltb→lt, eqb→eq}
 use lib.ListN.{getD}
 use Rattle.frame.specs.Charts.{Chart, sizeOf, placeIn, oneBit, twoBits, feetTens, decimal, inches, sixteenths}
-use Rattle.frame.proofs.Tables.{allBelow, at-below, and-left, and-right}
+use Rattle.frame.proofs.Both.{and-left, and-right}
+use Rattle.frame.proofs.Tables.{allBelow, at-below}
 use Rattle.promises.specs.frame.Rows.{Sound}
 
 -- The code at a place is within the width and is found there.

@@ -7,10 +7,8 @@ use Prim.Native.Nat.{ℕ, zero, suc, _<_}
 use native.Mathlib.Omega.{arith}
 use lib.Dec.{eqb}
 use lib.ListN.{length, getD}
-use borrow.Author.Tests.{eqb-true}
 use Rattle.frame.specs.declared.Reply.the-variants.{Read, Refused}
 use Rattle.frame.specs.declared.Reading.{Reading}
-use Rattle.frame.specs.declared.Poll.{Poll}
 use Rattle.frame.specs.declared.PollAnswer.the-variants.{Asked}
 use Rattle.frame.specs.declared.PollAnswer.the-variants as polled
 use Rattle.frame.specs.declared.Written.the-variants.{Bytes}
@@ -20,6 +18,7 @@ use Rattle.frame.specs.Line.{line, bit, threeDecimal}
 use Rattle.frame.specs.Faults.{Test, _gives_, firstOf}
 use Rattle.frame.specs.Poll.{pollFault, pollAt, pollOf, writePollFault, pollNumber, writtenNumber}
 use Rattle.frame.specs.Reply.{replyFault, readingAt, replyOf, writeReplyFault, sizeFor, replyNumber}
+use Rattle.frame.proofs.Answers.{number-is}
 use Rattle.promises.specs.frame.FirstFault.{applies, FirstThatApplies, replyTable, replyOrder, writeTable, pollTable, FirstFault}
 
 -- The tests of a table in an order.
@@ -115,28 +114,6 @@ poll-asks s = go (not (eqb (length s) 2)) (eqb (bit (line s) 1) 0) (not (threeDe
     go false true c = refl
     go false false c = refl
 
--- The number of an answer is the fault that it was made from.
-reply-number : (r : Reading) (f : ℕ) → replyNumber (pick (eqb f 0) (Read r) (Refused f)) ≡ f
-reply-number r f = go (eqb f 0) refl
-  where
-    go : (b : Bool) → eqb f 0 ≡ b → replyNumber (pick b (Read r) (Refused f)) ≡ f
-    go true e = sym (eqb-true f 0 e)
-    go false e = refl
-
-poll-number : (p : Poll) (f : ℕ) → pollNumber (pick (eqb f 0) (Asked p) (polled.Refused f)) ≡ f
-poll-number p f = go (eqb f 0) refl
-  where
-    go : (b : Bool) → eqb f 0 ≡ b → pollNumber (pick b (Asked p) (polled.Refused f)) ≡ f
-    go true e = sym (eqb-true f 0 e)
-    go false e = refl
-
-written-number : (k f : ℕ) → writtenNumber (pick (eqb f 0) (Bytes k) (written.Refused f)) ≡ f
-written-number k f = go (eqb f 0) refl
-  where
-    go : (b : Bool) → eqb f 0 ≡ b → writtenNumber (pick b (Bytes k) (written.Refused f)) ≡ f
-    go true e = sym (eqb-true f 0 e)
-    go false e = refl
-
 -- An answer that has the first number of a list of tests has the first that applies.
 pub given : (table : List Test) (order : List ℕ) (number : ℕ) → number ≡ firstOf (asked table order) → FirstThatApplies table order number
 given table order number e = subst (FirstThatApplies table order) (sym e) (is-first table order)
@@ -146,12 +123,12 @@ unfolding replyOf pollOf
 first-fault =
     record {
       read-reply = λ settings address count s got h. given (replyTable settings address count s) replyOrder (replyNumber got)
-          (ap replyNumber (h .answers) ∙ reply-number (readingAt settings count (line s)) (replyFault settings address count s) ∙ reply-asks settings address count s);
+          (ap replyNumber (h .answers) ∙ number-is (Read (readingAt settings count (line s))) Refused replyNumber refl (λ f. refl) (replyFault settings address count s) ∙ reply-asks settings address count s);
       write-reply = λ settings address r out after said h. given (writeTable settings address (sizeFor r) out) (10 ∷ 11 ∷ 15 ∷ []) (writtenNumber said)
-          (ap writtenNumber (h .answers) ∙ written-number (sizeFor r) (writeReplyFault settings address r out) ∙ write-asks settings address r out);
+          (ap writtenNumber (h .answers) ∙ number-is (Bytes (sizeFor r)) written.Refused writtenNumber refl (λ f. refl) (writeReplyFault settings address r out) ∙ write-asks settings address r out);
       read-poll = λ s got h. given (pollTable s) (16 ∷ []) (pollNumber got)
-          (ap pollNumber (h .answers) ∙ poll-number (pollAt (line s)) (pollFault s) ∙ poll-asks s);
+          (ap pollNumber (h .answers) ∙ number-is (Asked (pollAt (line s))) polled.Refused pollNumber refl (λ f. refl) (pollFault s) ∙ poll-asks s);
       write-poll = λ address raise reset out after said h. given (writeTable 0 address 2 out) (11 ∷ 15 ∷ []) (writtenNumber said)
-          (ap writtenNumber (h .answers) ∙ written-number 2 (writePollFault address out) ∙ write-poll-asks address out);
+          (ap writtenNumber (h .answers) ∙ number-is (Bytes 2) written.Refused writtenNumber refl (λ f. refl) (writePollFault address out) ∙ write-poll-asks address out);
       one-number = one-number;
     }

@@ -1,6 +1,6 @@
 -- `frame::charts::codes` meets its contract: each word is what the definition computes from its chart. Assumes nothing.
 use Rattle.frame.specs.Charts.{oneBit, twoBits, feetTens, decimal, inches, sixteenths}
-use Rattle.frame.specs.Packed.{chartOf, codesOf}
+use Rattle.frame.specs.inside.Packed.{chartOf, codesOf}
 use Rattle.frame.proofs.Tables.{else-sixteenths}
 use Rattle.frame.proofs.charts.codes.Statement.{statement}
 use Rattle.frame.proofs.charts.codes.Tie as tie

@@ -2,7 +2,7 @@
 use mathlib.Core.Path.{sym}
 use borrow.Author.Tests.{lt-ltb, le-ltb}
 use Rattle.frame.specs.Charts.{turned}
-use Rattle.frame.specs.Packed.{digitOf}
+use Rattle.frame.specs.inside.Packed.{digitOf}
 use borrow.Author.Needs.{needs}
 use Rattle.frame.proofs.charts.digit.Statement.{statement}
 use Rattle.frame.proofs.charts.digit.Tie as tie

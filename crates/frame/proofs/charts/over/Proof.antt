@@ -1,6 +1,6 @@
 -- `frame::charts::over` meets its contract: each arm divides by the number of values of its chart. Assumes nothing.
 use Rattle.frame.specs.Charts.{oneBit, twoBits, feetTens, decimal, inches, sixteenths}
-use Rattle.frame.specs.Packed.{chartOf}
+use Rattle.frame.specs.inside.Packed.{chartOf}
 use Rattle.frame.proofs.Tables.{else-sixteenths}
 use Rattle.frame.proofs.charts.over.Statement.{statement}
 use Rattle.frame.proofs.charts.over.Tie as tie

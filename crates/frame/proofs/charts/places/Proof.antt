@@ -1,6 +1,6 @@
 -- `frame::charts::places` meets its contract: each word is what the definition computes from its chart. Assumes nothing.
 use Rattle.frame.specs.Charts.{oneBit, twoBits, feetTens, decimal, inches, sixteenths, placeIn}
-use Rattle.frame.specs.Packed.{chartOf, placesOf}
+use Rattle.frame.specs.inside.Packed.{chartOf, placesOf}
 use Rattle.frame.proofs.Tables.{else-sixteenths}
 use Rattle.frame.proofs.charts.places.Statement.{statement}
 use Rattle.frame.proofs.charts.places.Tie as tie

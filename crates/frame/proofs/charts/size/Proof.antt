@@ -1,6 +1,6 @@
 -- `frame::charts::size` meets its contract: the number of values of each chart is computed, arm by arm. Assumes nothing.
 use Rattle.frame.specs.Charts.{oneBit, twoBits, feetTens, decimal, inches, sixteenths}
-use Rattle.frame.specs.Packed.{chartOf}
+use Rattle.frame.specs.inside.Packed.{chartOf}
 use Rattle.frame.proofs.Tables.{else-sixteenths}
 use Rattle.frame.proofs.charts.size.Statement.{statement}
 use Rattle.frame.proofs.charts.size.Tie as tie

@@ -6,7 +6,7 @@ use native.Mathlib.Omega.{arith}
 use mir.Syntax.{w16}
 use mir.Facts.{toZ-ofZ}
 use Rattle.frame.specs.Line.{field, threeDecimal, threeDigits}
-use Rattle.frame.specs.Packed.{threeBy}
+use Rattle.frame.specs.inside.Packed.{threeBy}
 use Rattle.frame.proofs.Three.{was-bad, was-good, number-le}
 use borrow.Author.Needs.{needs}
 use Rattle.frame.proofs.heat.degrees_at.Statement.{statement}

@@ -5,7 +5,7 @@ use native.Mathlib.Numerals.{add-one}
 use native.Mathlib.Omega.{arith}
 use Rattle.frame.specs.Charts.{sizeOf}
 use Rattle.frame.specs.Level.{readRow}
-use Rattle.frame.specs.Packed.{chartOf, digitOf, rowOf}
+use Rattle.frame.specs.inside.Packed.{chartOf, digitOf, rowOf}
 use Rattle.frame.proofs.Tables.{size-high}
 use Rattle.frame.proofs.Digits.{left-lost, left-read, digit-lt, room, room-now}
 use Prim.Native.Nat.{ℕ, _+_, _-_, _*_, _/_, _%_, _^_, _<_}

@@ -15,15 +15,12 @@ sub-head c = search needs
 shr-head : tie.Need-shr-head
 shr-head c = search needs
 
-sub-head-2 : tie.Need-sub-head-2
-sub-head-2 c = search needs
-
 shl-head : tie.Need-shl-head
 shl-head c = search needs
 
 rem-head : tie.Need-rem-head
 rem-head c =
-    let k = c .args .first - 16 in
+    let k = c .args .before in
     let small : k < 64 = omega arith in
     rw (one-shl 64 k small) (pow-pos k)
 
@@ -32,26 +29,26 @@ shl-tail c = search needs
 
 rem-tail : tie.Need-rem-tail
 rem-tail c =
-    let k = c .args .fill in
+    let k = c .args .after in
     let small : k < 64 = omega arith in
     rw (one-shl 64 k small) (pow-pos k)
 
 returns : tie.Need-returns
 returns c =
     let a = c .before .args in
-    let head : a .first - 16 < 64 = omega arith in
-    let tail : a .fill < 64 = omega arith in
-    let clear : a .n / 2 ^ (65 - a .first) % 2 ^ (a .first - 16) ≡ 0 = rw (one-shl 64 (a .first - 16) head) at (c .if1 .taken) in
-    simp (one-shl 64 (a .fill) tail, eq-eqb _ _ clear)
+    let head : a .before < 64 = omega arith in
+    let tail : a .after < 64 = omega arith in
+    let clear : a .n / 2 ^ (49 - a .before) % 2 ^ (a .before) ≡ 0 = rw (one-shl 64 (a .before) head) at (c .if1 .taken) in
+    simp (one-shl 64 (a .after) tail, eq-eqb _ _ clear)
 
 returns-2 : tie.Need-returns-2
 returns-2 c =
     let a = c .before .args in
-    let head : a .first - 16 < 64 = omega arith in
-    let set : a .n / 2 ^ (65 - a .first) % 2 ^ (a .first - 16) ≡ 0 → ⊥ = rw (one-shl 64 (a .first - 16) head) at (c .if1 .left) in
-    simp (one-shl 64 (a .first - 16) head, ne-eqb _ _ set)
+    let head : a .before < 64 = omega arith in
+    let set : a .n / 2 ^ (49 - a .before) % 2 ^ (a .before) ≡ 0 → ⊥ = rw (one-shl 64 (a .before) head) at (c .if1 .left) in
+    simp (one-shl 64 (a .before) head, ne-eqb _ _ set)
 
 pub fill-clear-spec : {M : Type 1} → statement M
 fill-clear-spec =
     tie.close
-    (tie.spec sub-head shr-head sub-head-2 shl-head rem-head shl-tail rem-tail returns returns-2)
+    (tie.spec sub-head shr-head shl-head rem-head shl-tail rem-tail returns returns-2)

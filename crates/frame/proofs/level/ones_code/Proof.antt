@@ -4,7 +4,7 @@ use Prim.Native.Nat.{ℕ, _+_, _-_, _*_, _/_, _%_}
 use native.Mathlib.Nat.{div-add-mod', mod-lt}
 use native.Mathlib.Omega.{arith}
 use Rattle.frame.specs.Charts.{sizeOf, isOdd}
-use Rattle.frame.specs.Packed.{chartOf, onesCode}
+use Rattle.frame.specs.inside.Packed.{chartOf, onesCode}
 use Rattle.frame.proofs.Tables.{size-low}
 use Rattle.frame.proofs.Upward.{code-lt}
 use borrow.Author.Needs.{needs}

@@ -1,7 +1,7 @@
 -- `frame::level::three_decimals` meets its contract: the codes of three digits in one sum. Assumes nothing.
 use mathlib.Core.Path.{sym}
 use native.Mathlib.Omega.{arith}
-use Rattle.frame.specs.Packed.{chartOf}
+use Rattle.frame.specs.inside.Packed.{chartOf}
 use Rattle.frame.proofs.Straight.{three-up}
 use borrow.Author.Needs.{needs}
 use Rattle.frame.proofs.level.three_decimals.Statement.{statement}

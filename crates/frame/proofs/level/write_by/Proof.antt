@@ -4,7 +4,7 @@ use Prim.Native.Nat.{_+_, _-_, _<_}
 use native.Mathlib.Omega.{arith}
 use borrow.Author.Tests.{le-leb, lt-leb}
 use lib.Pow.{pow-pos, shl-exact, ones-lt}
-use Rattle.frame.specs.Packed.{digitBits}
+use Rattle.frame.specs.inside.Constants.{digitBits}
 use Rattle.frame.proofs.Shifts.{one-shl}
 use borrow.Author.Needs.{needs}
 use Rattle.frame.proofs.level.write_by.Statement.{statement}
@@ -19,7 +19,7 @@ shl-result c = search needs
 returns : tie.Need-returns
 returns c =
     let a = c .before .args in
-    rw (shl-exact {a = a .codes} 20 (27 + a .fill) 64 (omega arith) (omega arith), le-leb (a .v) (a .largest) (c .if1 .taken))
+    rw (shl-exact {a = a .codes} 20 (27 + a .after) 64 (omega arith) (omega arith), le-leb (a .v) (a .largest) (c .if1 .taken))
 
 sub-result : tie.Need-sub-result
 sub-result c = search needs
@@ -32,7 +32,7 @@ shl-result-2 c = search needs
 
 sub-result-3 : tie.Need-sub-result-3
 sub-result-3 c =
-    let k = digitBits (c .before .args .first) (c .before .args .fill) in
+    let k = digitBits (c .before .args .first) (c .before .args .after) in
     let small : k < 64 = omega arith in
     rw (one-shl 64 k small) (pow-pos k)
 
@@ -45,9 +45,9 @@ shl-result-3 c = search needs
 returns-2 : tie.Need-returns-2
 returns-2 c =
     let a = c .before .args in
-    let k = digitBits (a .first) (a .fill) in
+    let k = digitBits (a .first) (a .after) in
     let small : k < 64 = omega arith in
-    rw (one-shl 64 k small, shl-exact k (27 + a .fill) 64 (ones-lt k) (omega arith), lt-leb (a .v) (a .largest) (c .if1 .left))
+    rw (one-shl 64 k small, shl-exact k (27 + a .after) 64 (ones-lt k) (omega arith), lt-leb (a .v) (a .largest) (c .if1 .left))
 
 pub write-by-spec : {M : Type 1} → statement M
 write-by-spec =

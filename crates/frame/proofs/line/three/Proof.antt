@@ -1,6 +1,6 @@
 -- `frame::line::three` meets its contract: each return rewrites the definition with the tests that led there. Assumes nothing.
 use borrow.Author.Tests.{le-leb, lt-leb}
-use Rattle.frame.specs.Packed.{threeBy}
+use Rattle.frame.specs.inside.Packed.{threeBy}
 use borrow.Author.Needs.{needs}
 use Rattle.frame.proofs.line.three.Statement.{statement}
 use Rattle.frame.proofs.line.three.Tie as tie

@@ -1,7 +1,7 @@
 -- `frame::modes::read_level` meets its contract: each arm is its mode. Assumes nothing.
 use mathlib.Core.Path.{sym, ap, _∙_}
 use Rattle.frame.specs.Level.{Mode}
-use Rattle.frame.specs.Packed.{levelCode}
+use Rattle.frame.specs.inside.Packed.{levelCode}
 use Rattle.frame.proofs.EachMode.{mode-0, mode-1, mode-2, mode-else}
 use borrow.Author.Needs.{needs}
 use Rattle.frame.proofs.modes.read_level.Statement.{statement}

@@ -7,7 +7,7 @@ use borrow.Author.Tests.{eq-eqb, ne-eqb, not-true, not-false}
 use lib.Dec.{eqb}
 use Rattle.frame.specs.Line.{line, bit, field}
 use Rattle.frame.specs.Reply.{modeIn, parityRight}
-use Rattle.frame.specs.Packed.{threeBy, levelCode}
+use Rattle.frame.specs.inside.Packed.{threeBy, levelCode}
 use Rattle.frame.proofs.Three.{matches, differs}
 use Rattle.frame.proofs.Verdict.{right4, level-lt, line-3, line-4, line-5, line-level, line-read}
 use Rattle.frame.proofs.Shifts.{start-clear}

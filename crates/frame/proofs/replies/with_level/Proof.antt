@@ -2,7 +2,7 @@
 use mathlib.Core.Path.{_≡_, sym, ap, _∙_}
 use Rattle.frame.specs.Temperature.{told, bad}
 use Rattle.frame.specs.Reply.{heatIn}
-use Rattle.frame.specs.Packed.{heatFor, heatReply}
+use Rattle.frame.specs.inside.Packed.{heatFor, heatReply}
 use borrow.Author.Needs.{needs}
 use Rattle.frame.proofs.replies.with_level.Statement.{statement}
 use Rattle.frame.proofs.replies.with_level.Tie as tie

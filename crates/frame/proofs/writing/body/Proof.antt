@@ -4,7 +4,7 @@ use Prim.Native.Nat.{ℕ, _+_, _*_, _%_, _^_, _<_}
 use native.Mathlib.Omega.{arith}
 use Rattle.frame.specs.Line.{mark}
 use Rattle.frame.specs.Level.{modeOf, putLevel}
-use Rattle.frame.specs.Packed.{threeOf}
+use Rattle.frame.specs.inside.Packed.{threeOf}
 use Rattle.frame.specs.Temperature.{putHeat}
 use Rattle.frame.specs.Reply.{is1800}
 use Rattle.frame.proofs.Sums.{level-middle, heat-low, three-lt, body-is}

@@ -1,7 +1,7 @@
 -- `frame::modes::Fractional::codes` meets its contract: the codes of its digits in one sum. Assumes nothing.
 use mathlib.Core.Path.{sym}
 use native.Mathlib.Omega.{arith}
-use Rattle.frame.specs.Packed.{chartOf}
+use Rattle.frame.specs.inside.Packed.{chartOf}
 use Rattle.frame.proofs.Straight.{fractional-up}
 use borrow.Author.Needs.{needs}
 use Rattle.frame.proofs.modes.Fractional.codes.Statement.{statement}

@@ -1,8 +1,9 @@
--- `frame::modes::Fractional::write` meets its contract: its constants give what its mode says. Assumes nothing.
-use mathlib.Core.Path.{_≡_, ap, _∙_}
+-- `frame::modes::Fractional::write` meets its contract: its constants fit its mode. Assumes nothing.
+use mathlib.Core.Path.{ap, _∙_}
 use Prim.Native.Nat.{ℕ}
-use Rattle.frame.specs.Packed.{writeUp, placedAt}
-use Rattle.frame.proofs.Constants.{fractional-write}
+use Rattle.frame.specs.Level.{fractionalMode}
+use Rattle.frame.specs.inside.Constants.{fractional, placedAt}
+use Rattle.frame.proofs.Constants.{write-is, fractional-fits}
 use borrow.Author.Needs.{needs}
 use Rattle.frame.proofs.modes.Fractional.write.Statement.{statement}
 use Rattle.frame.proofs.modes.Fractional.write.Tie as tie
@@ -16,8 +17,9 @@ write-by-requires c κs = search needs
 returns : tie.Need-returns
 returns c =
     let v = c .before .before .args .v in
-    let is : c .write-by .result ≡ placedAt v (writeUp 0x5432 4 v) 17 6 15359 = c .write-by .ensures ∙ ap (λ (n : ℕ). placedAt v n 17 6 15359) (c .before .codes .ensures .0) in
-    is ∙ fractional-write v
+    c .write-by .ensures
+    ∙ ap (λ (codes : ℕ). placedAt v codes (fractional .first) (fractional .after) (fractional .largest)) (c .before .codes .ensures .0)
+    ∙ write-is fractionalMode fractional fractional-fits v
 
 pub write-spec : {M : Type 1} → statement M
 write-spec = tie.close (tie.spec codes-requires write-by-requires returns)

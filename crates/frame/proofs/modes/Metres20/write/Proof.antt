@@ -1,14 +1,15 @@
--- `frame::modes::Metres20::write` meets its contract: its constants give what its mode says. Assumes nothing.
-use mathlib.Core.Path.{_≡_, ap, _∙_}
+-- `frame::modes::Metres20::write` meets its contract: its constants fit its mode. Assumes nothing.
+use mathlib.Core.Path.{ap, _∙_}
 use Prim.Native.Nat.{ℕ}
-use Rattle.frame.specs.Packed.{writeUp, placedAt}
-use Rattle.frame.proofs.Constants.{metres20-write}
+use Rattle.frame.specs.Level.{twentyMetreMode}
+use Rattle.frame.specs.inside.Constants.{metres20, placedAt}
+use Rattle.frame.proofs.Constants.{write-is, metres20-fits}
 use borrow.Author.Needs.{needs}
 use Rattle.frame.proofs.modes.Metres20.write.Statement.{statement}
 use Rattle.frame.proofs.modes.Metres20.write.Tie as tie
 
-codes-requires : tie.Need-codes-requires
-codes-requires c κs = search needs
+five-digits-requires : tie.Need-five-digits-requires
+five-digits-requires c κs = search needs
 
 write-by-requires : tie.Need-write-by-requires
 write-by-requires c κs = search needs
@@ -16,8 +17,9 @@ write-by-requires c κs = search needs
 returns : tie.Need-returns
 returns c =
     let v = c .before .before .args .v in
-    let is : c .write-by .result ≡ placedAt v (writeUp 0x33330 5 v) 16 5 19999 = c .write-by .ensures ∙ ap (λ (n : ℕ). placedAt v n 16 5 19999) (c .before .codes .ensures .0) in
-    is ∙ metres20-write v
+    c .write-by .ensures
+    ∙ ap (λ (codes : ℕ). placedAt v codes (metres20 .first) (metres20 .after) (metres20 .largest)) (c .before .five-digits .ensures .0)
+    ∙ write-is twentyMetreMode metres20 metres20-fits v
 
 pub write-spec : {M : Type 1} → statement M
-write-spec = tie.close (tie.spec codes-requires write-by-requires returns)
+write-spec = tie.close (tie.spec five-digits-requires write-by-requires returns)

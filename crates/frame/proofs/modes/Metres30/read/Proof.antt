@@ -1,6 +1,8 @@
--- `frame::modes::Metres30::read` meets its contract: its constants give what its mode says. Assumes nothing.
+-- `frame::modes::Metres30::read` meets its contract: its constants fit its mode. Assumes nothing.
 use mathlib.Core.Path.{_∙_}
-use Rattle.frame.proofs.Constants.{metres30-read}
+use Rattle.frame.specs.Level.{thirtyMetreMode}
+use Rattle.frame.specs.inside.Constants.{metres30}
+use Rattle.frame.proofs.Constants.{read-is, metres30-fits}
 use borrow.Author.Needs.{needs}
 use Rattle.frame.proofs.modes.Metres30.read.Statement.{statement}
 use Rattle.frame.proofs.modes.Metres30.read.Tie as tie
@@ -9,7 +11,7 @@ read-by-requires : tie.Need-read-by-requires
 read-by-requires c κs = search needs
 
 returns : tie.Need-returns
-returns c = c .read-by .ensures ∙ metres30-read (c .before .args .n)
+returns c = c .read-by .ensures ∙ read-is thirtyMetreMode metres30 metres30-fits (c .before .args .n)
 
 pub read-spec : {M : Type 1} → statement M
 read-spec = tie.close (tie.spec read-by-requires returns)

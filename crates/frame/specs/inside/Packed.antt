@@ -1,5 +1,5 @@
--- How the code keeps charts and rows in words. A reader of document 01 need not believe this file: it says what the tables of
--- `src/charts.rt` and the constants of `src/modes.rt` hold, each worked out from the charts themselves.
+-- How the code keeps charts, rows and answers in words. A reader of document 01 need not believe this file: it says what the tables of
+-- `src/charts.rt` hold, each worked out from the charts themselves, and what the inner functions answer.
 use mathlib.Core.Bool.{Bool, false, _&&_}
 use mathlib.Core.List.{List, [], _∷_, map}
 use Prim.Native.Nat.{ℕ, zero, suc, _+_, _-_, _*_, _/_, _%_, _^_}
@@ -68,31 +68,13 @@ writeUp row (suc left) v =
     let c = chartOf (row / 16 ^ left % 16) in
     onesCode c v + 16 * writeUp row left (v / sizeOf c)
 
--- What reading a level gives: the level, or 65,536 times the fault, to which 7 adds the place of the digit.
+-- What reading a level gives: the level, or 2 ^ 16 times the fault, to which 7 adds the place of the digit.
 abbrev pub levelNumber : ℕ → Level → ℕ
-levelNumber largest (known v) = pick (ltb largest v) (8 * 65536) v
-levelNumber largest (lost k) = 7 * 65536 + k
+levelNumber largest (known v) = pick (ltb largest v) (8 * 2 ^ 16) v
+levelNumber largest (lost k) = 7 * 2 ^ 16 + k
 
 unfoldable pub levelCode : Mode → ℕ → ℕ
-levelCode m n = pick (fillClear n (m .fill)) (levelNumber (m .largest) (levelOf m n)) (6 * 65536)
-
--- The same by a mode's constants: how many digits, the bit that they begin at, how many fill bits follow them up to bit 37, the largest
--- level, and the row in a word. Fill bits before the digits are those from bit 16 on.
-abbrev pub fillAt : ℕ → ℕ → ℕ → Bool
-fillAt n first fill = eqb (n / 2 ^ (65 - first) % 2 ^ (first - 16)) 0 && eqb (n / 2 ^ 27 % 2 ^ fill) 0
-
-abbrev pub digitBits : ℕ → ℕ → ℕ
-digitBits first fill = 38 - first - fill
-
-abbrev pub readBy : ℕ → ℕ → ℕ → ℕ → ℕ → ℕ → ℕ
-readBy n digits first fill largest row =
-    pick (fillAt n first fill)
-    (levelNumber largest (readRow (rowOf row digits) (n / 2 ^ (27 + fill) % 2 ^ digitBits first fill) false 0 0))
-    (6 * 65536)
-
--- The codes of a level's digits in their place, or every digit bit 1 where the level is outside its mode.
-abbrev pub placedAt : ℕ → ℕ → ℕ → ℕ → ℕ → ℕ
-placedAt v codes first fill largest = pick (leb v largest) codes (2 ^ digitBits first fill - 1) * 2 ^ (27 + fill)
+levelCode m n = pick (fillClear n (m .fill)) (levelNumber (m .largest) (levelOf m n)) (6 * 2 ^ 16)
 
 -- Three decimal digits whose last bit stands `shift` bits above the word's lowest: their number, or 1000 where one is above 9.
 unfoldable pub threeBy : ℕ → ℕ → ℕ

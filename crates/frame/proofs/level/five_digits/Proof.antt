@@ -1,11 +1,11 @@
--- `frame::modes::Metres30::codes` meets its contract: the codes of its digits in one sum. Assumes nothing.
+-- `frame::level::five_digits` meets its contract: the codes of five digits in one sum. Assumes nothing.
 use mathlib.Core.Path.{sym}
 use native.Mathlib.Omega.{arith}
-use Rattle.frame.specs.Packed.{chartOf}
-use Rattle.frame.proofs.Straight.{metres30-up}
+use Rattle.frame.specs.inside.Packed.{chartOf}
+use Rattle.frame.proofs.Straight.{five-up}
 use borrow.Author.Needs.{needs}
-use Rattle.frame.proofs.modes.Metres30.codes.Statement.{statement}
-use Rattle.frame.proofs.modes.Metres30.codes.Tie as tie
+use Rattle.frame.proofs.level.five_digits.Statement.{statement}
+use Rattle.frame.proofs.level.five_digits.Tie as tie
 
 three-decimals-requires : tie.Need-three-decimals-requires
 three-decimals-requires c κs = search needs
@@ -31,10 +31,10 @@ add-result-2 c = search needs
 returns : tie.Need-returns
 unfolding chartOf
 returns c =
-    (rw (c .before .before .three-decimals .ensures .0, c .before .ones-code .ensures .0, c .ones-code2 .ensures .0) (sym (metres30-up (c .before .before .before .args .v))), omega arith)
+    (rw (c .before .before .three-decimals .ensures .0, c .before .ones-code .ensures .0, c .ones-code2 .ensures .0) (sym (five-up (c .before .before .before .args .top) (c .before .before .before .pre) (c .before .before .before .args .v))), omega arith)
 
-pub codes-spec : {M : Type 1} → statement M
-codes-spec =
+pub five-digits-spec : {M : Type 1} → statement M
+five-digits-spec =
     tie.close
     (tie.spec
     three-decimals-requires

@@ -1,0 +1,3 @@
+-- What only the code needs, and a reader of document 01 need not believe.
+pub mod Packed
+pub mod Constants

@@ -1,0 +1,56 @@
+-- What each mode's type in `src/modes.rt` carries, and a level read and written by it. A reader of document 01 need not believe this file:
+-- that each record gives what its mode says is proved.
+use mathlib.Core.Bool.{Bool, false, _&&_}
+use Prim.Native.Nat.{ℕ, _+_, _-_, _*_, _/_, _%_, _^_}
+use lib.Dec.{eqb, leb}
+use Rattle.frame.specs.Pick.{pick}
+use Rattle.frame.specs.Level.{readRow}
+use Rattle.frame.specs.inside.Packed.{rowOf, levelNumber, writeUp}
+
+-- How many digits, the bit that they begin at, the fill bits before them (from bit 16) and after them (up to bit 37), the largest level, the
+-- charts of the digits in a word, and the state that the digit reader starts in: whether a digit above the first is odd.
+pub record Constants : Type 0 where
+  pub digits : ℕ
+  pub first : ℕ
+  pub before : ℕ
+  pub after : ℕ
+  pub largest : ℕ
+  pub charts : ℕ
+  pub start : Bool
+
+abbrev pub fractional : Constants
+fractional = record { digits = 4; first = 17; before = 1; after = 6; largest = 15359; charts = 0x5432; start = false }
+
+abbrev pub decimalFeet : Constants
+decimalFeet = record { digits = 4; first = 17; before = 1; after = 6; largest = 7999; charts = 0x3332; start = false }
+
+abbrev pub metres20 : Constants
+metres20 = record { digits = 5; first = 16; before = 0; after = 5; largest = 19999; charts = 0x33330; start = false }
+
+abbrev pub metres30 : Constants
+metres30 = record { digits = 5; first = 16; before = 0; after = 4; largest = 32699; charts = 0x33331; start = false }
+
+-- The fill bits before and after the digits are 0.
+abbrev pub fillAt : ℕ → ℕ → ℕ → Bool
+fillAt n before after = eqb (n / 2 ^ (49 - before) % 2 ^ before) 0 && eqb (n / 2 ^ 27 % 2 ^ after) 0
+
+abbrev pub digitBits : ℕ → ℕ → ℕ
+digitBits first after = 38 - first - after
+
+-- A level read by a mode's constants: the level, or 2 ^ 16 times the fault, to which 7 adds the place of the digit.
+abbrev pub readBy : Constants → ℕ → ℕ
+readBy k n =
+    pick (fillAt n (k .before) (k .after))
+    (levelNumber (k .largest) (readRow (rowOf (k .charts) (k .digits)) (n / 2 ^ (27 + k .after) % 2 ^ digitBits (k .first) (k .after)) (k .start) 0 0))
+    (6 * 2 ^ 16)
+
+-- The codes of a level's digits, written from the ones digit up.
+abbrev pub codesBy : Constants → ℕ → ℕ
+codesBy k v = writeUp (k .charts) (k .digits) v
+
+-- Such codes in their place, or every digit bit 1 where the level is outside its mode.
+abbrev pub placedAt : ℕ → ℕ → ℕ → ℕ → ℕ → ℕ
+placedAt v codes first after largest = pick (leb v largest) codes (2 ^ digitBits first after - 1) * 2 ^ (27 + after)
+
+abbrev pub writeBy : Constants → ℕ → ℕ
+writeBy k v = placedAt v (codesBy k v) (k .first) (k .after) (k .largest)
