@@ -147,6 +147,10 @@ struct sisal_row {
     uint8_t kind;     /* enum sisal_kind; 0 while there is no reading, and a number above 4 reads as absent */
     uint8_t alarm1;   /* set by any number but 0 */
     uint8_t alarm0;
+    uint32_t heard;   /* the last four: 0 in a new and in a free row, kept by a hearing, not read */
+    uint16_t faulty;
+    uint8_t place;
+    uint8_t gauge;
 };
 
 /* A transmitter that was looked up on the board. */
@@ -161,14 +165,18 @@ struct sisal_standing {
     uint8_t kind; /* 0 while there is no reading; minute, level, tenths and alarms are then 0 */
     uint8_t alarm1;
     uint8_t alarm0;
+    uint32_t heard; /* the last four: 0 */
+    uint16_t faulty;
+    uint8_t place;
+    uint8_t gauge;
 };
 
 static_assert(sizeof(struct sisal_poll) == 6, "struct sisal_poll");
 static_assert(sizeof(struct sisal_reply) == 8, "struct sisal_reply");
 static_assert(sizeof(struct sisal_done) == 16, "struct sisal_done");
 static_assert(sizeof(struct sisal_slot) == 20, "struct sisal_slot");
-static_assert(sizeof(struct sisal_row) == 16, "struct sisal_row");
-static_assert(sizeof(struct sisal_standing) == 16, "struct sisal_standing");
+static_assert(sizeof(struct sisal_row) == 24, "struct sisal_row");
+static_assert(sizeof(struct sisal_standing) == 24, "struct sisal_standing");
 static_assert(sizeof(size_t) == 8, "size_t");
 
 /* ---- polls and replies ----------------------------------------------------------------------------------------------------------- */

@@ -5,7 +5,7 @@ use mathlib.Core.Bool.{true, false}
 use mathlib.Core.List.{List}
 use Prim.Native.Nat.{ℕ, _<_, _≤_}
 use native.Mathlib.Omega.{arith}
-use lib.Dec.{eqb, leb}
+use lib.Dec.{eqb}
 use lib.ListN.{length}
 use Rattle.frame.specs.declared.Reply.{Reply}
 use Rattle.frame.specs.declared.Reply.the-variants.{Read, Refused}
@@ -15,9 +15,10 @@ use Rattle.frame.specs.Reply.{replyOf, readingAt}
 use Rattle.board.specs.declared.Row.{Row}
 use Rattle.board.specs.declared.value.Change.{Change}
 use Rattle.board.specs.declared.value.Found.{Found}
+use Rattle.board.specs.Row.{setsFault}
 use Rattle.board.specs.Rows.{placeOf, rowOf}
 use Rattle.board.specs.Calls.{hearNumber, hearRows}
-use Rattle.board.specs.ByValue.{Finds, Changes, refusal, heardChange}
+use Rattle.board.specs.inside.ByValue.{Finds, Changes, refusal, heardChange}
 use Rattle.board.proofs.Numbers.{hear-read}
 use Rattle.board.proofs.OneRow.{unheard, hears}
 
@@ -28,7 +29,7 @@ module _ (board : List Row) (few : length board ≤ 30) (address minute count : 
   abbrev row : Row
   row = rowOf address board
 
-  pub hear-refuses : (n : ℕ) → eqb n 0 ≡ false → leb n 9 ≡ false → c ≡ refusal n → number ≡ n → Changes board number (hearRows board address minute count reply) c
+  pub hear-refuses : (n : ℕ) → eqb n 0 ≡ false → setsFault n ≡ false → c ≡ refusal n → number ≡ n → Changes board number (hearRows board address minute count reply) c
   unfolding hearRows
   hear-refuses n z l is e = unheard board few (placeOf address board) row minute (readingAt (row .settings) count (line reply)) n number c z l is e
 

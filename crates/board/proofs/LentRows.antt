@@ -10,10 +10,14 @@ use lib.ListN.{length, take, set, getD, length-take}
 use lib.Seq.{take-suc, take-all, take-suc-set}
 use borrow.Author.Tests.{ltb-true, ltb-false}
 use Rattle.frame.specs.Pick.{pick}
-use Rattle.board.specs.ByValue.{counted}
+use Rattle.board.specs.inside.ByValue.{counted}
 
--- row i lies within a usize, since the rows have room. A row has 16 bytes
-pub lies : (i n : ℕ) → i < n → n * 16 < 2 ^ 63 → i * 16 < 2 ^ 64
+-- how many bytes a row has
+abbrev pub rowBytes : ℕ
+rowBytes = 24
+
+-- row i lies within a usize, since the rows have room
+pub lies : (i n : ℕ) → i < n → n * rowBytes < 2 ^ 63 → i * rowBytes < 2 ^ 64
 lies i n l g = omega arith
 
 counted-by : (m : ℕ) (t : Bool) → ltb 30 m ≡ t → (pick t 30 m ≤ m) × (pick t 30 m ≤ 30)

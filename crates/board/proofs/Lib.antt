@@ -1,5 +1,6 @@
 -- The laws that the proofs of the functions cite.
 pub mod Places
+pub mod Faults
 pub mod Told
 pub mod Numbers
 pub mod OneRow

@@ -4,7 +4,7 @@ use mathlib.Core.Bool.{Bool, true, false}
 use mathlib.Core.List.{List}
 use Prim.Native.Nat.{ℕ, _<_, _≤_}
 use native.Mathlib.Omega.{arith}
-use lib.Dec.{eqb, leb}
+use lib.Dec.{eqb}
 use lib.ListN.{length, set}
 use lib.Seq.{length-take-le}
 use borrow.Author.Tests.{lt-ltb, le-ltb, eqb-true}
@@ -15,8 +15,8 @@ use Rattle.frame.specs.Pick.{pick}
 use Rattle.board.specs.declared.Row.{Row}
 use Rattle.board.specs.declared.value.Board.{Board}
 use Rattle.board.specs.declared.value.Change.{Change}
-use Rattle.board.specs.Row.{freeRow, withReading, withFault}
-use Rattle.board.specs.ByValue.{rowsOf, putIn, Changes, refusal, heardChange}
+use Rattle.board.specs.Row.{freeRow, withReading, withFault, setsFault}
+use Rattle.board.specs.inside.ByValue.{rowsOf, putIn, Changes, refusal, heardChange}
 
 -- the rows of a board by value are as many as it says
 pub rows-count : (b : Board) → length (b .rows) ≡ 30 → b .n ≤ 30 → length (rowsOf b) ≡ b .n
@@ -45,15 +45,15 @@ module _ (board : List Row) where
     Left is-good is-set number = pick is-good (set board at (withReading row r minute)) (pick is-set (set board at (withFault row number)) board)
 
     -- a hearing refused before the reply is read
-    pub unheard : (n number : ℕ) (c : Change) → eqb n 0 ≡ false → leb n 9 ≡ false → c ≡ refusal n → number ≡ n → Changes board number (Left (eqb number 0) (leb number 9) number) c
+    pub unheard : (n number : ℕ) (c : Change) → eqb n 0 ≡ false → setsFault n ≡ false → c ≡ refusal n → number ≡ n → Changes board number (Left (eqb number 0) (setsFault number) number) c
     unheard n number c z l is e =
-        record { answers = ap (λ (d : Change). d .number) is ∙ sym e; leaves = ap (λ (d : Change). putIn (length board) (d .at) (d .row) board) is ∙ put-nowhere 30 freeRow few ∙ sym (ap (λ (m : ℕ). Left (eqb m 0) (leb m 9) m) e ∙ ap (λ (t : Bool). Left t (leb n 9) n) z ∙ ap (λ (t : Bool). Left false t n) l) }
+        record { answers = ap (λ (d : Change). d .number) is ∙ sym e; leaves = ap (λ (d : Change). putIn (length board) (d .at) (d .row) board) is ∙ put-nowhere 30 freeRow few ∙ sym (ap (λ (m : ℕ). Left (eqb m 0) (setsFault m) m) e ∙ ap (λ (t : Bool). Left t (setsFault n) n) z ∙ ap (λ (t : Bool). Left false t n) l) }
 
     -- the change that the frame's answer makes
-    heard-by : (is-good is-set : Bool) (number : ℕ) → eqb number 0 ≡ is-good → leb number 9 ≡ is-set → at < length board → Changes board number (Left is-good is-set number) (heardChange at row minute (pick is-good (Read r) (Refused number)))
+    heard-by : (is-good is-set : Bool) (number : ℕ) → eqb number 0 ≡ is-good → setsFault number ≡ is-set → at < length board → Changes board number (Left is-good is-set number) (heardChange at row minute (pick is-good (Read r) (Refused number)))
     heard-by true is-set number e f l = record { answers = sym (eqb-true number 0 e); leaves = put-there at (withReading row r minute) l }
     heard-by false true number e f l = rw f (record { answers = refl; leaves = put-there at (withFault row number) l })
     heard-by false false number e f l = rw f (record { answers = refl; leaves = put-nowhere 30 freeRow few })
 
-    pub hears : (number : ℕ) (c : Change) (answer : Reply) → c ≡ heardChange at row minute answer → answer ≡ pick (eqb number 0) (Read r) (Refused number) → at < length board → Changes board number (Left (eqb number 0) (leb number 9) number) c
-    hears number c answer is e l = rw (is, e) (heard-by (eqb number 0) (leb number 9) number refl refl l)
+    pub hears : (number : ℕ) (c : Change) (answer : Reply) → c ≡ heardChange at row minute answer → answer ≡ pick (eqb number 0) (Read r) (Refused number) → at < length board → Changes board number (Left (eqb number 0) (setsFault number) number) c
+    hears number c answer is e l = rw (is, e) (heard-by (eqb number 0) (setsFault number) number refl refl l)

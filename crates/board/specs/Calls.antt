@@ -4,16 +4,15 @@ use mathlib.Core.Path.{_≡_}
 use mathlib.Core.Bool.{true, not}
 use mathlib.Core.List.{List, [], _∷_, _++_}
 use Prim.Native.Nat.{ℕ}
-use lib.Dec.{eqb, leb, ltb}
-use lib.IntN.{pos}
+use lib.Dec.{eqb, ltb}
 use lib.ListN.{set}
 use Rattle.frame.specs.Faults.{_gives_, firstOf}
-use Rattle.frame.specs.Line.{line, mark, formed}
+use Rattle.frame.specs.Line.{line, formed}
 use Rattle.frame.specs.Pick.{pick}
 use Rattle.frame.specs.Reply.{replyFault, readingAt}
 use Rattle.board.specs.declared.Looked.{Looked}
 use Rattle.board.specs.declared.Row.{Row}
-use Rattle.board.specs.Row.{Last, none, good, kindOf, tenthsOf, lastBy, lastOf, freeRow, newRow, withReading, withFault}
+use Rattle.board.specs.Row.{Last, lastBy, lastOf, rowBy, keptAs, unheard, faultOf, freeRow, newRow, withReading, withFault, setsFault}
 use Rattle.board.specs.Rows.{boardOf, beyond, placeOf, onBoard, rowOf, placeFree, hasFree}
 
 -- Enrolling: 10, 11, 18, 19. It takes the first free row; a refused enrolment changes no row.
@@ -48,7 +47,7 @@ hearRows board address minute count reply =
     let number = hearNumber board address count reply in
     let row = rowOf address board in
     pick (eqb number 0) (set board (placeOf address board) (withReading row (readingAt (row .settings) count (line reply)) minute))
-    (pick (leb number 9) (set board (placeOf address board) (withFault row number)) board)
+    (pick (setsFault number) (set board (placeOf address board) (withFault row number)) board)
 
 pub record Hears (rows : List Row) (address minute count : ℕ) (reply : List ℕ) (answer : ℕ) (after : List Row) : Type 0 where
   pub answers : answer ≡ hearNumber (boardOf rows) address count reply
@@ -67,21 +66,36 @@ pub record Removes (rows : List Row) (address : ℕ) (answer : ℕ) (after : Lis
   pub answers : answer ≡ findNumber (boardOf rows) address
   pub leaves : after ≡ removeRows (boardOf rows) address ++ beyond rows
 
--- What looking tells of a row: its address and settings, the last good reading with its minute, and the last fault. The refusal's
--- number is 0.
-abbrev pub tellBy : Row → Last → Looked
-tellBy row none =
-    record { minute = 0; address = row .address; level = 0; tenths = pos 0; settings = row .settings; fault = row .fault; number = 0; kind = 0; alarm1 = 0; alarm0 = 0 }
-tellBy row (good r minute) =
-    record { minute = minute; address = row .address; level = r .level; tenths = tenthsOf (r .temperature); settings = row .settings; fault = row .fault; number = 0; kind = kindOf (r .temperature); alarm1 = mark (r .alarm1); alarm0 = mark (r .alarm0) }
+-- What looking answers is laid out as a row is, with the refusal's number, 0 for none, where a row says whether it is in use.
+abbrev pub answerBy : ℕ → Row → Looked
+answerBy number row =
+    record {
+      minute = row .minute;
+      address = row .address;
+      level = row .level;
+      tenths = row .tenths;
+      settings = row .settings;
+      fault = row .fault;
+      number = number;
+      kind = row .kind;
+      alarm1 = row .alarm1;
+      alarm0 = row .alarm0;
+      heard = row .heard;
+      faulty = row .faulty;
+      place = row .place;
+      gauge = row .gauge;
+    }
 
+-- What looking tells of a row: its address and settings, the last good reading with its minute, and the last fault. It tells what the
+-- row holds and not its bytes.
 abbrev pub told : Row → Looked
-told row = tellBy row (lastOf row)
+told row =
+    answerBy 0
+    (rowBy (record { used = 0; address = row .address; settings = row .settings; gauge = 0 }) (keptAs (lastOf row)) (faultOf unheard (row .fault)))
 
 -- A refusal answers its number alone.
 abbrev pub refusedLook : ℕ → Looked
-refusedLook number =
-    record { minute = 0; address = 0; level = 0; tenths = pos 0; settings = 0; fault = 0; number = number; kind = 0; alarm1 = 0; alarm0 = 0 }
+refusedLook number = answerBy number freeRow
 
 unfoldable pub lookedAt : List Row → ℕ → Looked
 lookedAt board address =

@@ -3,7 +3,7 @@ ghost use mathlib.Core.Path.{_≡_};
 ghost use Prim.Native.Nat.{_≤_};
 ghost use lib.ListN.{length};
 ghost use Rattle.board.specs.Rows.{boardOf};
-ghost use Rattle.board.specs.ByValue.{Loaded, Finds, counted, putIn};
+ghost use Rattle.board.specs.inside.ByValue.{Loaded, Finds, counted, putIn};
 use crate::Row;
 use crate::rows;
 use crate::value;
@@ -32,7 +32,8 @@ pub(crate) fn load(rows: &[Row]) -> Board
     value::of_rows(held, n)
 }
 
-// Finds the row of an address among the rows that count.
+// Searches the rows that count. It stands apart from the calls: in one function with the reading of a reply the compiler would copy the
+// array once more.
 pub(crate) fn find(rows: &[Row], address: u16) -> Found
     ensures { λ r. ⌜ Finds (boardOf (now (rows .entry))) address r ⌝ }
 {

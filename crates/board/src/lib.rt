@@ -7,7 +7,7 @@ mod value;
 
 ghost use Rattle.board.specs.Calls.{Enrols, Hears, Removes, LooksUp};
 
-// A row as the host lends it: 16 bytes with no hole, integers alone, so that every bit pattern is a row. All zeros is a free row.
+// A row as the host lends it: 24 bytes with no hole, integers alone, so that every bit pattern is a row. All zeros is a free row.
 #[repr(C)]
 pub struct Row {
     pub minute: u32,
@@ -23,6 +23,11 @@ pub struct Row {
     // 0 for no alarm, any other number for an alarm
     pub alarm1: u8,
     pub alarm0: u8,
+    // The last four are 0 in a new and in a free row, kept by a hearing, and not read.
+    pub heard: u32,
+    pub faulty: u16,
+    pub place: u8,
+    pub gauge: u8,
 }
 
 // What looking answers: the refusal's number alone, or number 0 and what the row holds. It is laid out as a row is; its kind is at
@@ -39,6 +44,10 @@ pub struct Looked {
     pub kind: u8,
     pub alarm1: u8,
     pub alarm0: u8,
+    pub heard: u32,
+    pub faulty: u16,
+    pub place: u8,
+    pub gauge: u8,
 }
 
 // Enrols a transmitter in the first free row: 0; or 10 settings, 11 asked address, 18 twice, 19 no row.
@@ -46,9 +55,9 @@ pub struct Looked {
 pub extern "C" fn sisal_board_enrol(rows: &mut [Row], settings: u8, address: u16) -> u8
     ensures { λ r. ⌜ Enrols (now (rows .entry)) settings address r (now (rows .exit)) ⌝ }
 {
-    let b = lent::load(rows);
-    let c = value::enrol(b, settings, address);
-    lent::put(rows, b.n, c)
+    let f = lent::find(rows, address);
+    let c = value::enrol(f, settings, address);
+    lent::put(rows, f.n, c)
 }
 
 // Hears a reply: 0, reading, minute and fault 0 are set; 1 to 9, the row's fault is set and its reading stays; or 11 asked address,
@@ -73,9 +82,9 @@ pub extern "C" fn sisal_board_hear<'r, 'b>(
 pub extern "C" fn sisal_board_remove(rows: &mut [Row], address: u16) -> u8
     ensures { λ r. ⌜ Removes (now (rows .entry)) address r (now (rows .exit)) ⌝ }
 {
-    let b = lent::load(rows);
-    let c = value::remove(b, address);
-    lent::put(rows, b.n, c)
+    let f = lent::find(rows, address);
+    let c = value::remove(f, address);
+    lent::put(rows, f.n, c)
 }
 
 // Looks at a transmitter's row: what stands in it; or 11 asked address, 17 unknown.
@@ -83,6 +92,6 @@ pub extern "C" fn sisal_board_remove(rows: &mut [Row], address: u16) -> u8
 pub extern "C" fn sisal_board_look_up(rows: &[Row], address: u16) -> Looked
     ensures { λ r. ⌜ LooksUp (now (rows .entry)) address r ⌝ }
 {
-    let b = lent::load(rows);
-    value::look(b, address)
+    let f = lent::find(rows, address);
+    value::look(f, address)
 }

@@ -1,15 +1,13 @@
 // One row by value: what it holds, and what becomes of it.
 ghost use mathlib.Core.Path.{_≡_};
 ghost use lib.ListN.{replicate};
-ghost use Rattle.frame.specs.Line.{mark};
-ghost use Rattle.board.specs.ByValue.{withTemperature, kindTold};
-ghost use Rattle.board.specs.Row.{freeRow, newRow, isFree, withReading, withFault};
+ghost use Rattle.board.specs.Row.{freeRow, newRow, isFree, withReading, withFault, setsFault};
 ghost use Rattle.board.specs.Rows.{holds};
 ghost use Rattle.board.specs.Calls.{told, refusedLook};
 use crate::Looked;
 use crate::Row;
 use frame::Reading;
-use frame::Temperature;
+use frame::kinds;
 
 pub(crate) fn free_row() -> Row
     ensures { λ r. ⌜ r ≡ freeRow ⌝ }
@@ -25,6 +23,10 @@ pub(crate) fn free_row() -> Row
         kind: 0,
         alarm1: 0,
         alarm0: 0,
+        heard: 0,
+        faulty: 0,
+        place: 0,
+        gauge: 0,
     }
 }
 
@@ -60,49 +62,18 @@ pub(crate) fn has_address(row: Row, address: u16) -> bool
     row.address == address
 }
 
-fn marked(alarm: bool) -> u8
-    ensures { λ r. ⌜ r ≡ mark alarm ⌝ }
-{
-    if alarm { 1 } else { 0 }
-}
-
-// The row with a temperature's kind and tenths.
-fn with_temperature(row: Row, t: Temperature) -> Row
-    ensures { λ r. ⌜ r ≡ withTemperature row t ⌝ }
-{
-    let mut next = row;
-    next.tenths = 0;
-    match t {
-        Temperature::Degrees(d) => {
-            next.kind = 1;
-            next.tenths = d;
-            next
-        }
-        Temperature::Above => {
-            next.kind = 2;
-            next
-        }
-        Temperature::Below => {
-            next.kind = 3;
-            next
-        }
-        Temperature::Absent => {
-            next.kind = 4;
-            next
-        }
-    }
-}
-
 pub(crate) fn with_reading(row: Row, reading: Reading, minute: u32) -> Row
     ensures { λ r. ⌜ r ≡ withReading row reading minute ⌝ }
 {
     let t = reading.temperature;
-    let mut next = with_temperature(row, t);
+    let mut next = row;
     next.minute = minute;
     next.level = reading.level;
+    next.tenths = kinds::tenths_of(t);
+    next.kind = kinds::kind_of(t);
+    next.alarm1 = kinds::marked(reading.alarm1);
+    next.alarm0 = kinds::marked(reading.alarm0);
     next.fault = 0;
-    next.alarm1 = marked(reading.alarm1);
-    next.alarm0 = marked(reading.alarm0);
     next
 }
 
@@ -112,6 +83,13 @@ pub(crate) fn with_fault(row: Row, fault: u8) -> Row
     let mut next = row;
     next.fault = fault;
     next
+}
+
+// Whether a row's fault is set to this number.
+pub(crate) fn sets_fault(number: u8) -> bool
+    ensures { λ r. ⌜ r ≡ setsFault number ⌝ }
+{
+    1 <= number && number <= 9
 }
 
 pub(crate) fn refused_look(number: u8) -> Looked
@@ -128,18 +106,10 @@ pub(crate) fn refused_look(number: u8) -> Looked
         kind: 0,
         alarm1: 0,
         alarm0: 0,
-    }
-}
-
-// A kind as it is answered: whatever else the host left there is absent, as 4 is.
-fn kind_told(kind: u8) -> u8
-    ensures { λ r. ⌜ r ≡ kindTold kind ⌝ }
-{
-    match kind {
-        1 => 1,
-        2 => 2,
-        3 => 3,
-        _ => 4,
+        heard: 0,
+        faulty: 0,
+        place: 0,
+        gauge: 0,
     }
 }
 
@@ -154,14 +124,12 @@ pub(crate) fn tell(row: Row) -> Looked
     if row.kind == 0 {
         return answer;
     }
+    let t = kinds::temperature_by(row.kind, row.tenths);
     answer.minute = row.minute;
     answer.level = row.level;
-    answer.kind = kind_told(row.kind);
-    answer.alarm1 = marked(row.alarm1 != 0);
-    answer.alarm0 = marked(row.alarm0 != 0);
-    if row.kind == 1 {
-        answer.tenths = row.tenths;
-        return answer;
-    }
+    answer.tenths = kinds::tenths_of(t);
+    answer.kind = kinds::kind_of(t);
+    answer.alarm1 = kinds::marked(row.alarm1 != 0);
+    answer.alarm0 = kinds::marked(row.alarm0 != 0);
     answer
 }

@@ -1,10 +1,8 @@
-// The board by value: an array of 30 rows, of which the first n count. Each call says which one row changes, or that none does. It
-// searches before it refuses, though some refusals need no search: one made on some paths only would be made in a copy of the array.
+// The board by value: an array of 30 rows, of which the first n count. One search finds all that a call asks of it; each call then decides,
+// in the order of document 01, which one row changes, or that none does.
 ghost use mathlib.Core.Path.{_≡_};
 ghost use Prim.Native.Nat.{_≤_};
-ghost use Rattle.board.specs.Rows.{placeFree};
-ghost use Rattle.board.specs.Calls.{enrolNumber, enrolRows, findNumber, removeRows, lookedAt};
-ghost use Rattle.board.specs.ByValue.{rowsOf, Finds, Changes, refusal, heardChange, HearsOn};
+ghost use Rattle.board.specs.inside.ByValue.{rowsOf, Finds, freeAfter, refusal, heardChange, EnrolsOn, HearsOn, RemovesOn, LooksOn};
 use crate::Looked;
 use crate::Row;
 use crate::rows;
@@ -22,12 +20,13 @@ pub(crate) struct Change {
     pub number: u8,
 }
 
-// What a search for an address finds: the number n of rows that count, the place of the address's row, or n where it has none, and
-// the row there, which means nothing where the place is n.
+// What a search for an address finds: the number n of rows that count, the place of the address's row, or n where it has none, the
+// row there, which means nothing where the place is n, and the place of the first free row, or n, where the address has no row.
 pub(crate) struct Found {
     pub at: usize,
     pub n: usize,
     pub row: Row,
+    pub free: usize,
 }
 
 pub(crate) fn of_rows(rows: [Row; 30], n: usize) -> Board
@@ -36,15 +35,29 @@ pub(crate) fn of_rows(rows: [Row; 30], n: usize) -> Board
     Board { rows: rows, n: n }
 }
 
-// Finds the first row in use that holds the address. The array is indexed and not the board, and a row is read before n is compared:
-// so the compiler searches the array where `load` filled it, and makes no copy. Where no row counts, row 0 of the array is read, and
-// its place is not below n.
+// The first free place so far, once row i has been passed too.
+fn free_after(free: usize, n: usize, i: usize, row: Row) -> usize
+    ensures { λ r. ⌜ r ≡ freeAfter free n i row ⌝ }
+{
+    if free < n {
+        return free;
+    }
+    if rows::is_free(row) {
+        return i;
+    }
+    n
+}
+
+// Finds the first row in use that holds the address, and else the first free one. The array is indexed and not the board, and a row is
+// read before n is compared: so the compiler searches the array where `load` filled it, and makes no copy. Where no row counts, row 0 of
+// the array is read, and its place is not below n.
 pub(crate) fn find(b: Board, address: u16) -> Found
     requires { ⌜ b .n ≤ 30 ⌝ }
     ensures { λ r. ⌜ Finds (rowsOf b) address r ⌝ }
 {
     let n = b.n;
     let held = b.rows;
+    let mut free = n;
     let mut i: usize = 0;
     loop {
         let row = held[i];
@@ -53,35 +66,18 @@ pub(crate) fn find(b: Board, address: u16) -> Found
                 at: i,
                 n: n,
                 row: row,
+                free: free,
             };
         }
+        free = free_after(free, n, i, row);
         i = i + 1;
         if n <= i {
             return Found {
                 at: n,
                 n: n,
                 row: row,
+                free: free,
             };
-        }
-    }
-}
-
-// The place of the first free row, or n; searched as `find` does.
-fn place_free(b: Board) -> usize
-    requires { ⌜ b .n ≤ 30 ⌝ }
-    ensures { λ r. ⌜ r ≡ placeFree (rowsOf b) ⌝ }
-{
-    let n = b.n;
-    let held = b.rows;
-    let mut i: usize = 0;
-    loop {
-        let row = held[i];
-        if rows::is_free(row) {
-            return i;
-        }
-        i = i + 1;
-        if n <= i {
-            return n;
         }
     }
 }
@@ -97,12 +93,10 @@ fn refused(number: u8) -> Change
     }
 }
 
-pub(crate) fn enrol(b: Board, settings: u8, address: u16) -> Change
-    requires { ⌜ b .n ≤ 30 ⌝ }
-    ensures { λ r. ⌜ Changes (rowsOf b) (enrolNumber (rowsOf b) settings address) (enrolRows (rowsOf b) settings address) r ⌝ }
+// Enrolling: 10, 11, 18, 19.
+pub(crate) fn enrol(f: Found, settings: u8, address: u16) -> Change
+    ensures { λ r. ⌜ EnrolsOn f settings address r ⌝ }
 {
-    let f = find(b, address);
-    let at = place_free(b);
     if 15 < settings {
         return refused(10);
     }
@@ -112,18 +106,18 @@ pub(crate) fn enrol(b: Board, settings: u8, address: u16) -> Change
     if f.at < f.n {
         return refused(18);
     }
-    if f.n <= at {
+    if f.n <= f.free {
         return refused(19);
     }
     let row = rows::new_row(settings, address);
     Change {
-        at: at,
+        at: f.free,
         row: row,
         number: 0,
     }
 }
 
-// The change that an answer of the frame makes of a row: a good reading is set, faults 1 to 9 are set, 10 changes nothing.
+// The change that an answer of the frame makes of a row: a good reading is set, a fault that counts is set, 10 changes nothing.
 fn heard(at: usize, row: Row, minute: u32, answer: Reply) -> Change
     ensures { λ r. ⌜ r ≡ heardChange at row minute answer ⌝ }
 {
@@ -137,7 +131,7 @@ fn heard(at: usize, row: Row, minute: u32, answer: Reply) -> Change
             }
         }
         Reply::Refused(number) => {
-            if number <= 9 {
+            if rows::sets_fault(number) {
                 let next = rows::with_fault(row, number);
                 return Change {
                     at: at,
@@ -150,8 +144,7 @@ fn heard(at: usize, row: Row, minute: u32, answer: Reply) -> Change
     }
 }
 
-// Hears a reply for the address that was searched. It takes what was found and not the board: load and search stand in a function of
-// their own, `lent::find`, since in one with the reading of a reply the compiler copies the array once more.
+// Hearing: 11, 14, 17, and then what the frame answers by the row's settings.
 pub(crate) fn hear(f: Found, address: u16, minute: u32, count: usize, reply: &[u8]) -> Change
     ensures { λ r. ⌜ HearsOn f address minute count (now (reply .entry)) r ⌝ }
 {
@@ -169,11 +162,10 @@ pub(crate) fn hear(f: Found, address: u16, minute: u32, count: usize, reply: &[u
     heard(f.at, row, minute, answer)
 }
 
-pub(crate) fn remove(b: Board, address: u16) -> Change
-    requires { ⌜ b .n ≤ 30 ⌝ }
-    ensures { λ r. ⌜ Changes (rowsOf b) (findNumber (rowsOf b) address) (removeRows (rowsOf b) address) r ⌝ }
+// Removing: 11, 17.
+pub(crate) fn remove(f: Found, address: u16) -> Change
+    ensures { λ r. ⌜ RemovesOn f address r ⌝ }
 {
-    let f = find(b, address);
     if 999 < address {
         return refused(11);
     }
@@ -188,11 +180,10 @@ pub(crate) fn remove(b: Board, address: u16) -> Change
     }
 }
 
-pub(crate) fn look(b: Board, address: u16) -> Looked
-    requires { ⌜ b .n ≤ 30 ⌝ }
-    ensures { λ r. ⌜ r ≡ lookedAt (rowsOf b) address ⌝ }
+// Looking: 11, 17.
+pub(crate) fn look(f: Found, address: u16) -> Looked
+    ensures { λ r. ⌜ LooksOn f address r ⌝ }
 {
-    let f = find(b, address);
     if 999 < address {
         return rows::refused_look(11);
     }

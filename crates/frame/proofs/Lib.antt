@@ -16,3 +16,4 @@ pub mod Refusals
 pub mod Fronts
 pub mod Counted
 pub mod Sums
+pub mod ToldBack

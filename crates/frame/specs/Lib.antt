@@ -7,4 +7,5 @@ pub mod Temperature
 pub mod Faults
 pub mod Poll
 pub mod Reply
+pub mod Kinds
 pub mod inside

@@ -2,6 +2,7 @@
 // number in document 01, and a refused write changes nothing.
 mod charts;
 mod heat;
+pub mod kinds;
 mod level;
 mod line;
 mod modes;

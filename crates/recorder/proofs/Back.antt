@@ -1,6 +1,6 @@
 -- What the calls below can answer comes back from the integers that tell it. All of them answer what is good where their fault number is 0 and else
 -- refuse by that number, so one law carries each; a refusal's number is then never 0, and 0 tells of none.
-use mathlib.Core.Path.{_≡_, refl}
+use mathlib.Core.Path.{_≡_, refl, ap}
 use mathlib.Core.Bool.{Bool, true, false, _&&_}
 use mathlib.Core.List.{List}
 use Prim.Native.Nat.{ℕ}
@@ -8,7 +8,7 @@ use lib.Dec.{eqb, ltb}
 use Rattle.frame.specs.declared.PollAnswer.the-variants as asked
 use Rattle.frame.specs.declared.Reply.the-variants as replied
 use Rattle.frame.specs.declared.Written.the-variants as written
-use Rattle.frame.specs.Line.{line, mark}
+use Rattle.frame.specs.Line.{line}
 use Rattle.frame.specs.Pick.{pick}
 use Rattle.frame.specs.Poll.{pollAt, pollFault, pollOf}
 use Rattle.frame.specs.Reply.{readingAt, replyFault, replyOf}
@@ -18,14 +18,8 @@ use Rattle.sheet.specs.declared.view.Counted.the-variants as counted
 use Rattle.sheet.specs.Slots.{Slot, blank, spoiled, foreign, holds, slotOf, slotAt, slots, sizeAllowed}
 use Rattle.sheet.specs.Look.{bare, told, lookOf}
 use Rattle.sheet.specs.View.{countOf}
-use Rattle.board.specs.Row.{isSet}
-use Rattle.board.proofs.Told.{temperature-back}
+use Rattle.frame.proofs.ToldBack.{flag-back, reading-back}
 use Rattle.recorder.specs.Told.{pollTold, pollMeant, replyTold, replyMeant, writtenTold, writtenMeant, savedTold, savedMeant, countedTold, countedMeant, slotTold, slotMeant}
-
--- A flag comes back from the number that tells it.
-flag-back : (b : Bool) → isSet (mark b) ≡ b
-flag-back true = refl
-flag-back false = refl
 
 -- An answer comes back where a good one does, and a refusal does by any number but 0.
 by-fault : {A T : Type 0} (told : A → T) (meant : T → A) (good : A) (bad : ℕ → A) → meant (told good) ≡ good → ((n : ℕ) → eqb n 0 ≡ false → meant (told (bad n)) ≡ bad n) → (n : ℕ) → meant (told (pick (eqb n 0) good (bad n))) ≡ pick (eqb n 0) good (bad n)
@@ -43,7 +37,7 @@ poll-back s =
 pub reply-back : (settings address count : ℕ) (s : List ℕ) → replyMeant (replyTold (replyOf settings address count s)) ≡ replyOf settings address count s
 unfolding replyOf
 reply-back settings address count s =
-    by-fault replyTold replyMeant (replied.Read (readingAt settings count (line s))) replied.Refused (simp (flag-back, temperature-back)) (λ n e. simp e) (replyFault settings address count s)
+    by-fault replyTold replyMeant (replied.Read (readingAt settings count (line s))) replied.Refused (ap replied.Read (reading-back (readingAt settings count (line s)))) (λ n e. simp e) (replyFault settings address count s)
 
 pub written-back : (bytes fault : ℕ) → let a = pick (eqb fault 0) (written.Bytes bytes) (written.Refused fault) in writtenMeant (writtenTold a) ≡ a
 written-back bytes fault = by-fault writtenTold writtenMeant (written.Bytes bytes) written.Refused refl (λ n e. simp e) fault

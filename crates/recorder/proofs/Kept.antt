@@ -21,7 +21,7 @@ use Rattle.sheet.specs.Record.{entryOf, lengthOf}
 use Rattle.sheet.specs.Save.{Saves, saveFault, savedNumber}
 use Rattle.sheet.specs.Look.{Looks, foundNumber}
 use Rattle.sheet.specs.View.{Counts, countedNumber}
-use Rattle.board.specs.Row.{isSet, readingBy}
+use Rattle.frame.specs.Kinds.{isSet, readingBy}
 use Rattle.recorder.specs.declared.PollTold.{PollTold}
 use Rattle.recorder.specs.declared.ReplyTold.{ReplyTold}
 use Rattle.recorder.specs.declared.Done.{Done}

@@ -10,7 +10,7 @@ use Rattle.sheet.specs.Record.{entryOf}
 use Rattle.sheet.specs.Save.{Saves}
 use Rattle.sheet.specs.Look.{Looks}
 use Rattle.sheet.specs.View.{Counts}
-use Rattle.board.specs.Row.{isSet, readingBy}
+use Rattle.frame.specs.Kinds.{isSet, readingBy}
 use Rattle.recorder.specs.declared.PollTold.{PollTold}
 use Rattle.recorder.specs.declared.ReplyTold.{ReplyTold}
 use Rattle.recorder.specs.declared.Done.{Done}

@@ -21,7 +21,7 @@ use Rattle.sheet.specs.declared.Saved.{Saved}
 use Rattle.sheet.specs.declared.Saved.the-variants as saved
 use Rattle.sheet.specs.declared.view.Counted.{Counted}
 use Rattle.sheet.specs.declared.view.Counted.the-variants as counted
-use Rattle.board.specs.Row.{isSet, kindOf, tenthsOf, readingBy}
+use Rattle.frame.specs.Kinds.{isSet, kindOf, tenthsOf, readingBy}
 use Rattle.recorder.specs.declared.PollTold.{PollTold}
 use Rattle.recorder.specs.declared.ReplyTold.{ReplyTold}
 use Rattle.recorder.specs.declared.Done.{Done}

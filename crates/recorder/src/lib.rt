@@ -99,7 +99,7 @@ pub extern "C" fn sisal_write_reply(
 ) -> Done
     ensures { λ r. ⌜ SisalWriteReply settings address level kind tenths alarm1 alarm0 (now (out .entry)) r (now (out .exit)) ⌝ }
 {
-    let temperature = told::temperature_by(kind, tenths);
+    let temperature = frame::kinds::temperature_by(kind, tenths);
     let reading = Reading {
         level: level,
         temperature: temperature,

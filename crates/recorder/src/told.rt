@@ -1,7 +1,5 @@
 // What the calls below answer, told in integers.
 ghost use mathlib.Core.Path.{_≡_};
-ghost use Rattle.frame.specs.Line.{mark};
-ghost use Rattle.board.specs.Row.{temperatureBy};
 ghost use Rattle.recorder.specs.Told.{pollTold, readingTold, replyTold, writtenTold, savedTold, countedTold, bareTold, countFits, slotTold};
 use crate::Done;
 use crate::PollTold;
@@ -10,18 +8,12 @@ use crate::SlotTold;
 use frame::PollAnswer;
 use frame::Reading;
 use frame::Reply;
-use frame::Temperature;
 use frame::Written;
+use frame::kinds;
 use sheet::Found;
 use sheet::Looked;
 use sheet::Saved;
 use sheet::view::Counted;
-
-fn marked(set: bool) -> u8
-    ensures { λ r. ⌜ r ≡ mark set ⌝ }
-{
-    if set { 1 } else { 0 }
-}
 
 pub(crate) fn poll(answer: PollAnswer) -> PollTold
     ensures { λ r. ⌜ r ≡ pollTold answer ⌝ }
@@ -29,8 +21,8 @@ pub(crate) fn poll(answer: PollAnswer) -> PollTold
     match answer {
         PollAnswer::Asked(poll) => PollTold {
             address: poll.address,
-            raise: marked(poll.raise),
-            reset: marked(poll.reset),
+            raise: kinds::marked(poll.raise),
+            reset: kinds::marked(poll.reset),
             number: 0,
         },
         PollAnswer::Refused(number) => PollTold {
@@ -47,29 +39,13 @@ fn reading(reading: Reading) -> ReplyTold
     ensures { λ r. ⌜ r ≡ readingTold reading ⌝ }
 {
     let t = reading.temperature;
-    let mut told = ReplyTold {
+    ReplyTold {
         level: reading.level,
-        tenths: 0,
-        kind: 4,
-        alarm1: marked(reading.alarm1),
-        alarm0: marked(reading.alarm0),
+        tenths: kinds::tenths_of(t),
+        kind: kinds::kind_of(t),
+        alarm1: kinds::marked(reading.alarm1),
+        alarm0: kinds::marked(reading.alarm0),
         number: 0,
-    };
-    match t {
-        Temperature::Degrees(d) => {
-            told.kind = 1;
-            told.tenths = d;
-            told
-        }
-        Temperature::Above => {
-            told.kind = 2;
-            told
-        }
-        Temperature::Below => {
-            told.kind = 3;
-            told
-        }
-        Temperature::Absent => told,
     }
 }
 
@@ -131,18 +107,6 @@ pub(crate) fn counted(answer: Counted) -> Done
             count: 0,
             number: number,
         },
-    }
-}
-
-// The temperature that a kind and tenths stand for: every kind but 1, 2 and 3 is absent.
-pub(crate) fn temperature_by(kind: u8, tenths: i16) -> Temperature
-    ensures { λ r. ⌜ r ≡ temperatureBy kind tenths ⌝ }
-{
-    match kind {
-        1 => Temperature::Degrees(tenths),
-        2 => Temperature::Above,
-        3 => Temperature::Below,
-        _ => Temperature::Absent,
     }
 }
 

@@ -55,6 +55,10 @@ pub struct Row {
     pub kind: u8,
     pub alarm1: u8,
     pub alarm0: u8,
+    pub heard: u32,
+    pub faulty: u16,
+    pub place: u8,
+    pub gauge: u8,
 }
 
 #[repr(C)]
@@ -69,6 +73,10 @@ pub struct Standing {
     pub kind: u8,
     pub alarm1: u8,
     pub alarm0: u8,
+    pub heard: u32,
+    pub faulty: u16,
+    pub place: u8,
+    pub gauge: u8,
 }
 
 const _: () = {
@@ -76,8 +84,8 @@ const _: () = {
     assert!(size_of::<Reply>() == 8);
     assert!(size_of::<Done>() == 16);
     assert!(size_of::<Slot>() == 20);
-    assert!(size_of::<Row>() == 16 && align_of::<Row>() == 4);
-    assert!(size_of::<Standing>() == 16);
+    assert!(size_of::<Row>() == 24 && align_of::<Row>() == 4);
+    assert!(size_of::<Standing>() == 24);
 };
 
 extern "C" {

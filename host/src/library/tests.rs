@@ -219,6 +219,10 @@ fn any_row(random: &mut Random) -> LentRow {
         },
         alarm1: random.byte(),
         alarm0: random.below(3) as u8,
+        heard: random.next() as u32,
+        faulty: random.next() as u16,
+        place: random.byte(),
+        gauge: random.byte(),
     }
 }
 

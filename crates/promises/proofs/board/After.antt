@@ -5,7 +5,7 @@ use mathlib.Core.Bool.{Bool, true, false}
 use mathlib.Core.List.{List, [], _∷_}
 use Prim.Native.Nat.{ℕ, _<_, _≤_}
 use native.Mathlib.Omega.{arith}
-use lib.Dec.{eqb, leb}
+use lib.Dec.{eqb}
 use lib.ListN.{set, drop}
 use borrow.Author.Tests.{lt-ltb, le-ltb, eqb-true}
 use Rattle.frame.specs.declared.Reading.{Reading}
@@ -15,7 +15,7 @@ use Rattle.frame.specs.Line.{line, formed}
 use Rattle.frame.specs.Pick.{pick}
 use Rattle.frame.specs.Reply.{ReadsReply, replyTests, replyFault, replyOf, readingAt}
 use Rattle.board.specs.declared.Row.{Row}
-use Rattle.board.specs.Row.{freeRow, newRow, withReading, withFault}
+use Rattle.board.specs.Row.{freeRow, newRow, withReading, withFault, setsFault}
 use Rattle.board.specs.Rows.{placeOf, placeFree, rowOf}
 use Rattle.board.specs.Calls.{enrolNumber, enrolRows, hearNumber, hearRows, findNumber, removeRows, lookedAt, told, refusedLook}
 
@@ -58,17 +58,17 @@ module _ (board : List Row) (address minute count : ℕ) (reply : List ℕ) wher
   abbrev fault-rows : ℕ → List Row
   fault-rows n = set board (placeOf address board) (withFault row n)
 
-  pub hear-keeps : eqb number 0 ≡ false → leb number 9 ≡ false → hearRows board address minute count reply ≡ board
+  pub hear-keeps : eqb number 0 ≡ false → setsFault number ≡ false → hearRows board address minute count reply ≡ board
   unfolding hearRows
-  hear-keeps e f = ap (λ (t : Bool). pick t good-rows (pick (leb number 9) (fault-rows number) board)) e ∙ ap (λ (t : Bool). pick t (fault-rows number) board) f
+  hear-keeps e f = ap (λ (t : Bool). pick t good-rows (pick (setsFault number) (fault-rows number) board)) e ∙ ap (λ (t : Bool). pick t (fault-rows number) board) f
 
-  pub hear-faults : eqb number 0 ≡ false → leb number 9 ≡ true → hearRows board address minute count reply ≡ fault-rows number
+  pub hear-faults : eqb number 0 ≡ false → setsFault number ≡ true → hearRows board address minute count reply ≡ fault-rows number
   unfolding hearRows
-  hear-faults e f = ap (λ (t : Bool). pick t good-rows (pick (leb number 9) (fault-rows number) board)) e ∙ ap (λ (t : Bool). pick t (fault-rows number) board) f
+  hear-faults e f = ap (λ (t : Bool). pick t good-rows (pick (setsFault number) (fault-rows number) board)) e ∙ ap (λ (t : Bool). pick t (fault-rows number) board) f
 
   pub hear-sets : number ≡ 0 → hearRows board address minute count reply ≡ good-rows
   unfolding hearRows
-  hear-sets e = ap (λ (n : ℕ). pick (eqb n 0) good-rows (pick (leb n 9) (fault-rows n) board)) e
+  hear-sets e = ap (λ (n : ℕ). pick (eqb n 0) good-rows (pick (setsFault n) (fault-rows n) board)) e
 
 -- Where each number of a list of tests is at most 9, the first that applies is.
 abbrev AllSmall : List Test → Type 0

@@ -5,18 +5,19 @@ use mathlib.Core.Bool.{true, false}
 use mathlib.Core.List.{List, _++_}
 use Prim.Native.Nat.{ℕ, _<_, _≤_}
 use native.Mathlib.Omega.{arith}
-use lib.Dec.{eqb, leb}
+use lib.Dec.{eqb}
 use lib.ListN.{length, set}
-use borrow.Author.Tests.{eqb-false, le-leb}
+use borrow.Author.Tests.{eqb-false}
 use Rattle.frame.specs.declared.Reading.{Reading}
 use Rattle.frame.specs.declared.Reply.the-variants.{Read, Refused}
 use Rattle.frame.specs.Line.{line, formed}
 use Rattle.frame.specs.Reply.{ReadsReply, replyFault, readingAt}
 use Rattle.board.specs.declared.Looked.{Looked}
 use Rattle.board.specs.declared.Row.{Row}
-use Rattle.board.specs.Row.{freeRow, newRow, withReading, withFault}
+use Rattle.board.specs.Row.{freeRow, newRow, withReading, withFault, setsFault}
 use Rattle.board.specs.Rows.{boardOf, beyond, placeOf, placeFree, rowOf}
 use Rattle.board.specs.Calls.{Enrols, Hears, Removes, LooksUp, enrolNumber, hearNumber, findNumber, told}
+use Rattle.board.proofs.Faults.{sets-by, not-10, not-11, not-14, not-17}
 use Rattle.board.proofs.Numbers.{enrol-10, enrol-11, enrol-18, enrol-19, enrol-0, hear-11, hear-14, hear-17, hear-read, find-11, find-17, find-0}
 use Rattle.promises.specs.board.Calls.{rowAt, IsRowOf, IsFirstFree, OnlyRow, EnrolPromise, HearPromise, RemovePromise, LookPromise, BoardCalls, BoardOneOutcome}
 use Rattle.promises.proofs.board.Places.{row-place, row-on, row-is, unknown-off, free-place, free-on, none-free, only-row, unchanged}
@@ -83,9 +84,9 @@ module _ (rows : List Row) (address minute count : ℕ) (reply : List ℕ) (answ
   abbrev number : ℕ
   number = hearNumber (boardOf rows) address count reply
 
-  hear-refused : (n : ℕ) → eqb n 0 ≡ false → leb n 9 ≡ false → number ≡ n → (answer ≡ n) × (after ≡ rows)
+  hear-refused : (n : ℕ) → eqb n 0 ≡ false → setsFault n ≡ false → number ≡ n → (answer ≡ n) × (after ≡ rows)
   hear-refused n z l is =
-      (e .answers ∙ is, unchanged rows after (e .leaves ∙ ap (λ (b : List Row). b ++ beyond rows) (hear-keeps (boardOf rows) address minute count reply (ap (λ (m : ℕ). eqb m 0) is ∙ z) (ap (λ (m : ℕ). leb m 9) is ∙ l))))
+      (e .answers ∙ is, unchanged rows after (e .leaves ∙ ap (λ (b : List Row). b ++ beyond rows) (hear-keeps (boardOf rows) address minute count reply (ap (λ (m : ℕ). eqb m 0) is ∙ z) (ap (λ (m : ℕ). setsFault m) is ∙ l))))
 
   -- the number is the frame's, by the settings of the row
   by-frame : address ≤ 999 → formed count reply ≡ true → (i : ℕ) → IsRowOf rows address i → number ≡ replyFault (rowAt rows i .settings) address count reply
@@ -103,7 +104,7 @@ module _ (rows : List Row) (address minute count : ℕ) (reply : List ℕ) (answ
         most,
         placed rows after (placeOf address (boardOf rows)) i (withFault (rowOf address (boardOf rows)) number) (withFault (rowAt rows i) fault) (sym (row-place rows address i p))
             (ap (λ (r : Row). withFault r number) (row-is rows address i p) ∙ ap (λ (n : ℕ). withFault (rowAt rows i) n) same) (row-on rows address i p)
-            (e .leaves ∙ ap (λ (b : List Row). b ++ beyond rows) (hear-faults (boardOf rows) address minute count reply (ap (λ (m : ℕ). eqb m 0) same ∙ is .1) (ap (λ (m : ℕ). leb m 9) same ∙ le-leb fault 9 most))),
+            (e .leaves ∙ ap (λ (b : List Row). b ++ beyond rows) (hear-faults (boardOf rows) address minute count reply (ap (λ (m : ℕ). eqb m 0) same ∙ is .1) (ap (λ (m : ℕ). setsFault m) same ∙ sets-by fault some most))),
       )
     where
       positive : (n : ℕ) → eqb n 0 ≡ false → 1 ≤ n
@@ -122,10 +123,10 @@ module _ (rows : List Row) (address minute count : ℕ) (reply : List ℕ) (answ
   hear-promise : HearPromise rows address minute count reply answer after
   hear-promise =
       record {
-        bad-address = λ a. hear-refused 11 refl refl (hear-11 (boardOf rows) address count reply a);
-        bad-form = λ a f. hear-refused 14 refl refl (hear-14 (boardOf rows) address count reply a f);
-        unknown = λ a f u. hear-refused 17 refl refl (hear-17 (boardOf rows) address count reply a f (unknown-off rows address u));
-        bad-settings = λ a f i p s. hear-refused 10 refl refl (by-frame a f i p ∙ settings-10 (rowAt rows i .settings) address count reply s);
+        bad-address = λ a. hear-refused 11 refl not-11 (hear-11 (boardOf rows) address count reply a);
+        bad-form = λ a f. hear-refused 14 refl not-14 (hear-14 (boardOf rows) address count reply a f);
+        unknown = λ a f u. hear-refused 17 refl not-17 (hear-17 (boardOf rows) address count reply a f (unknown-off rows address u));
+        bad-settings = λ a f i p s. hear-refused 10 refl not-10 (by-frame a f i p ∙ settings-10 (rowAt rows i .settings) address count reply s);
         faulty = hear-faulty;
         heard = hear-heard;
       }

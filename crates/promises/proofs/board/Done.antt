@@ -4,16 +4,17 @@ use mathlib.Core.Bool.{Bool, true, false, not}
 use mathlib.Core.List.{List, _++_}
 use Prim.Native.Nat.{ℕ, _<_, _≤_}
 use native.Mathlib.Omega.{arith}
-use lib.Dec.{eqb, leb}
+use lib.Dec.{eqb}
 use lib.ListN.{length, set, length-set}
 use lib.Seq.{getD-set-same, getD-set-other}
-use borrow.Author.Tests.{eqb-true, eqb-false, leb-true, leb-false}
+use borrow.Author.Tests.{eqb-true, eqb-false}
 use Rattle.frame.specs.Line.{line, formed}
 use Rattle.frame.specs.Reply.{replyFault, readingAt}
 use Rattle.board.specs.declared.Row.{Row}
-use Rattle.board.specs.Row.{isFree, freeRow, newRow, withReading, withFault}
+use Rattle.board.specs.Row.{isFree, freeRow, newRow, withReading, withFault, setsFault}
 use Rattle.board.specs.Rows.{boardOf, beyond, holds, placeOf, placeFree, rowOf}
 use Rattle.board.specs.Calls.{Enrols, Hears, Removes, enrolNumber, hearNumber, findNumber}
+use Rattle.board.proofs.Faults.{not-11, not-14, not-17}
 use Rattle.board.proofs.Numbers.{enrol-10, enrol-11, enrol-18, enrol-19, hear-11, hear-14, hear-17, hear-read, find-11, find-17}
 use Rattle.promises.specs.board.Calls.{rowAt, OnBoard, IsRowOf, Unknown, IsFirstFree, NoFree, at-row, unknown, at-free, none-free, BoardCases, OnlyRow}
 use Rattle.promises.proofs.board.Places.{board-on, on-board, same-row, is-holds, place-row, at-place, before-place, set-rows, unchanged}
@@ -114,8 +115,8 @@ remove-done rows address answer after e = go (eqb (findNumber (boardOf rows) add
 
 -- A hearing: nothing has changed, or the row of the address has its fault set, or its reading.
 pub data Heard (rows : List Row) (address minute count : ℕ) (reply : List ℕ) (answer : ℕ) (after : List Row) : Type 0 where
-  not-heard : 9 < answer → after ≡ rows → Heard rows address minute count reply answer after
-  faulty : eqb answer 0 ≡ false → answer ≤ 9 → address ≤ 999 → IsRowOf rows address (placeOf address (boardOf rows)) → after ≡ set rows (placeOf address (boardOf rows)) (withFault (rowAt rows (placeOf address (boardOf rows))) answer) → Heard rows address minute count reply answer after
+  not-heard : eqb answer 0 ≡ false → setsFault answer ≡ false → after ≡ rows → Heard rows address minute count reply answer after
+  faulty : setsFault answer ≡ true → address ≤ 999 → IsRowOf rows address (placeOf address (boardOf rows)) → after ≡ set rows (placeOf address (boardOf rows)) (withFault (rowAt rows (placeOf address (boardOf rows))) answer) → Heard rows address minute count reply answer after
   good : answer ≡ 0 → address ≤ 999 → IsRowOf rows address (placeOf address (boardOf rows)) → replyFault (rowAt rows (placeOf address (boardOf rows)) .settings) address count reply ≡ 0
       → after ≡ set rows (placeOf address (boardOf rows)) (withReading (rowAt rows (placeOf address (boardOf rows))) (readingAt (rowAt rows (placeOf address (boardOf rows)) .settings) count (line reply)) minute) → Heard rows address minute count reply answer after
 
@@ -126,48 +127,53 @@ module _ (rows : List Row) (address minute count : ℕ) (reply : List ℕ) (answ
   abbrev place : ℕ
   place = placeOf address (boardOf rows)
 
-  -- a number up to 9 is the frame's, for a row that was found
+  -- a number that reaches the row: none, or a fault that is set
+  data Reaches : Type 0 where
+    by-none : number ≡ 0 → Reaches
+    by-fault : setsFault number ≡ true → Reaches
+
+  -- such a number is the frame's, for a row that was found
   abbrev ReadOn : Type 0
   ReadOn = (place < length (boardOf rows)) × (number ≡ replyFault (rowOf address (boardOf rows) .settings) address count reply) × (address ≤ 999)
 
-  read-on : number ≤ 9 → ReadOn
-  read-on small =
-      by-lt 999 address (λ a. absurd (large 11 (hear-11 (boardOf rows) address count reply a) (omega arith)))
+  refused-not : (n : ℕ) → eqb n 0 ≡ false → setsFault n ≡ false → number ≡ n → Reaches → ⊥
+  refused-not n z f is (by-none e) = eqb-false n 0 z (sym is ∙ e)
+  refused-not n z f is (by-fault e) = let b : _≡_ {A = Bool} true false = sym e ∙ ap (λ (m : ℕ). setsFault m) is ∙ f in let bad : _≡_ {A = ℕ} 0 1 = cc in omega arith
+
+  read-on : Reaches → ReadOn
+  read-on reached =
+      by-lt 999 address (λ a. absurd (refused-not 11 refl not-11 (hear-11 (boardOf rows) address count reply a) reached))
       (λ a. form a (formed count reply) refl)
     where
-      large : (n : ℕ) → number ≡ n → 9 < n → ⊥
-      large n is l = omega arith
-
       form : address ≤ 999 → (t : Bool) → formed count reply ≡ t → ReadOn
-      form a false f = absurd (large 14 (hear-14 (boardOf rows) address count reply a f) (omega arith))
+      form a false f = absurd (refused-not 14 refl not-14 (hear-14 (boardOf rows) address count reply a f) reached)
       form a true f =
           by-lt place (length (boardOf rows)) (λ l. (l, hear-read (boardOf rows) address count reply a f l, a))
-          (λ l. absurd (large 17 (hear-17 (boardOf rows) address count reply a f l) (omega arith)))
+          (λ l. absurd (refused-not 17 refl not-17 (hear-17 (boardOf rows) address count reply a f l) reached))
 
-  same : number ≤ 9 → rowOf address (boardOf rows) ≡ rowAt rows place
-  same small = same-row rows place (read-on small .0)
+  same : Reaches → rowOf address (boardOf rows) ≡ rowAt rows place
+  same reached = same-row rows place (read-on reached .0)
 
   sets : (row : Row) → place < length (boardOf rows) → after ≡ set (boardOf rows) place row ++ beyond rows → after ≡ set rows place row
   sets row l is = is ∙ set-rows rows place row l
 
   pub hear-done : Heard rows address minute count reply answer after
-  hear-done = go (eqb number 0) refl (leb number 9) refl
+  hear-done = go (eqb number 0) refl (setsFault number) refl
     where
-      go : (t : Bool) → eqb number 0 ≡ t → (u : Bool) → leb number 9 ≡ u → Heard rows address minute count reply answer after
+      go : (t : Bool) → eqb number 0 ≡ t → (u : Bool) → setsFault number ≡ u → Heard rows address minute count reply answer after
       go true t u w =
           let z : number ≡ 0 = eqb-true number 0 t in
-          let small : number ≤ 9 = omega arith in
+          let small = by-none z in
           let l = read-on small .0 in
           good (e .answers ∙ z) (read-on small .2) (place-row rows address l) (ap (λ (r : Row). replyFault (r .settings) address count reply) (sym (same small)) ∙ sym (read-on small .1) ∙ z)
           (sets _ l (e .leaves ∙ ap (λ (b : List Row). b ++ beyond rows) (hear-sets (boardOf rows) address minute count reply z)
           ∙ ap (λ (r : Row). set (boardOf rows) place (withReading r (readingAt (r .settings) count (line reply)) minute) ++ beyond rows) (same small)))
       go false t true w =
-          let small : number ≤ 9 = leb-true number 9 w in
+          let small = by-fault w in
           let l = read-on small .0 in
-          faulty (ap (λ (n : ℕ). eqb n 0) (e .answers) ∙ t) (omega (arith, e .answers)) (read-on small .2) (place-row rows address l)
+          faulty (ap (λ (n : ℕ). setsFault n) (e .answers) ∙ w) (read-on small .2) (place-row rows address l)
           (sets _ l (e .leaves ∙ ap (λ (b : List Row). b ++ beyond rows) (hear-faults (boardOf rows) address minute count reply t w)
           ∙ ap (λ (r : Row). set (boardOf rows) place (withFault r number) ++ beyond rows) (same small)
           ∙ ap (λ (n : ℕ). set (boardOf rows) place (withFault (rowAt rows place) n) ++ beyond rows) (sym (e .answers))))
       go false t false w =
-          let big : 9 < number = leb-false number 9 w in
-          not-heard (omega (arith, e .answers)) (unchanged rows after (e .leaves ∙ ap (λ (b : List Row). b ++ beyond rows) (hear-keeps (boardOf rows) address minute count reply t w)))
+          not-heard (ap (λ (n : ℕ). eqb n 0) (e .answers) ∙ t) (ap (λ (n : ℕ). setsFault n) (e .answers) ∙ w) (unchanged rows after (e .leaves ∙ ap (λ (b : List Row). b ++ beyond rows) (hear-keeps (boardOf rows) address minute count reply t w)))

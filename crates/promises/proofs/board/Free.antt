@@ -5,7 +5,7 @@ use mathlib.Core.Bool.{Bool, true, false, not, _&&_}
 use mathlib.Core.List.{List, [], _∷_, _++_, map, append-nil}
 use Prim.Native.Nat.{ℕ, zero, suc, _<_, _≤_, min}
 use native.Mathlib.Omega.{arith}
-use lib.Dec.{eqb, leb, ltb}
+use lib.Dec.{eqb, ltb}
 use lib.ListN.{length, set, getD, length-map, length-set, length-take, drop-of-length-le, List·getD-map, List·getD-eq-default}
 use lib.Seq.{take-at, take-all}
 use borrow.Author.Tests.{ltb-true, ltb-false}
@@ -14,7 +14,7 @@ use Rattle.frame.specs.Line.{line, formed}
 use Rattle.frame.specs.Pick.{pick}
 use Rattle.frame.specs.Reply.{replyFault, readingAt}
 use Rattle.board.specs.declared.Row.{Row}
-use Rattle.board.specs.Row.{isFree, inUse, freeRow, newRow, withReading, withFault}
+use Rattle.board.specs.Row.{isFree, inUse, freeRow, newRow, withReading, withFault, setsFault}
 use Rattle.board.specs.Rows.{boardOf, beyond, holds, placeBy, placeOf, placeFree, rowOf, onBoard, hasFree}
 use Rattle.board.specs.Calls.{enrolNumber, enrolRows, hearNumber, hearRows, findNumber, removeRows, lookedAt, told, refusedLook}
 use Rattle.board.proofs.Places.{place-at}
@@ -135,10 +135,10 @@ module _ (x y : List Row) (alike : map cleared x ≡ map cleared y) where
 
       -- what a hearing leaves, by its number
       abbrev left : List Row → Row → ℕ → ℕ → List Row
-      left zs row i n = pick (eqb n 0) (set zs i (withReading row (readingAt (row .settings) count (line reply)) minute)) (pick (leb n 9) (set zs i (withFault row n)) zs)
+      left zs row i n = pick (eqb n 0) (set zs i (withReading row (readingAt (row .settings) count (line reply)) minute)) (pick (setsFault n) (set zs i (withFault row n)) zs)
 
       left-alike : (row : Row) (i j n : ℕ) → i ≡ j → map cleared (left x row i n) ≡ map cleared (left y row j n)
-      left-alike row i j n e = go (eqb n 0) (leb n 9)
+      left-alike row i j n e = go (eqb n 0) (setsFault n)
         where
           go : (s t : Bool) → map cleared (pick s (set x i (withReading row (readingAt (row .settings) count (line reply)) minute)) (pick t (set x i (withFault row n)) x)) ≡ map cleared (pick s (set y j (withReading row (readingAt (row .settings) count (line reply)) minute)) (pick t (set y j (withFault row n)) y))
           go true t = set-alike i j (withReading row (readingAt (row .settings) count (line reply)) minute) e
@@ -188,7 +188,7 @@ remove-length address board = pick-length (eqb (findNumber board address) 0) (se
 
 hear-length : (address minute count : ℕ) (reply : List ℕ) (board : List Row) → length (hearRows board address minute count reply) ≡ length board
 unfolding hearRows
-hear-length address minute count reply board = go (eqb (hearNumber board address count reply) 0) (leb (hearNumber board address count reply) 9)
+hear-length address minute count reply board = go (eqb (hearNumber board address count reply) 0) (setsFault (hearNumber board address count reply))
   where
     go : (s t : Bool) → length (pick s (set board (placeOf address board) (withReading (rowOf address board) (readingAt (rowOf address board .settings) count (line reply)) minute)) (pick t (set board (placeOf address board) (withFault (rowOf address board) (hearNumber board address count reply))) board)) ≡ length board
     go true t = length-set board _ _

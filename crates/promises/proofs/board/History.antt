@@ -39,8 +39,8 @@ data Step (rows : List Row) : List Row → Type 0 where
   sets : {after : List Row} (i : ℕ) (row : Row) → OnBoard rows i → after ≡ set rows i row → Step rows after
 
 hear-step : {rows after : List Row} {address minute count answer : ℕ} {reply : List ℕ} → Heard rows address minute count reply answer after → Step rows after
-hear-step (not-heard l e) = nothing e
-hear-step (faulty z l a p e) = sets _ _ (p .place) e
+hear-step (not-heard z l e) = nothing e
+hear-step (faulty l a p e) = sets _ _ (p .place) e
 hear-step (good z a p f e) = sets _ _ (p .place) e
 
 enrol-step : {rows after : List Row} {settings address answer : ℕ} → Enrolled rows settings address answer after → Step rows after
@@ -120,8 +120,8 @@ enrol-twice rows after settings address answer (not-enrolled z e) once = same-tw
 enrol-twice rows after settings address answer (took z a u p e) once = one-new rows after (placeFree (boardOf rows)) (newRow settings address) (set-only rows after (placeFree (boardOf rows)) (newRow settings address) (p .place) e) address refl u once
 
 hear-twice : (rows after : List Row) (address minute count : ℕ) (reply : List ℕ) (answer : ℕ) → Heard rows address minute count reply answer after → NoneTwice rows → NoneTwice after
-hear-twice rows after address minute count reply answer (not-heard l e) once = same-twice rows after e once
-hear-twice rows after address minute count reply answer (faulty z l a p e) once =
+hear-twice rows after address minute count reply answer (not-heard z l e) once = same-twice rows after e once
+hear-twice rows after address minute count reply answer (faulty l a p e) once =
     fewer-set rows after _ _ (set-only rows after _ _ (p .place) e) (λ b h. record { used = h .used; same = h .same }) once
 hear-twice rows after address minute count reply answer (good z a p f e) once =
     fewer-set rows after _ _ (set-only rows after _ _ (p .place) e) (λ b h. record { used = h .used; same = h .same }) once
@@ -161,8 +161,8 @@ enrol-used rows after settings address answer (took z a u p e) =
     counts rows after (placeFree (boardOf rows)) (newRow settings address) (p .place) e true false (p .free) refl ∙ sym (ap (λ (n : ℕ). more n (used (boardOf rows))) z)
 
 hear-used : (rows after : List Row) (address minute count : ℕ) (reply : List ℕ) (answer : ℕ) → Heard rows address minute count reply answer after → used (boardOf after) ≡ used (boardOf rows)
-hear-used rows after address minute count reply answer (not-heard l e) = ap (λ (zs : List Row). used (boardOf zs)) e
-hear-used rows after address minute count reply answer (faulty z l a p e) =
+hear-used rows after address minute count reply answer (not-heard z l e) = ap (λ (zs : List Row). used (boardOf zs)) e
+hear-used rows after address minute count reply answer (faulty l a p e) =
     let f = used-not-free (isFree (rowAt rows (placeOf address (boardOf rows)))) (p .here .used) in
     let s = counts rows after _ _ (p .place) e false false f f in
     omega arith

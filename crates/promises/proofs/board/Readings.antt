@@ -16,6 +16,7 @@ use Rattle.board.specs.declared.Row.{Row}
 use Rattle.board.specs.Row.{none, good, isFree, lastOf, freeRow, newRow, withReading, withFault}
 use Rattle.board.specs.Rows.{boardOf, placeOf, placeFree}
 use Rattle.board.specs.Calls.{Hears, LooksUp, told, refusedLook, lastTold}
+use Rattle.board.proofs.Faults.{sets-by, not-0}
 use Rattle.board.proofs.Numbers.{find-11, find-17, find-0}
 use Rattle.promises.specs.board.Calls.{rowAt, OnBoard, Holds, IsRowOf, Unknown, OnlyRow, Tells}
 use Rattle.promises.specs.board.Readings.{Reads, BoardReadings}
@@ -27,6 +28,9 @@ use Rattle.promises.proofs.board.Done.{set-only, off-unknown, Enrolled,
 
 never : {A : Type 0} → (n : ℕ) → eqb n 0 ≡ false → n ≡ 0 → A
 never n e z = absurd (eqb-false n 0 e z)
+
+differs : {b : Bool} → b ≡ true → b ≡ false → ⊥
+differs e f = let z : _≡_ {A = Bool} true false = sym e ∙ f in let bad : _≡_ {A = ℕ} 0 1 = cc in omega arith
 
 -- The row of an address is its row still where that row alone was set, to one that holds the address.
 module _ (rows after : List Row) (address i : ℕ) (row : Row) (only : OnlyRow rows i row after) where
@@ -119,8 +123,8 @@ module _ (rows after : List Row) (address minute count : ℕ) (reply : List ℕ)
     frame : replyFault (row .settings) address count reply ≡ 0
 
   good-by : Heard rows address minute count reply 0 after → GoodLook
-  good-by (not-heard l e) = absurd (omega arith)
-  good-by (faulty z l a p e) = never 0 z refl
+  good-by (not-heard z l e) = never 0 z refl
+  good-by (faulty l a p e) = absurd (differs l not-0)
   good-by (well-heard z a p f e) =
       let only : OnlyRow rows place (withReading row reading minute) after = set-only rows after place (withReading row reading minute) (p .place) e in
       let t = told-set rows after address place (withReading row reading minute) answer only a (p .place) (record { used = p .here .used; same = p .here .same }) (p .first) looks in
@@ -145,9 +149,9 @@ module _ (rows after : List Row) (address minute count : ℕ) (reply : List ℕ)
 -- A hearing that answered 1 to 9.
 module _ (rows after : List Row) (address minute count fault : ℕ) (reply : List ℕ) (before answer : Looked) (some : 1 ≤ fault) (most : fault ≤ 9) (looked : LooksUp rows address before) (looks : LooksUp after address answer) where
   kept-by : Heard rows address minute count reply fault after → (answer .number ≡ 0) × (answer .fault ≡ fault) × (answer .settings ≡ before .settings) × (lastTold answer ≡ lastTold before)
-  kept-by (not-heard l e) = absurd (omega arith)
+  kept-by (not-heard z l e) = absurd (differs (sets-by fault some most) l)
   kept-by (well-heard z a p f e) = absurd (omega arith)
-  kept-by (faulty z l a p e) =
+  kept-by (faulty l a p e) =
       let i : ℕ = placeOf address (boardOf rows) in
       let only : OnlyRow rows i (withFault (rowAt rows i) fault) after = set-only rows after i (withFault (rowAt rows i) fault) (p .place) e in
       let t = told-set rows after address i (withFault (rowAt rows i) fault) answer only a (p .place) (record { used = p .here .used; same = p .here .same }) (p .first) looks in
@@ -172,8 +176,8 @@ module _ (rows after : List Row) (address other : ℕ) (ne : other ≡ address �
   free-holds-none row f h = let u : not (isFree row) ≡ true = h .used in let z : _≡_ {A = Bool} false true = sym (ap not f) ∙ u in let bad : _≡_ {A = ℕ} 0 1 = cc in omega arith
 
   hear-by : (minute count : ℕ) (reply : List ℕ) (answer : ℕ) → Heard rows other minute count reply answer after → Apart rows after address
-  hear-by minute count reply answer (not-heard l e) = apart-same rows after address e
-  hear-by minute count reply answer (faulty z l a p e) =
+  hear-by minute count reply answer (not-heard z l e) = apart-same rows after address e
+  hear-by minute count reply answer (faulty l a p e) =
       apart-set rows after address _ _ (set-only rows after _ _ (p .place) e) (not-both (rowAt rows (placeOf other (boardOf rows))) (p .here .same)) (not-both (withFault (rowAt rows (placeOf other (boardOf rows))) answer) (p .here .same))
   hear-by minute count reply answer (well-heard z a p f e) =
       apart-set rows after address _ _ (set-only rows after _ _ (p .place) e) (not-both (rowAt rows (placeOf other (boardOf rows))) (p .here .same)) (not-both _ (p .here .same))

@@ -54,8 +54,8 @@ use borrow.Author.Tests.{ltb-true, ltb-false}
 use Rattle.board.specs.declared.Row.{Row}
 use Rattle.board.specs.declared.value.Board.{Board}
 use Rattle.board.specs.Row.{freeRow}
-use Rattle.board.specs.ByValue.{Loaded, counted}
-use Rattle.board.proofs.LentRows.{lies, counted-le, counted-few, take-counted, length-counted, copied}
+use Rattle.board.specs.inside.ByValue.{Loaded, counted}
+use Rattle.board.proofs.LentRows.{rowBytes, lies, counted-le, counted-few, take-counted, length-counted, copied}
 use Rattle.board.proofs.Row as T
 use Rattle.board.proofs.Row.Laws as T′
 use Rattle.board.proofs.value.Board as B
@@ -269,7 +269,7 @@ module _ {M : Type 1} (𝓤 : URA M) (H : Heap 𝓤) (A : Atoms 𝓤) (W : Given
         rewrite ! 16 (λ (t : Bool). ‵ (fat fullShare tyBool l₇ 0 (vbool t))) e refl $ stays ! (load ! (from ! (stop !)) (look ! 16 refl)) $
         assigns ! (bin ! (load ! (from ! (stop !)) (look ! 22 refl)) (lit ! tt) (record { fits = lies (s .i) (length ys) l (gn .1) })) (from ! (stop !)) (init ! 14 refl (tt, record { fits = lies (s .i) (length ys) l (gn .1) })) $
         assigns ! (bin ! (load ! (from ! (fld ! refl (stop !))) (look-in ! 27 (sub ! 0 refl (whole !)))) (load ! (from ! (stop !)) (look ! 14 refl)) tt) (from ! (stop !)) (init ! 12 refl (tt, tt)) $
-        rewrite ! 12 (λ (p : ℕ). ‵ (fat fullShare tyPtr l₉ 0 (vptr b p))) (sym (place-is 16 o (s .i))) refl $
+        rewrite ! 12 (λ (p : ℕ). ‵ (fat fullShare tyPtr l₉ 0 (vptr b p))) (sym (place-is rowBytes o (s .i))) refl $
         looks-slice ! tt T.the-row (Is T.the-row) (shows 𝓤 H A T.the-row) vals (LL.tells T.the-type T′.the-laws) (LL.copy T.the-type T′.the-copy 𝓤 H A W) ys b o (λ q′. elem-out ! T.the-row (Is T.the-row) (shows 𝓤 H A T.the-row) vals (LL.tells T.the-type T′.the-laws) q′ ys (s .i) freeRow b o l (λ g.
         -- [rows[i]; what it owns; the others; what shuts; the fractured borrow; the array's rows; what the slice owns; _13; …]
         assigns ! (of-opd ! (load ! (from ! (hop ! (look ! 15 refl) (stop !))) (look-raw ! 0 refl))) (from ! (stop !)) (init ! 13 refl (LL.lawful T.the-type T′.the-laws 𝓤 H A W .typed (getD ys (s .i) freeRow) _ g .0)) $
@@ -278,7 +278,7 @@ module _ {M : Type 1} (𝓤 : URA M) (H : Heap 𝓤) (A : Atoms 𝓤) (W : Given
         assigns ! (bin ! (load ! (from ! (stop !)) (look ! 22 refl)) (lit ! tt) (record { fits = lies (s .i) (length ys) l (gn .1) })) (from ! (stop !)) (init ! 8 refl (tt, record { fits = lies (s .i) (length ys) l (gn .1) })) $
         assigns ! (addr ! (from ! (stop !))) (from ! (stop !)) (init ! 6 refl (tt, tt)) $
         assigns ! (bin ! (load ! (from ! (stop !)) (look ! 6 refl)) (load ! (from ! (stop !)) (look ! 8 refl)) tt) (from ! (stop !)) (init ! 4 refl (tt, tt)) $
-        rewrite ! 4 (λ (p : ℕ). ‵ (fat fullShare tyPtr l₁₃ 0 (vptr l₃ p))) (sym (place-is 16 0 (s .i))) refl $
+        rewrite ! 4 (λ (p : ℕ). ‵ (fat fullShare tyPtr l₁₃ 0 (vptr l₃ p))) (sym (place-is rowBytes 0 (s .i))) refl $
         move ! (2 ∷ []) $ elem-out ! T.the-row (Is T.the-row) (shows 𝓤 H A T.the-row) vals (LL.tells T.the-type T′.the-laws) fullShare (s .xs) (s .i) freeRow l₃ 0 h (λ _.
         -- [held[i]; what it owns; the others; the token; the fractured borrow; what the slice owns; _13; …]
         assigns ! (of-opd ! (load ! (from ! (stop !)) (look ! 12 refl))) (from ! (hop ! (look ! 6 refl) (stop !))) (store-raw ! 0 refl (LL.lawful T.the-type T′.the-laws 𝓤 H A W .typed (getD ys (s .i) freeRow) _ g .0)) $

@@ -48,8 +48,8 @@ use Rattle.frame.specs.Pick.{pick}
 use Rattle.board.specs.declared.Row.{Row}
 use Rattle.board.specs.declared.value.Change.{Change}
 use Rattle.board.specs.Row.{freeRow}
-use Rattle.board.specs.ByValue.{putIn}
-use Rattle.board.proofs.LentRows.{lies}
+use Rattle.board.specs.inside.ByValue.{putIn}
+use Rattle.board.proofs.LentRows.{rowBytes, lies}
 use Rattle.board.proofs.Row as T
 use Rattle.board.proofs.Row.Laws as T′
 use Rattle.board.proofs.value.Change as D
@@ -141,7 +141,7 @@ module _ {M : Type 1} (𝓤 : URA M) (H : Heap 𝓤) (A : Atoms 𝓤) (W : Given
         let is-row = LL.owed D.the-type D′.the-laws c _ is-c .1 .0 in
         assigns ! (bin ! (load ! (from ! (stop !)) (look ! 10 refl)) (lit ! tt) (record { fits = lies (c .at) (length ys) l (gn .1) })) (from ! (stop !)) (init ! 6 refl (tt, record { fits = lies (c .at) (length ys) l (gn .1) })) $
         assigns ! (bin ! (load ! (from ! (fld ! refl (stop !))) (look-in ! 16 (sub ! 0 refl (whole !)))) (load ! (from ! (stop !)) (look ! 6 refl)) tt) (from ! (stop !)) (init ! 4 refl (tt, tt)) $
-        rewrite ! 4 (λ (p : ℕ). ‵ (fat fullShare tyPtr l₇ 0 (vptr b p))) (sym (place-is 16 o (c .at))) refl $
+        rewrite ! 4 (λ (p : ℕ). ‵ (fat fullShare tyPtr l₇ 0 (vptr b p))) (sym (place-is rowBytes o (c .at))) refl $
         opens-slice ! tt T.the-row ys b o $ elem-out ! T.the-row (Is T.the-row) (shows 𝓤 H A T.the-row) vals (LL.tells T.the-type T′.the-laws) fullShare ys (c .at) freeRow b o l (λ _.
         -- [the row in its place; what it owns; the others; the open borrow; obs; auth; what n and c own; _7; …]
         assigns-last ! (of-opd ! (load ! (from ! (fld ! refl (stop !))) (look-in ! 15 (sub ! 1 refl (whole !))))) (from ! (hop ! (look ! 7 refl) (stop !))) (store-raw ! 0 refl (LL.lawful T.the-type T′.the-laws 𝓤 H A W .typed (c .row) _ is-row .0)) $

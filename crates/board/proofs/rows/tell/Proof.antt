@@ -1,13 +1,8 @@
--- `board::rows::tell` meets its contract: a row with no reading, one with degrees, and one whose kind tells no degrees.
-use mathlib.Core.Path.{sym, _∙_, ap}
-use mathlib.Core.Bool.{Bool}
-use lib.IntN.{pos}
-use Rattle.board.proofs.Told.{toldAs, told-none, told-some}
-use Rattle.frame.specs.Pick.{pick}
-use Rattle.board.specs.ByValue.{kindTold}
+-- `board::rows::tell` meets its contract: a row with no reading, and one whose reading is told by the temperature that its kind and tenths stand for.
+use mathlib.Core.Path.{sym}
+use Rattle.board.proofs.Told.{told-none, told-some}
 use mir.Syntax.{w16}
 use mir.Facts.{toZ-ofZ}
-use borrow.Author.Tests.{eq-eqb, ne-eqb}
 use borrow.Author.Needs.{needs}
 use Rattle.board.proofs.rows.tell.Statement.{statement}
 use Rattle.board.proofs.rows.tell.Tie as tie
@@ -18,8 +13,14 @@ refused-look-requires c κs = search needs
 returns : tie.Need-returns
 returns c = let s = c .before .before in simp (s .refused-look .ensures) (sym (told-none (s .before .args .row) (c .if1 .taken)))
 
-kind-told-requires : tie.Need-kind-told-requires
-kind-told-requires c κs = search needs
+temperature-by-requires : tie.Need-temperature-by-requires
+temperature-by-requires c κs = search needs
+
+tenths-of-requires : tie.Need-tenths-of-requires
+tenths-of-requires c κs = search needs
+
+kind-of-requires : tie.Need-kind-of-requires
+kind-of-requires c κs = search needs
 
 marked-requires : tie.Need-marked-requires
 marked-requires c κs = search needs
@@ -29,23 +30,13 @@ marked-requires-2 c κs = search needs
 
 returns-2 : tie.Need-returns-2
 returns-2 c =
-    let m2 = c .before .before .before in
-    let m1 = m2 .before .before in
-    let k = m1 .before .before in
-    let n = k .before .before .before in
+    let m = c .before .before in
+    let k = m .before .before in
+    let d = k .before in
+    let t = d .before in
+    let n = t .before .before .before .before in
     let row = n .before .args .row in
-    simp (n .refused-look .ensures, k .kind-told .ensures, m1 .marked .ensures, m2 .marked2 .ensures, toZ-ofZ {w = w16} {z = row .tenths} (record { sfits = c .struct-told .given .1 .1 .1 .0 .1 }))
-    (sym (told-some row (k .before .if1 .left) ∙ ap (λ (t : Bool). toldAs row (kindTold (row .kind)) (pick t (row .tenths) (pos 0))) (eq-eqb (row .kind) 1 (c .before .if2 .taken))))
-
-returns-3 : tie.Need-returns-3
-returns-3 c =
-    let m2 = c .before .before in
-    let m1 = m2 .before .before in
-    let k = m1 .before .before in
-    let n = k .before .before .before in
-    let row = n .before .args .row in
-    simp (n .refused-look .ensures, k .kind-told .ensures, m1 .marked .ensures, m2 .marked2 .ensures)
-    (sym (told-some row (k .before .if1 .left) ∙ ap (λ (t : Bool). toldAs row (kindTold (row .kind)) (pick t (row .tenths) (pos 0))) (ne-eqb (row .kind) 1 (c .if2 .left))))
+    simp (n .refused-look .ensures, t .temperature-by .ensures, toZ-ofZ {w = w16} {z = row .tenths} (record { sfits = t .before .struct-told .given .1 .1 .1 .0 .1 }), d .tenths-of .ensures, k .kind-of .ensures, m .marked .ensures, c .marked2 .ensures) (sym (told-some row (t .before .before .if1 .left)))
 
 pub tell-spec : {M : Type 1} → statement M
 tell-spec =
@@ -53,8 +44,9 @@ tell-spec =
     (tie.spec
     refused-look-requires
     returns
-    kind-told-requires
+    temperature-by-requires
+    tenths-of-requires
+    kind-of-requires
     marked-requires
     marked-requires-2
-    returns-2
-    returns-3)
+    returns-2)

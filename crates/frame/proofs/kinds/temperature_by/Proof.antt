@@ -1,9 +1,9 @@
--- `recorder::told::temperature_by` meets its contract, arm by arm.
+-- `frame::kinds::temperature_by` meets its contract, arm by arm.
 use borrow.Author.Tests.{ne-eqb}
 use mir.Syntax.{w16}
 use mir.Facts.{toZ-ofZ}
-use Rattle.recorder.proofs.told.temperature_by.Statement.{statement}
-use Rattle.recorder.proofs.told.temperature_by.Tie as tie
+use Rattle.frame.proofs.kinds.temperature_by.Statement.{statement}
+use Rattle.frame.proofs.kinds.temperature_by.Tie as tie
 
 returns : tie.Need-returns
 returns c = simp (c .match .keys1, toZ-ofZ {w = w16} {z = c .before .args .tenths} (c .before .fits .tenths))

@@ -3,28 +3,19 @@
 use mathlib.Core.Path.{_≡_}
 use mathlib.Core.List.{List}
 use Prim.Native.Nat.{ℕ, _<_, _≤_}
-use lib.Dec.{eqb, leb, ltb}
+use lib.Dec.{ltb}
 use lib.ListN.{length, take, set}
 use Rattle.frame.specs.declared.Reply.{Reply}
 use Rattle.frame.specs.declared.Reply.the-variants.{Read, Refused}
-use Rattle.frame.specs.declared.Temperature.{Temperature}
 use Rattle.frame.specs.Pick.{pick}
+use Rattle.board.specs.declared.Looked.{Looked}
 use Rattle.board.specs.declared.Row.{Row}
 use Rattle.board.specs.declared.value.Board.{Board}
 use Rattle.board.specs.declared.value.Change.{Change}
 use Rattle.board.specs.declared.value.Found.{Found}
-use Rattle.board.specs.Row.{kindOf, tenthsOf, freeRow, withReading, withFault}
-use Rattle.board.specs.Rows.{boardOf, placeOf, rowOf}
-use Rattle.board.specs.Calls.{hearNumber, hearRows}
-
--- A row with the kind and the tenths of a temperature.
-abbrev pub withTemperature : Row → Temperature → Row
-withTemperature row t =
-    record { minute = row .minute; address = row .address; level = row .level; tenths = tenthsOf t; settings = row .settings; fault = row .fault; used = row .used; kind = kindOf t; alarm1 = row .alarm1; alarm0 = row .alarm0 }
-
--- The kind of the temperature that a kind stands for.
-abbrev pub kindTold : ℕ → ℕ
-kindTold kind = pick (eqb kind 1) 1 (pick (eqb kind 2) 2 (pick (eqb kind 3) 3 4))
+use Rattle.board.specs.Row.{isFree, freeRow, withReading, withFault, setsFault}
+use Rattle.board.specs.Rows.{boardOf, placeOf, rowOf, placeFree}
+use Rattle.board.specs.Calls.{enrolNumber, enrolRows, hearNumber, hearRows, findNumber, removeRows, lookedAt}
 
 -- The rows that a board by value holds.
 abbrev pub rowsOf : Board → List Row
@@ -36,11 +27,16 @@ pub record Loaded (rows : List Row) (b : Board) : Type 0 where
   pub held : rowsOf b ≡ boardOf rows
 
 -- What a search for an address finds on a board: how many rows it has, the place of the row, which is that number where there is
--- none, and the row where there is one.
+-- none, the row where there is one, and where there is none the first free place.
 pub record Finds (board : List Row) (address : ℕ) (f : Found) : Type 0 where
   pub count : f .n ≡ length board
   pub place : f .at ≡ placeOf address board
   pub there : f .at < f .n → f .row ≡ rowOf address board
+  pub vacant : f .n ≤ f .at → f .free ≡ placeFree board
+
+-- The first free place among the rows passed, or n, once row i has been passed too.
+abbrev pub freeAfter : ℕ → ℕ → ℕ → Row → ℕ
+freeAfter free n i row = pick (ltb free n) free (pick (isFree row) i n)
 
 -- How many of so many rows count.
 abbrev pub counted : ℕ → ℕ
@@ -62,8 +58,23 @@ refusal number = record { at = 30; row = freeRow; number = number }
 -- The change that a reply makes of the row at a place.
 abbrev pub heardChange : ℕ → Row → ℕ → Reply → Change
 heardChange at row minute (Read r) = record { at = at; row = withReading row r minute; number = 0 }
-heardChange at row minute (Refused n) = pick (leb n 9) (record { at = at; row = withFault row n; number = n }) (refusal n)
+heardChange at row minute (Refused n) = pick (setsFault n) (record { at = at; row = withFault row n; number = n }) (refusal n)
 
--- The change is that of hearing a reply, on every board of at most 30 rows on which a search finds f.
-pub record HearsOn (f : Found) (address minute count : ℕ) (reply : List ℕ) (c : Change) : Type 0 where
-  pub on : (board : List Row) → length board ≤ 30 → Finds board address f → Changes board (hearNumber board address count reply) (hearRows board address minute count reply) c
+-- The change is the call's on every board of at most 30 rows on which a search for the address finds f.
+pub record ChangesOn (f : Found) (address : ℕ) (number : List Row → ℕ) (after : List Row → List Row) (c : Change) : Type 0 where
+  pub on : (board : List Row) → length board ≤ 30 → Finds board address f → Changes board (number board) (after board) c
+
+abbrev pub EnrolsOn : Found → ℕ → ℕ → Change → Type 0
+EnrolsOn f settings address =
+    ChangesOn f address (λ board. enrolNumber board settings address) (λ board. enrolRows board settings address)
+
+abbrev pub HearsOn : Found → (address minute count : ℕ) (reply : List ℕ) → Change → Type 0
+HearsOn f address minute count reply =
+    ChangesOn f address (λ board. hearNumber board address count reply) (λ board. hearRows board address minute count reply)
+
+abbrev pub RemovesOn : Found → ℕ → Change → Type 0
+RemovesOn f address = ChangesOn f address (λ board. findNumber board address) (λ board. removeRows board address)
+
+-- The answer is that of looking, on every such board.
+pub record LooksOn (f : Found) (address : ℕ) (answer : Looked) : Type 0 where
+  pub on : (board : List Row) → Finds board address f → answer ≡ lookedAt board address

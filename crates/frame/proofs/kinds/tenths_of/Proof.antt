@@ -1,9 +1,9 @@
--- `board::rows::with_temperature` meets its contract, case by case of the temperature. The degrees fit an i16, as every value of the type does.
+-- `frame::kinds::tenths_of` meets its contract, case by case of the temperature. The degrees fit an i16, as every value of the type does.
 use mir.Syntax.{w16}
 use mir.Facts.{toZ-ofZ}
 use borrow.Author.Needs.{needs}
-use Rattle.board.proofs.rows.with_temperature.Statement.{statement}
-use Rattle.board.proofs.rows.with_temperature.Tie as tie
+use Rattle.frame.proofs.kinds.tenths_of.Statement.{statement}
+use Rattle.frame.proofs.kinds.tenths_of.Tie as tie
 
 enum-known-t : tie.Need-enum-known-t
 enum-known-t c = search needs
@@ -29,7 +29,7 @@ returns-3 c = simp (c .enum-told2 .given .1)
 returns-4 : tie.Need-returns-4
 returns-4 c = simp (c .enum-told3 .given .1)
 
-pub with-temperature-spec : {M : Type 1} → statement M
-with-temperature-spec =
+pub tenths-of-spec : {M : Type 1} → statement M
+tenths-of-spec =
     tie.close
     (tie.spec enum-known-t enum-told enum-told-2 enum-told-3 returns returns-2 returns-3 returns-4)
