@@ -1,7 +1,8 @@
 /*
  * A small host over libsisalcove.a: a month at a depot with two made-up transmitters. Twice a day it polls both, saves each reply on the
- * card and lets the board hear it. One reply is damaged on the line, one does not come, and once the power fails in the middle of a
- * save. At the end it prints the listing of the card and how the transmitters stand on the board.
+ * card and lets the board hear it. One reply is damaged on the line, one does not come, once the power fails in the middle of a save,
+ * and once right after its last store. At the end it prints the listing of the card and how the transmitters stand on the board.
+ * examples/desk.c is a day of the board's own calls.
  *
  * ./build-library && examples/run
  */
@@ -33,31 +34,11 @@ enum { TRANSMITTERS = sizeof site / sizeof site[0], DAYS = 31 };
 
 /* What comes back on the line. */
 struct line {
-    uint8_t bytes[8];
+    uint8_t bytes[SISAL_REPLY_MOST_BYTES];
     size_t count; /* bits */
 };
 
 static size_t bytes_of(const struct line *line) { return (line->count + 7) / 8; }
-
-/* A transmitter answers a poll of its own address, and no other. */
-static struct line answer(const struct transmitter *t, const uint8_t poll[2], int day, int dusk)
-{
-    struct line line = {{0}, 0};
-    struct sisal_poll asked = sisal_read_poll(poll, 2);
-    if (asked.number == SISAL_OK && asked.address == t->address) {
-        uint16_t level = (uint16_t)(t->level - day * t->a_day);
-        int16_t tenths = (int16_t)(t->tenths + (dusk ? t->by_dusk : 0));
-        uint8_t low = level < 1500;
-        struct sisal_done sent = sisal_write_reply(t->settings, t->address, level, SISAL_KIND_DEGREES, tenths, 0, low, line.bytes, sizeof line.bytes);
-        line.count = 8 * sent.count;
-    }
-    return line;
-}
-
-/* ---- the host -------------------------------------------------------------------------------------------------------------------- */
-
-static uint8_t card[SISAL_SHEET_MAX];
-static struct sisal_row board[SISAL_ROWS];
 
 /* A host that is refused what it never should be has a mistake in itself. */
 static void want(int holds, const char *what)
@@ -68,6 +49,27 @@ static void want(int holds, const char *what)
     }
 }
 
+/* A transmitter answers a poll of its own address, and no other. */
+static struct line answer(const struct transmitter *t, const uint8_t poll[SISAL_POLL_BYTES], int day, int dusk)
+{
+    struct line line = {{0}, 0};
+    struct sisal_poll asked = sisal_read_poll(poll, SISAL_POLL_BYTES);
+    if (asked.number == SISAL_OK && asked.address == t->address) {
+        uint16_t level = (uint16_t)(t->level - day * t->a_day);
+        int16_t tenths = (int16_t)(t->tenths + (dusk ? t->by_dusk : 0));
+        uint8_t low = level < 1500;
+        struct sisal_done sent = sisal_write_reply(t->settings, t->address, level, SISAL_KIND_DEGREES, tenths, 0, low, line.bytes, sizeof line.bytes);
+        want(sent.number == SISAL_OK, "no reply");
+        line.count = 8 * sent.count;
+    }
+    return line;
+}
+
+/* ---- the host -------------------------------------------------------------------------------------------------------------------- */
+
+static uint8_t card[SISAL_SHEET_BYTES];
+static struct sisal_row board[SISAL_ROWS];
+
 /* The board stands in memory that a power cut clears; the card keeps what is on it. */
 static void power_on(void)
 {
@@ -76,11 +78,14 @@ static void power_on(void)
         want(sisal_board_enrol(board, SISAL_ROWS, site[i].settings, site[i].address) == SISAL_OK, "not enrolled");
 }
 
-/* Polls one transmitter and saves what came; then the board hears it, unless the power held for so many stores only. */
+/*
+ * Polls one transmitter and saves what came, with power for so many stores; then the board hears it, if the power held. A save is cut
+ * where it made fewer stores than its record has: power for just so many is enough to close the record.
+ */
 static void poll_one(const struct transmitter *t, int day, int dusk, size_t stores)
 {
     uint32_t minute = (uint32_t)(day * 1440 + (dusk ? 1080 : 360));
-    uint8_t poll[2];
+    uint8_t poll[SISAL_POLL_BYTES];
     want(sisal_write_poll(t->address, 0, 0, poll, sizeof poll).number == SISAL_OK, "no poll");
 
     struct line line = answer(t, poll, day, dusk);
@@ -91,24 +96,33 @@ static void poll_one(const struct transmitter *t, int day, int dusk, size_t stor
 
     struct sisal_done saved = sisal_save(card, sizeof card, t->settings, minute, t->address, line.count, line.bytes, bytes_of(&line), stores);
     want(saved.number == SISAL_OK, "not saved");
-    if (saved.count == stores) {
-        printf("minute %u: power cut after %zu stores\n", minute, saved.count);
+    if (stores != SISAL_ALL_STORES) {
+        int cut = saved.count < SISAL_STORES(bytes_of(&line));
+        printf("minute %u: power gone after %zu stores, %s\n", minute, saved.count, cut ? "a record is lost" : "the record is closed");
         power_on();
         return;
     }
     /* 1 to 9 is a faulty reply, which the row keeps; anything above is a refusal */
     uint8_t heard = sisal_board_hear(board, SISAL_ROWS, t->address, minute, line.count, line.bytes, bytes_of(&line));
-    want(heard < SISAL_SETTINGS, "not heard");
+    want(heard <= SISAL_FAULT_TEMPERATURE, "not heard");
+}
+
+/* Stores before the power goes, twice in the month. */
+static size_t power(int day, int dusk, int i)
+{
+    if (day == 16 && dusk && i == 0)
+        return 9;
+    if (day == 23 && !dusk && i == 1)
+        return SISAL_STORES(SISAL_REPLY_56_BYTES);
+    return SISAL_ALL_STORES;
 }
 
 static void month(void)
 {
     for (int day = 0; day < DAYS; day++) {
         for (int dusk = 0; dusk < 2; dusk++) {
-            for (int i = 0; i < TRANSMITTERS; i++) {
-                int cut = day == 16 && dusk && i == 0;
-                poll_one(&site[i], day, dusk, cut ? 9 : SISAL_ALL_STORES);
-            }
+            for (int i = 0; i < TRANSMITTERS; i++)
+                poll_one(&site[i], day, dusk, power(day, dusk, i));
         }
     }
 }
@@ -124,9 +138,9 @@ static void print_line(struct sisal_done written, const uint8_t *line)
 
 static void print_listing(void)
 {
-    uint8_t line[SISAL_LINE];
+    uint8_t line[SISAL_LINE_BYTES];
     print_line(sisal_head_line(card, sizeof card, line, sizeof line), line);
-    for (size_t slot = 0; slot < sizeof card / SISAL_SLOT; slot++)
+    for (size_t slot = 0; slot < sizeof card / SISAL_SLOT_BYTES; slot++)
         print_line(sisal_slot_line(card, sizeof card, slot, line, sizeof line), line);
     print_line(sisal_last_line(card, sizeof card, line, sizeof line), line);
 }
@@ -151,6 +165,7 @@ static void print_board(void)
 
 int main(void)
 {
+    want(sisal_version() == SISAL_VERSION, "the archive belongs to another header");
     memset(card, 0xff, sizeof card);
     power_on();
     month();

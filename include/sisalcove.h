@@ -2,51 +2,84 @@
  * The core of a tank gauge recorder: polls and replies of the Mark/Space line (Model 1900 and Model 1800), the month sheet, the board
  * of last good readings, and the listing of a sheet.
  *
- * Link target/libsisalcove.a, which `./build-library` makes. It is compiled for x86-64 (System V calling convention). It keeps no
- * state, allocates nothing, never fails otherwise than by the numbers below, and needs of the C library only what docs/HOST.md names.
+ * Link target/libsisalcove.a, which `./build-library` makes. This header wants C11 or C++11, and x86-64 with the System V calling
+ * convention, which is all that the archive is compiled for. The archive keeps no state, allocates nothing, never fails otherwise than
+ * by the numbers below, and needs of the C library only what docs/HOST.md names. That it belongs to this header a host sees by
+ * sisal_version() == SISAL_VERSION.
  *
  * Every call takes every value of its arguments. A refusal is a number, 0 for none: it is the answer itself where a call answers
  * uint8_t, and the field `number` of an answer struct. The first refusal that applies is given, in the order that stands beside each
- * call; all else in the answer is then 0, and nothing that was lent is changed. (Hearing a faulty reply is the one exception: its
- * faults 1 to 9 are kept in the row.)
+ * call; there it also stands what else is in the answer then, and what becomes of what was lent. A compiler that can warns where an
+ * answer is dropped.
  *
  * Lent bytes and rows are a pointer and a length. A pointer is never null, also where the length is 0, and what it points to is not
  * written by anybody else while the call runs. Buffers lent to one call for writing overlap nothing else that is lent to it.
+ *
+ * Some answers have padding (struct sisal_poll one byte, sisal_done seven, sisal_slot two). It holds anything: compare answers field by
+ * field. Rows have none.
  */
 #ifndef SISALCOVE_H
 #define SISALCOVE_H
+
+#ifdef __cplusplus
+#if __cplusplus < 201103L
+#error "sisalcove.h wants C++11 or later"
+#endif
+#elif !defined(__STDC_VERSION__) || __STDC_VERSION__ < 201112L
+#error "sisalcove.h wants C11 or later"
+#endif
+#if !defined(__x86_64__) || defined(__ILP32__) || defined(_WIN32) || defined(__CYGWIN__)
+#error "libsisalcove.a is for x86-64 with the System V calling convention"
+#endif
 
 #include <assert.h>
 #include <stddef.h>
 #include <stdint.h>
 
+/* Stands before each call: a compiler that knows how warns where the answer is dropped. */
+#if defined(__GNUC__)
+#define SISAL_ANSWER __attribute__((warn_unused_result))
+#elif (defined(__cplusplus) && __cplusplus >= 201703L) || (defined(__STDC_VERSION__) && __STDC_VERSION__ >= 202311L)
+#define SISAL_ANSWER [[nodiscard]]
+#else
+#define SISAL_ANSWER
+#endif
+
 #ifdef __cplusplus
 extern "C" {
 #endif
+
+/* ---- the version ----------------------------------------------------------------------------------------------------------------- */
+
+/* It goes up with every change of a struct, of a call's arguments or of a number's meaning. */
+#define SISAL_VERSION 1u
+
+/* The version of the archive. Refuses nothing. */
+SISAL_ANSWER uint32_t sisal_version(void);
 
 /* ---- numbers of the refusals and faults ------------------------------------------------------------------------------------------ */
 
 enum sisal_number {
     SISAL_OK = 0,
-    SISAL_SILENT = 1,         /* no reply: 0 bits */
-    SISAL_LENGTH = 2,         /* 1 to 64 bits, not 40 or 56 */
-    SISAL_START = 3,          /* the start bit is 0 */
-    SISAL_ADDRESS = 4,        /* an address digit is above 9, or it is not the polled address */
-    SISAL_PARITY = 5,         /* wrong parity */
-    SISAL_FILL = 6,           /* a fill bit is 1 */
-    SISAL_CODE = 7,           /* a level digit is in no chart */
-    SISAL_RANGE = 8,          /* a level of mode 3 above 32,699 */
-    SISAL_TEMPERATURE = 9,    /* a temperature digit is above 9, or an 1800 has bit 40 without 43 */
-    SISAL_SETTINGS = 10,      /* a settings byte above 15 */
-    SISAL_ASKED_ADDRESS = 11, /* an address above 999 was asked for */
-    SISAL_SHEET = 12,         /* a sheet's length is no multiple of 32, or above 65,536; or a slot beyond the last */
-    SISAL_FULL = 13,          /* no slot is left */
-    SISAL_FORM = 14,          /* more than 64 bits, the wrong number of bytes for them, or a pad bit 1 */
-    SISAL_SHORT = 15,         /* the output has too few bytes */
-    SISAL_POLL = 16,          /* a poll is not 2 bytes, its start is 0, or a digit is above 9 */
-    SISAL_UNKNOWN = 17,       /* the address is not on the board */
-    SISAL_TWICE = 18,         /* the address is already on the board */
-    SISAL_NO_ROW = 19         /* the board has no free row */
+    SISAL_FAULT_SILENT = 1,         /* no reply: 0 bits */
+    SISAL_FAULT_LENGTH = 2,         /* 1 to 64 bits, not 40 or 56 */
+    SISAL_FAULT_START = 3,          /* the start bit is 0 */
+    SISAL_FAULT_ADDRESS = 4,        /* an address digit is above 9, or it is not the polled address */
+    SISAL_FAULT_PARITY = 5,         /* wrong parity */
+    SISAL_FAULT_FILL = 6,           /* a fill bit is 1 */
+    SISAL_FAULT_CODE = 7,           /* a level digit is in no chart */
+    SISAL_FAULT_RANGE = 8,          /* a level of mode 3 above 32,699 */
+    SISAL_FAULT_TEMPERATURE = 9,    /* a temperature digit is above 9, or an 1800 has bit 40 without 43 */
+    SISAL_FAULT_SETTINGS = 10,      /* a settings byte above 15 */
+    SISAL_FAULT_ASKED_ADDRESS = 11, /* an address above 999 was asked for */
+    SISAL_FAULT_SHEET = 12,         /* a sheet's length is no multiple of 32, or above 65,536; or a slot beyond the last */
+    SISAL_FAULT_FULL = 13,          /* no slot is left */
+    SISAL_FAULT_FORM = 14,          /* more than 64 bits, the wrong number of bytes for them, or a pad bit 1 */
+    SISAL_FAULT_SHORT = 15,         /* the output has too few bytes */
+    SISAL_FAULT_POLL = 16,          /* a poll is not 2 bytes, its start is 0, or a digit is above 9 */
+    SISAL_FAULT_UNKNOWN = 17,       /* the address is not on the board */
+    SISAL_FAULT_TWICE = 18,         /* the address is already on the board */
+    SISAL_FAULT_NO_ROW = 19         /* the board has no free row */
 };
 
 /* ---- settings: one mode, with the two bits added where they apply ---------------------------------------------------------------- */
@@ -83,16 +116,23 @@ enum sisal_state {
 /* ---- sizes ----------------------------------------------------------------------------------------------------------------------- */
 
 enum sisal_size {
-    SISAL_ROWS = 30,         /* rows of a board that are ever read or written */
-    SISAL_SLOT = 32,         /* bytes of a slot */
-    SISAL_SHEET_MAX = 65536, /* bytes of the largest sheet: 2,048 slots */
-    SISAL_LINE = 40          /* bytes that are enough for every line of a listing, its newline included */
+    SISAL_POLL_BYTES = 2,       /* a poll */
+    SISAL_REPLY_40_BYTES = 5,   /* a reply of 40 bits, without a temperature */
+    SISAL_REPLY_56_BYTES = 7,   /* a reply of 56 bits, with one */
+    SISAL_REPLY_MOST_BYTES = 8, /* whatever came on the line, up to 64 bits */
+    SISAL_SLOT_BYTES = 32,      /* a slot of the sheet */
+    SISAL_SHEET_BYTES = 65536,  /* the largest sheet: 2,048 slots */
+    SISAL_LINE_BYTES = 40,      /* enough for every line of a listing, its newline included */
+    SISAL_ROWS = 30             /* rows of a board that are ever read or written */
 };
 
 /* Bytes that are enough for the whole listing of a sheet. */
-#define SISAL_LISTING(sheet_bytes) (SISAL_LINE * ((sheet_bytes) / SISAL_SLOT + 2))
+#define SISAL_LISTING_BYTES(sheet_bytes) (SISAL_LINE_BYTES * ((sheet_bytes) / SISAL_SLOT_BYTES + 2))
 
-/* Stores for a save whose power holds. */
+/* The stores of a whole save; one that answers fewer was cut short. */
+#define SISAL_STORES(reply_bytes) (11 + (reply_bytes))
+
+/* The allowance of a save whose power holds. */
 #define SISAL_ALL_STORES SIZE_MAX
 
 /* ---- answers --------------------------------------------------------------------------------------------------------------------- */
@@ -108,7 +148,7 @@ struct sisal_poll {
 /* A reply that was read. */
 struct sisal_reply {
     uint16_t level; /* in the unit of the mode */
-    int16_t tenths; /* of a degree where the kind is degrees, else 0 */
+    int16_t tenths; /* of a degree; 0 beside above, below and absent */
     uint8_t kind;   /* enum sisal_kind */
     uint8_t alarm1; /* 0 or 1: alarm 1 (reference 2) */
     uint8_t alarm0; /* 0 or 1: alarm 0 (reference 1) */
@@ -140,10 +180,10 @@ struct sisal_row {
     uint32_t minute;  /* of the last good reading */
     uint16_t address;
     uint16_t level;   /* of the last good reading, with kind, tenths and alarms */
-    int16_t tenths;
+    int16_t tenths;   /* 0 beside above, below and absent, as a hearing leaves it; read beside degrees alone */
     uint8_t settings;
     uint8_t fault;    /* the last fault, 0 for none */
-    uint8_t used;     /* 0 for a free row */
+    uint8_t used;     /* 0 for a free row, 1 after enrolling; any other number is in use too */
     uint8_t kind;     /* enum sisal_kind; 0 while there is no reading, and a number above 4 reads as absent */
     uint8_t alarm1;   /* set by any number but 0 */
     uint8_t alarm0;
@@ -158,7 +198,7 @@ struct sisal_standing {
     uint32_t minute;
     uint16_t address;
     uint16_t level;
-    int16_t tenths;
+    int16_t tenths; /* 0 beside above, below and absent */
     uint8_t settings;
     uint8_t fault;
     uint8_t number;
@@ -181,86 +221,93 @@ static_assert(sizeof(size_t) == 8, "size_t");
 
 /* ---- polls and replies ----------------------------------------------------------------------------------------------------------- */
 
-/* Reads a poll. Refuses 16. */
-struct sisal_poll sisal_read_poll(const uint8_t *poll, size_t poll_bytes);
+/* Reads a poll. Refuses 16, with all else 0. */
+SISAL_ANSWER struct sisal_poll sisal_read_poll(const uint8_t *poll, size_t poll_bytes);
 
 /*
- * Writes a poll into the first 2 bytes and answers 2; raise and reset are set by any number but 0. Refuses 11, 15.
+ * Writes a poll into the first SISAL_POLL_BYTES bytes and answers 2; raise and reset are set by any number but 0. Refuses 11, 15, with
+ * count 0 and no byte changed.
  */
-struct sisal_done sisal_write_poll(uint16_t address, uint8_t raise, uint8_t reset, uint8_t *out, size_t out_bytes);
+SISAL_ANSWER struct sisal_done sisal_write_poll(uint16_t address, uint8_t raise, uint8_t reset, uint8_t *out, size_t out_bytes);
 
 /* Whether a reply of `count` bits is lent in the right form: 0; or 14. */
-uint8_t sisal_form(size_t count, const uint8_t *reply, size_t reply_bytes);
+SISAL_ANSWER uint8_t sisal_form(size_t count, const uint8_t *reply, size_t reply_bytes);
 
 /*
  * Reads a reply of `count` bits to a poll of `address`. Bit 1 is the highest bit of the first byte; there are (count + 7) / 8 bytes,
- * and the bits after the count are 0. Refuses 10, 11, 14, then 1 to 9.
+ * and the bits after the count are 0. Refuses 10, 11, 14, then 1 to 9, with all else 0.
  */
-struct sisal_reply sisal_read_reply(uint8_t settings, uint16_t address, size_t count, const uint8_t *reply, size_t reply_bytes);
+SISAL_ANSWER struct sisal_reply sisal_read_reply(uint8_t settings, uint16_t address, size_t count, const uint8_t *reply,
+                                                 size_t reply_bytes);
 
 /*
- * Writes a reply: 5 bytes where the temperature is absent, else 7, and answers how many. The kind is 1 degrees, 2 above, 3 below;
- * every other kind is absent, and `tenths` counts for degrees alone. A level above its mode's largest is written as the invalid level,
- * and degrees beyond the type's range as its end (1900) or as above and below (1800). An alarm is set by any number but 0.
- * Refuses 10, 11, 15.
+ * Writes a reply: SISAL_REPLY_40_BYTES where the temperature is absent, else SISAL_REPLY_56_BYTES, and answers how many. The kind is 1
+ * degrees, 2 above, 3 below; every other kind is absent, and `tenths` counts for degrees alone. A level above its mode's largest is
+ * written as the invalid level, and degrees beyond the type's range as its end (1900) or as above and below (1800). An alarm is set by
+ * any number but 0. Refuses 10, 11, 15, with count 0 and no byte changed.
  */
-struct sisal_done sisal_write_reply(uint8_t settings, uint16_t address, uint16_t level, uint8_t kind, int16_t tenths, uint8_t alarm1,
-                                    uint8_t alarm0, uint8_t *out, size_t out_bytes);
+SISAL_ANSWER struct sisal_done sisal_write_reply(uint8_t settings, uint16_t address, uint16_t level, uint8_t kind, int16_t tenths,
+                                                 uint8_t alarm1, uint8_t alarm0, uint8_t *out, size_t out_bytes);
 
 /* ---- the month sheet ------------------------------------------------------------------------------------------------------------- */
 
 /*
  * Saves a reply, good or faulty, into the slot after the last used one: at most `allowance` stores of one byte each, in the order that
- * lets a power cut spoil the slot but never show a record that was not made. Answers the stores made; a whole save makes 11 and one for
- * each reply byte. A blank sheet is all FF. Refuses 12, 10, 11, 14, 13.
+ * lets a power cut spoil the slot but never show a record that was not made. Answers the stores made; a whole save makes
+ * SISAL_STORES(reply_bytes), whatever the allowance beyond it. A blank sheet is all FF. Refuses 12, 10, 11, 14, 13, with count 0 and no
+ * byte changed.
  */
-struct sisal_done sisal_save(uint8_t *sheet, size_t sheet_bytes, uint8_t settings, uint32_t minute, uint16_t address, size_t count,
-                             const uint8_t *reply, size_t reply_bytes, size_t allowance);
+SISAL_ANSWER struct sisal_done sisal_save(uint8_t *sheet, size_t sheet_bytes, uint8_t settings, uint32_t minute, uint16_t address,
+                                          size_t count, const uint8_t *reply, size_t reply_bytes, size_t allowance);
 
-/* Looks at a slot, counted from 0. Refuses 12. */
-struct sisal_slot sisal_look(const uint8_t *sheet, size_t sheet_bytes, size_t slot);
+/* Looks at a slot, counted from 0. Refuses 12, with all else 0. */
+SISAL_ANSWER struct sisal_slot sisal_look(const uint8_t *sheet, size_t sheet_bytes, size_t slot);
 
-/* How many slots a sheet has. Refuses 12. */
-struct sisal_done sisal_slots(const uint8_t *sheet, size_t sheet_bytes);
+/* How many slots a sheet has. Refuses 12, with count 0. */
+SISAL_ANSWER struct sisal_done sisal_slots(const uint8_t *sheet, size_t sheet_bytes);
 
 /* ---- the listing of a sheet: text without a 0 at its end ------------------------------------------------------------------------- */
 
-/* Writes the first line, `sheet` and its slots, newline included, and answers its bytes. Refuses 12, 15. */
-struct sisal_done sisal_head_line(const uint8_t *sheet, size_t sheet_bytes, uint8_t *out, size_t out_bytes);
+/*
+ * Writes the first line, `sheet` and its slots, newline included, and answers its bytes. Refuses 12, 15, with count 0 and no byte
+ * changed.
+ */
+SISAL_ANSWER struct sisal_done sisal_head_line(const uint8_t *sheet, size_t sheet_bytes, uint8_t *out, size_t out_bytes);
 
 /*
  * Writes the line of a slot and answers its bytes, 0 where the slot is blank: slot, minute, address, level, temperature ("-" absent,
  * "above", "below", else tenths of a degree), alarm 1, alarm 0; a faulty reply ends after the address with "fault" and its number; a
- * slot that holds no record is "spoiled" or "foreign". Refuses 12, 15.
+ * slot that holds no record is "spoiled" or "foreign". Refuses 12, 15, with count 0 and no byte changed.
  */
-struct sisal_done sisal_slot_line(const uint8_t *sheet, size_t sheet_bytes, size_t slot, uint8_t *out, size_t out_bytes);
+SISAL_ANSWER struct sisal_done sisal_slot_line(const uint8_t *sheet, size_t sheet_bytes, size_t slot, uint8_t *out, size_t out_bytes);
 
-/* Writes the last line, `records` and how many there are. Refuses 12, 15. */
-struct sisal_done sisal_last_line(const uint8_t *sheet, size_t sheet_bytes, uint8_t *out, size_t out_bytes);
+/* Writes the last line, `records` and how many there are. Refuses 12, 15, with count 0 and no byte changed. */
+SISAL_ANSWER struct sisal_done sisal_last_line(const uint8_t *sheet, size_t sheet_bytes, uint8_t *out, size_t out_bytes);
 
 /*
  * Writes the whole listing and answers its bytes; for a sheet of a bad size it is the line "fault 12". Refuses 15 where the output has
- * fewer than SISAL_LISTING(sheet_bytes) bytes, whatever the sheet holds (fewer than 9 for a sheet of a bad size).
+ * fewer than SISAL_LISTING_BYTES(sheet_bytes) bytes, whatever the sheet holds (fewer than 9 for a sheet of a bad size), with count 0 and
+ * no byte changed.
  */
-struct sisal_done sisal_listing(const uint8_t *sheet, size_t sheet_bytes, uint8_t *out, size_t out_bytes);
+SISAL_ANSWER struct sisal_done sisal_listing(const uint8_t *sheet, size_t sheet_bytes, uint8_t *out, size_t out_bytes);
 
 /* ---- the board: the first 30 of the rows lent count ------------------------------------------------------------------------------ */
 
-/* Enrols a transmitter in the first free row: 0; or 10, 11, 18, 19. */
-uint8_t sisal_board_enrol(struct sisal_row *rows, size_t row_count, uint8_t settings, uint16_t address);
+/* Enrols a transmitter in the first free row, with no reading and fault 0: 0; or 10, 11, 18, 19, and no row is changed. */
+SISAL_ANSWER uint8_t sisal_board_enrol(struct sisal_row *rows, size_t row_count, uint8_t settings, uint16_t address);
 
 /*
- * Hears a reply to a poll of `address`: 0, and the row's reading, minute and fault 0 are set; or 1 to 9, and only the row's fault is
- * set. Refuses 11, 14, 17, 10 (the row's own settings), and then changes nothing. 1 to 9 come last.
+ * Hears a reply to a poll of `address`: 0, and the row's reading, minute and fault 0 are set. Or 11, 14, 17, 10 (the row's own settings),
+ * and no row is changed; or, asked last, 1 to 9, and only the row's fault is set.
  */
-uint8_t sisal_board_hear(struct sisal_row *rows, size_t row_count, uint16_t address, uint32_t minute, size_t count, const uint8_t *reply,
-                         size_t reply_bytes);
+SISAL_ANSWER uint8_t sisal_board_hear(struct sisal_row *rows, size_t row_count, uint16_t address, uint32_t minute, size_t count,
+                                      const uint8_t *reply, size_t reply_bytes);
 
-/* Removes a transmitter and leaves its row free, all zeros: 0; or 11, 17. */
-uint8_t sisal_board_remove(struct sisal_row *rows, size_t row_count, uint16_t address);
+/* Removes a transmitter and leaves its row free, all zeros: 0; or 11, 17, and no row is changed. */
+SISAL_ANSWER uint8_t sisal_board_remove(struct sisal_row *rows, size_t row_count, uint16_t address);
 
-/* Looks a transmitter up. Refuses 11, 17. */
-struct sisal_standing sisal_board_look_up(const struct sisal_row *rows, size_t row_count, uint16_t address);
+/* Looks a transmitter up. Refuses 11, 17, with all else 0. */
+SISAL_ANSWER struct sisal_standing sisal_board_look_up(const struct sisal_row *rows, size_t row_count, uint16_t address);
 
 #ifdef __cplusplus
 }

@@ -1,6 +1,7 @@
 # Tools for x86-64, the only machine that the archive is compiled for. To be sourced by bash scripts.
 #
 #   x86_for_c     makes sure of a C compiler; then "$x86_cc" is it, and "$x86_ar", "$x86_nm" and "$x86_objdump" its companions
+#   x86_for_cxx   looks for a C++ compiler; then "${x86_cxx[@]}" is it. It installs none, and fails where there is none
 #   x86_for_rust  makes sure of cargo for x86-64; then x86_cargo runs it
 #   x86_run       runs a compiled program
 #
@@ -45,6 +46,17 @@ x86_for_c() {
     # shellcheck disable=SC2086
     [ -z "$missing" ] || x86_install $missing
     x86_cc=x86_64-linux-gnu-gcc x86_ar=x86_64-linux-gnu-ar x86_nm=x86_64-linux-gnu-nm x86_objdump=x86_64-linux-gnu-objdump
+}
+
+x86_for_cxx() {
+    if x86_here; then
+        x86_cxx=("${CXX:-g++}")
+    elif command -v x86_64-linux-gnu-g++ >/dev/null; then
+        x86_cxx=(x86_64-linux-gnu-g++)
+    else
+        x86_cxx=(clang++ --target=x86_64-linux-gnu -isystem /usr/x86_64-linux-gnu/include)
+    fi
+    command -v "${x86_cxx[0]}" >/dev/null
 }
 
 # Whether a Rust compiler has the standard library for x86-64.

@@ -13,6 +13,8 @@
 pub mod benchmarks;
 pub mod calls;
 pub mod compare;
+#[cfg(test)]
+mod desk;
 pub mod generate;
 #[cfg(target_arch = "x86_64")]
 pub mod library;

@@ -2,6 +2,7 @@
 // every input. An answer is the refusal's number, 0 for none, or a struct of integers with that number in it. The calls over the
 // board's rows are exported by `board` itself, those of the listing by `recorder_listing`.
 pub mod told;
+pub mod version;
 
 use frame::Reading;
 ghost use Rattle.recorder.specs.Calls.{SisalForm, SisalReadPoll, SisalWritePoll, SisalReadReply, SisalWriteReply, SisalSave, SisalLook, SisalSlots};

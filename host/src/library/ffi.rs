@@ -5,6 +5,9 @@
 
 use std::mem::{align_of, size_of};
 
+/// The version of the header that these declarations follow.
+pub const VERSION: u32 = 1;
+
 #[repr(C)]
 pub struct Poll {
     pub address: u16,
@@ -89,6 +92,7 @@ const _: () = {
 };
 
 extern "C" {
+    pub fn sisal_version() -> u32;
     pub fn sisal_form(count: usize, reply: *const u8, reply_bytes: usize) -> u8;
     pub fn sisal_read_poll(poll: *const u8, poll_bytes: usize) -> Poll;
     pub fn sisal_write_poll(

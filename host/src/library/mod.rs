@@ -9,6 +9,7 @@ mod ffi;
 mod tests;
 
 pub use ffi::Row as LentRow;
+pub use ffi::VERSION;
 
 use crate::calls::Core;
 use crate::types::{
@@ -89,6 +90,12 @@ fn last(kind: u8, tenths: i16, level: u16, alarms: [u8; 2], minute: u32) -> Opti
         },
         minute,
     })
+}
+
+/// The version of the archive that was linked, [`VERSION`] where it belongs to this wrapper.
+pub fn version() -> u32 {
+    // SAFETY: nothing is lent.
+    unsafe { ffi::sisal_version() }
 }
 
 /// How many slots a sheet has. Refusal: 12.

@@ -1,8 +1,9 @@
 //! What the types of the wrapper cannot ask: numbers that stand for flags, kinds and rows, and
 //! what stands in an answer beside a refusal.
 
-use super::{ffi, form, slots, LentRow, Library};
+use super::{ffi, form, slots, version, LentRow, Library, VERSION};
 use crate::calls::Core;
+use crate::desk;
 use crate::generate::{self, BoardCall};
 use crate::random::{Random, SEED};
 use crate::reading::{board, frame, listing, sheet};
@@ -10,6 +11,20 @@ use crate::types::{Answer, Fault, Poll, Reading, Row, Slot, Temperature};
 
 /// Flags that are set, and one that is not.
 const FLAGS: [u8; 5] = [0, 1, 2, 128, 255];
+
+/// The header, the archive and this wrapper are of one version.
+#[test]
+fn one_version() {
+    let header = include_str!("../../../include/sisalcove.h");
+    let line = format!("#define SISAL_VERSION {VERSION}u");
+    assert!(header.lines().any(|text| text == line), "{line}");
+    assert_eq!(version(), VERSION);
+}
+
+#[test]
+fn a_day_at_the_desk() {
+    desk::day(&Library);
+}
 
 fn write_poll(address: u16, raise: u8, reset: u8) -> (Answer<usize>, [u8; 2]) {
     let mut out = [0; 2];

@@ -1,0 +1,152 @@
+//! The day on a board of three rows that `examples/desk.c` prints, held to what each call must
+//! answer and to what must stand in the rows at its end.
+
+use crate::calls::Core;
+use crate::reading::IndependentReading;
+use crate::types::{Answer, Fault, Last, Reading, Row, Standing, Temperature};
+
+/// A board, and whether its calls answer as they must.
+struct Desk<'a, C: Core> {
+    core: &'a C,
+    rows: Vec<C::Row>,
+}
+
+impl<C: Core> Desk<'_, C> {
+    fn enrol(&mut self, settings: u8, address: u16, answer: Answer<()>) {
+        let answered = self.core.enrol(&mut self.rows, settings, address);
+        assert_eq!(answered, answer, "enrol {address}");
+    }
+
+    fn remove(&mut self, address: u16, answer: Answer<()>) {
+        let answered = self.core.remove(&mut self.rows, address);
+        assert_eq!(answered, answer, "remove {address}");
+    }
+
+    fn look(&self, address: u16, answer: Answer<Standing>) {
+        let answered = self.core.look_up(&self.rows, address);
+        assert_eq!(answered, answer, "look {address}");
+    }
+
+    /// A reply is heard, and its row is looked at.
+    fn hear(
+        &mut self,
+        asked: (u16, u32),
+        reply: (usize, &[u8]),
+        answer: Answer<()>,
+        row: Standing,
+    ) {
+        let ((address, minute), (count, bytes)) = (asked, reply);
+        let answered = self
+            .core
+            .hear(&mut self.rows, address, minute, count, bytes);
+        assert_eq!(answered, answer, "hear {address} at minute {minute}");
+        self.look(address, Ok(row));
+    }
+}
+
+/// A row as a look tells it.
+fn standing(settings: u8, last: Option<Last>, fault: u8) -> Standing {
+    Standing {
+        settings,
+        last,
+        fault,
+    }
+}
+
+fn last(level: u16, temperature: Temperature, alarms: [bool; 2], minute: u32) -> Option<Last> {
+    let [alarm1, alarm0] = alarms;
+    let reading = Reading {
+        level,
+        temperature,
+        alarm1,
+        alarm0,
+    };
+    Some(Last { reading, minute })
+}
+
+const NO_ALARM: [bool; 2] = [false; 2];
+
+/// The board is filled: three transmitters, and what else is refused.
+fn morning<C: Core>(desk: &mut Desk<C>) {
+    desk.look(7, Err(Fault::Unknown));
+    desk.enrol(1, 7, Ok(()));
+    desk.look(7, Ok(standing(1, None, 0)));
+    desk.enrol(1, 7, Err(Fault::Twice));
+    desk.enrol(16, 12, Err(Fault::Settings));
+    desk.enrol(2, 1_000, Err(Fault::AskedAddress));
+    desk.enrol(2, 12, Ok(()));
+    desk.enrol(9, 999, Ok(()));
+    desk.enrol(0, 8, Err(Fault::NoRow));
+}
+
+/// Transmitter 7 answers, is garbled, and answers again: a fault leaves the reading and its
+/// minute, a reply out of form leaves the fault too.
+fn noon<C: Core>(desk: &mut Desk<C>) {
+    const GOOD: &[u8] = b"\x80\x0e\x50\x00\x00";
+    let kept = last(3_000, Temperature::Absent, NO_ALARM, 600);
+    desk.hear((7, 600), (40, GOOD), Ok(()), standing(1, kept, 0));
+    let faulty: [(usize, &[u8], Fault); 5] = [
+        (40, b"\x80\x0e\x50\x00\x01", Fault::Parity),
+        (0, b"", Fault::Silent),
+        (39, GOOD, Fault::Length),
+        (40, b"\x00\x0e\x50\x00\x01", Fault::Start),
+        (40, b"\x80\x25\x00\x00\x03", Fault::Address),
+    ];
+    for (minute, (count, bytes, fault)) in (601..).zip(faulty) {
+        let row = standing(1, kept, fault.number());
+        desk.hear((7, minute), (count, bytes), Err(fault), row);
+    }
+    let as_before = standing(1, kept, Fault::Address.number());
+    let long = (40, &b"\x80\x0e\x50\x00\x00\x00"[..]);
+    desk.hear((7, 606), long, Err(Fault::Form), as_before);
+    let next = last(2_999, Temperature::Degrees(-123), [true, false], 607);
+    let warm = (56, &b"\x80\x0e\x70\x00\x05\x62\x47"[..]);
+    desk.hear((7, 607), warm, Ok(()), standing(1, next, 0));
+}
+
+/// The others answer; one is removed, and its row is taken by another.
+fn evening<C: Core>(desk: &mut Desk<C>) {
+    let full = last(19_999, Temperature::Absent, [false, true], 700);
+    let reply = (40, &b"\x80\x25\x00\x00\x03"[..]);
+    desk.hear((12, 700), reply, Ok(()), standing(2, full, 0));
+    let odd = last(3_000, Temperature::Absent, NO_ALARM, 701);
+    let reply = (40, &b"\x93\x32\x50\x00\x00"[..]);
+    desk.hear((999, 701), reply, Ok(()), standing(9, odd, 0));
+    let core = desk.core;
+    let stranger = core.hear(&mut desk.rows, 8, 702, 40, b"\x80\x10\x50\x00\x01");
+    assert_eq!(stranger, Err(Fault::Unknown));
+    desk.look(8, Err(Fault::Unknown));
+    desk.remove(12, Ok(()));
+    desk.remove(12, Err(Fault::Unknown));
+    desk.look(12, Err(Fault::Unknown));
+    desk.enrol(0, 8, Ok(()));
+    desk.remove(999, Ok(()));
+}
+
+/// The whole day, on any core.
+pub fn day(core: &impl Core) {
+    let rows = vec![core.row(&Row::default()); 3];
+    let mut desk = Desk { core, rows };
+    morning(&mut desk);
+    noon(&mut desk);
+    evening(&mut desk);
+    let rows: Vec<Row> = desk.rows.iter().map(|row| core.says(row)).collect();
+    let first = Row {
+        in_use: true,
+        address: 7,
+        settings: 1,
+        last: last(2_999, Temperature::Degrees(-123), [true, false], 607),
+        ..Row::default()
+    };
+    let second = Row {
+        in_use: true,
+        address: 8,
+        ..Row::default()
+    };
+    assert_eq!(rows, [first, second, Row::default()]);
+}
+
+#[test]
+fn by_the_independent_reading() {
+    day(&IndependentReading);
+}
