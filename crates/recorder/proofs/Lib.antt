@@ -3,3 +3,4 @@ pub mod Fits
 pub mod Back
 pub mod Kept
 pub mod OneOutcome
+pub mod OneVersion
