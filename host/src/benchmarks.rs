@@ -1,7 +1,9 @@
 //! The benchmarks, for any two cores.
 //!
 //! Each case prepares its inputs once, gives both sides the same, and times a walk over all of
-//! them; the compiler sees neither the inputs nor what becomes of the answers.
+//! them; the compiler sees neither the inputs nor what becomes of the answers. What is timed is a
+//! call of each side: the library's calls are in an archive, and those of the independent reading
+//! are never put in place. The library's side also turns C structs into the types of this package.
 
 use crate::calls::Core;
 use crate::generate::{self, ReplyCase, SaveCase};

@@ -1,5 +1,5 @@
-//! Times the proved library and the independent reading side by side and prints the ratios. Words
-//! given to it choose the cases whose name has them.
+//! Times the proved library and the independent reading side by side, call for call, and prints
+//! the ratios. Words given to it choose the cases whose name has them.
 
 use std::process::ExitCode;
 
@@ -25,6 +25,7 @@ fn main() -> ExitCode {
         seed,
         only: std::env::args().skip(1).collect::<Vec<_>>().join(" "),
     };
+    println!("call for call: neither side is put in place where it is called");
     println!("{}", Timing::heading("proved", "independent"));
     benchmarks.all(|timing| println!("{timing}"));
     println!();

@@ -1,6 +1,7 @@
 //! The board of last good readings, over lent rows.
 
-use super::frame::{pack, read_word};
+use super::frame::read_word;
+use super::word::pack;
 use crate::types::{Answer, Fault, Last, Row, Standing, LARGEST_ADDRESS, LARGEST_SETTINGS, ROWS};
 
 /// The rows that count: those past the thirtieth are never read or written.

@@ -14,28 +14,32 @@ pub mod frame;
 pub mod listing;
 mod modes;
 pub mod sheet;
+mod word;
 
 use crate::calls::Core;
 use crate::types::{Answer, Entry, Poll, Reading, Row, Slot, Standing};
 
 /// The independent reading as a core.
+///
+/// Each of these is a call, and none is put in place where it is called: the proved library is
+/// called across a boundary, and a benchmark of the two is to compare call with call.
 #[derive(Clone, Copy, Debug, Default)]
 pub struct IndependentReading;
 
 impl Core for IndependentReading {
     type Row = Row;
 
-    #[inline]
+    #[inline(never)]
     fn read_poll(&self, poll: &[u8]) -> Answer<Poll> {
         frame::read_poll(poll)
     }
 
-    #[inline]
+    #[inline(never)]
     fn write_poll(&self, poll: &Poll, out: &mut [u8]) -> Answer<usize> {
         frame::write_poll(poll, out)
     }
 
-    #[inline]
+    #[inline(never)]
     fn read_reply(
         &self,
         settings: u8,
@@ -46,7 +50,7 @@ impl Core for IndependentReading {
         frame::read_reply(settings, address, count, reply)
     }
 
-    #[inline]
+    #[inline(never)]
     fn write_reply(
         &self,
         settings: u8,
@@ -57,42 +61,42 @@ impl Core for IndependentReading {
         frame::write_reply(settings, address, reading, out)
     }
 
-    #[inline]
+    #[inline(never)]
     fn save(&self, sheet: &mut [u8], entry: &Entry, allowance: usize) -> Answer<usize> {
         sheet::save(sheet, entry, allowance)
     }
 
-    #[inline]
+    #[inline(never)]
     fn look(&self, sheet: &[u8], slot: usize) -> Answer<Slot> {
         sheet::look(sheet, slot)
     }
 
-    #[inline]
+    #[inline(never)]
     fn head_line(&self, sheet: &[u8], line: &mut [u8]) -> Answer<usize> {
         listing::head_line(sheet, line)
     }
 
-    #[inline]
+    #[inline(never)]
     fn slot_line(&self, sheet: &[u8], slot: usize, line: &mut [u8]) -> Answer<usize> {
         listing::slot_line(sheet, slot, line)
     }
 
-    #[inline]
+    #[inline(never)]
     fn last_line(&self, sheet: &[u8], line: &mut [u8]) -> Answer<usize> {
         listing::last_line(sheet, line)
     }
 
-    #[inline]
+    #[inline(never)]
     fn list(&self, sheet: &[u8], text: &mut Vec<u8>) {
         listing::list(sheet, text)
     }
 
-    #[inline]
+    #[inline(never)]
     fn enrol(&self, rows: &mut [Row], settings: u8, address: u16) -> Answer<()> {
         board::enrol(rows, settings, address)
     }
 
-    #[inline]
+    #[inline(never)]
     fn hear(
         &self,
         rows: &mut [Row],
@@ -104,12 +108,12 @@ impl Core for IndependentReading {
         board::hear(rows, address, minute, count, reply)
     }
 
-    #[inline]
+    #[inline(never)]
     fn remove(&self, rows: &mut [Row], address: u16) -> Answer<()> {
         board::remove(rows, address)
     }
 
-    #[inline]
+    #[inline(never)]
     fn look_up(&self, rows: &[Row], address: u16) -> Answer<Standing> {
         board::look_up(rows, address)
     }

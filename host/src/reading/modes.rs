@@ -6,7 +6,7 @@
 use super::charts::{
     Part, FEET, INCHES_16, METRES_20, METRES_30, NOTHING, NO_CODE, ONE_DECIMAL, TWO_DECIMALS,
 };
-use super::frame::{bit, bits};
+use super::word::{bit, bits};
 
 /// What a mode says of the level's bits.
 pub struct Mode {
