@@ -2,23 +2,21 @@
 use mathlib.Core.Path.{_≡_, refl, sym, ap, _∙_}
 use mathlib.Core.Bool.{Bool, true}
 use mathlib.Core.List.{List, _++_}
-use Prim.Native.Nat.{ℕ, zero, suc, _+_, _-_, _*_, _<_}
+use Prim.Native.Nat.{ℕ, zero, suc, _+_, _*_}
+use native.Mathlib.Numerals.{add-one}
 use native.Mathlib.Omega.{arith}
 use lib.ListN.{take, drop}
 use lib.Seq.{take-add, drop-drop}
 use Rattle.frame.specs.Pick.{pick}
-use Rattle.frame.proofs.Digits.{down}
 use Rattle.frame.proofs.Both.{both-left, both-right}
 use Rattle.sheet.specs.Bytes.{allBlank}
 use Rattle.sheet.specs.Slots.{slotAt, nextUpTo}
 use Rattle.sheet.proofs.Blank.{blank-append}
 
--- Among the first k slots: the last of them, or else those before it.
-pub next-step : (s : List ℕ) (k : ℕ) → 0 < k → nextUpTo s k ≡ pick (allBlank (slotAt s (k - 1))) (nextUpTo s (k - 1)) k
-next-step s = down (λ n k. nextUpTo s n ≡ pick (allBlank (slotAt s k)) (nextUpTo s k) n) step
-  where
-    step : (k : ℕ) → nextUpTo s (suc k) ≡ pick (allBlank (slotAt s k)) (nextUpTo s k) (suc k)
-    step k = unfold nextUpTo in refl
+-- Among one slot more: that one, or else those before it.
+pub next-one : (s : List ℕ) (k : ℕ) → nextUpTo s (k + 1) ≡ pick (allBlank (slotAt s k)) (nextUpTo s k) (k + 1)
+unfolding nextUpTo
+next-one s k = rw add-one refl
 
 -- Any number of blank slots after the first j.
 pub next-past : (s : List ℕ) (j n : ℕ) → allBlank (take (32 * n) (drop (32 * j) s)) ≡ true → nextUpTo s (j + n) ≡ nextUpTo s j

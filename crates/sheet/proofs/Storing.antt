@@ -12,7 +12,7 @@ use lib.ListN.{length, getD, take, replicate, set, length-append, length-set, ge
 use lib.Seq.{take-suc, take-all, take-length, getD-append-add}
 use Rattle.frame.specs.Pick.{pick}
 use Rattle.sheet.specs.Record.{Entry, bodyOf, lengthOf, lengthBytes}
-use Rattle.sheet.specs.inside.InOrder.{inOrder, placeOf}
+use Rattle.sheet.specs.inside.InSlot.{inSlot, turnOf}
 use Rattle.sheet.specs.Stores.{Store, _puts_, made, ascending, stores}
 
 pub made-append : (s : List ℕ) (ps qs : List Store) → made s (ps ++ qs) ≡ made (made s ps) qs
@@ -49,10 +49,11 @@ ascending-at p (b ∷ bs) (suc k) d h =
     let further : p + 1 + k ≡ p + suc k = omega arith in
     ascending-at (p + 1) bs k d (omega arith) ∙ ap (λ (n : ℕ). n puts getD bs k 0) further
 
-pub place-in : (at size k : ℕ) → k < size + 2 → placeOf at size k < at + (size + 2)
-place-in at size k h = go (ltb k size) refl
+-- The place of a store lies in the record.
+pub turn-in : (size k : ℕ) → k < size + 2 → turnOf size k < size + 2
+turn-in size k h = go (ltb k size) refl
   where
-    go : (t : Bool) → ltb k size ≡ t → pick t (at + 2 + k) (at + (size + 1 - k)) < at + (size + 2)
+    go : (t : Bool) → ltb k size ≡ t → pick t (2 + k) (size + 1 - k) < size + 2
     go true q = omega (arith, ltb-true k size q)
     go false q = omega arith
 
@@ -86,45 +87,40 @@ module _ (at : ℕ) (bs : List ℕ) (low high d : Store) where
       let same : k ≡ length (ascending (at + 2) bs) + j = e ∙ ap (λ (n : ℕ). n + j) (sym (ascending-length (at + 2) bs)) in
       ap (λ (n : ℕ). getD all n d) same ∙ getD-append-add (ascending (at + 2) bs) (low ∷ high ∷ []) j d
 
--- The k-th store of a record: its place, and its byte.
-module _ (at : ℕ) (e : Entry) (d : Store) (short : lengthOf e ≤ 17) where
+-- The k-th store of a record puts the byte that stands in its slot at that place.
+module _ (at : ℕ) (e : Entry) (d : Store) where
   abbrev low : Store
   low = (at + 1) puts getD (lengthBytes e) 1 0
 
   abbrev high : Store
   high = at puts getD (lengthBytes e) 0 0
 
-  abbrev zeros : List ℕ
-  zeros = replicate (9 - length (e .reply)) 0
+  abbrev stored : ℕ → Store
+  stored i = (at + i) puts getD (inSlot e) i 0
 
-  byte-behind : (k j : ℕ) → k ≡ lengthOf e + j → getD (inOrder e) k 0 ≡ getD (lengthOf e ∷ zeros) j 0
-  byte-behind k j q = ap (λ (n : ℕ). getD (inOrder e) n 0) q ∙ getD-append-add (bodyOf e) (lengthOf e ∷ zeros) j 0
-
-  last-two : (k j : ℕ) → k ≡ lengthOf e + j → j < 2 → getD (stores at e) k d ≡ (at + (lengthOf e + 1 - k)) puts getD (inOrder e) k 0
+  last-two : (k j : ℕ) → k ≡ lengthOf e + j → j < 2 → getD (stores at e) k d ≡ stored (lengthOf e + 1 - k)
   unfolding stores
   last-two k zero q h =
-      let place : at + 1 ≡ at + (lengthOf e + 1 - k) = omega arith in
-      let byte : lengthOf e / 1 % 256 ≡ lengthOf e = omega arith in
-      behind at (bodyOf e) low high d k 0 q ∙ (λ i. place i puts byte i)
-      ∙ ap (λ (b : ℕ). (at + (lengthOf e + 1 - k)) puts b) (sym (byte-behind k 0 q))
+      let place : 1 ≡ lengthOf e + 1 - k = omega arith in
+      behind at (bodyOf e) low high d k 0 q ∙ ap stored place
   last-two k (suc zero) q h =
-      let place : at ≡ at + (lengthOf e + 1 - k) = omega arith in
-      let none : getD zeros 0 0 ≡ 0 = getD-replicate (9 - length (e .reply)) 0 0 0 (omega arith) in
-      let byte : lengthOf e / 256 % 256 ≡ getD zeros 0 0 = omega arith in
-      behind at (bodyOf e) low high d k 1 q ∙ (λ i. place i puts byte i)
-      ∙ ap (λ (b : ℕ). (at + (lengthOf e + 1 - k)) puts b) (sym (byte-behind k 1 q))
+      let place : 0 ≡ lengthOf e + 1 - k = omega arith in
+      behind at (bodyOf e) low high d k 1 q ∙ ap (λ (n : ℕ). n puts getD (lengthBytes e) 0 0) (sym (add-zero at)) ∙ ap stored place
   last-two k (suc (suc j)) q h = absurd (omega arith)
 
-  first-ones : (k : ℕ) → k < lengthOf e → getD (stores at e) k d ≡ (at + 2 + k) puts getD (inOrder e) k 0
+  first-ones : (k : ℕ) → k < lengthOf e → getD (stores at e) k d ≡ stored (2 + k)
   unfolding stores
   first-ones k h =
-      before-length at (bodyOf e) low high d k h
-      ∙ ap (λ (b : ℕ). (at + 2 + k) puts b) (sym (List·getD-append (bodyOf e) (lengthOf e ∷ zeros) 0 k h))
+      let further : at + 2 + k ≡ at + (2 + k) = omega arith in
+      let two : suc (suc k) ≡ 2 + k = omega arith in
+      let byte : getD (bodyOf e) k 0 ≡ getD (inSlot e) (2 + k) 0 =
+      sym (List·getD-append (bodyOf e) (replicate (8 - length (e .reply)) 0) 0 k h) ∙ ap (λ (n : ℕ). getD (inSlot e) n 0) two in
+      before-length at (bodyOf e) low high d k h ∙ (λ i. further i puts byte i)
 
-  pub store-at : (k : ℕ) → k < lengthOf e + 2 → getD (stores at e) k d ≡ placeOf at (lengthOf e) k puts getD (inOrder e) k 0
+  pub store-at : (k : ℕ) → k < lengthOf e + 2 → getD (stores at e) k d ≡ (at + turnOf (lengthOf e) k) puts getD (inSlot e) (turnOf (lengthOf e) k) 0
   store-at k h = go (ltb k (lengthOf e)) refl
     where
-      go : (t : Bool) → ltb k (lengthOf e) ≡ t → getD (stores at e) k d ≡ pick t (at + 2 + k) (at + (lengthOf e + 1 - k)) puts getD (inOrder e) k 0
+      go : (t : Bool) → ltb k (lengthOf e) ≡ t → getD (stores at e) k d ≡ stored (pick t (2 + k) (lengthOf e + 1 - k))
       go true q = first-ones k (ltb-true k (lengthOf e) q)
       go false q =
           let past : lengthOf e ≤ k = ltb-false k (lengthOf e) q in

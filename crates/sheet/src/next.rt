@@ -14,18 +14,20 @@ fn eight_before(slots: usize) -> usize
 
 // Passes over the blank slots that end the first `from`, one by one, but not below `low`. Answers how many slots are left.
 fn pass_slots(sheet: &[u8], from: usize, low: usize) -> usize
+    requires { ⌜ low ≤ from ⌝ }
     requires { ⌜ from ≤ slots (now sheet) ⌝ }
     ensures { λ r. ⌜ Stops (now (sheet .entry)) from low r ⌝ }
 {
     let mut k = from;
     while low < k {
-        let at = 32 * (k - 1);
+        let slot = k - 1;
+        let at = 32 * slot;
         if !blank(&sheet[at..at + 32]) {
-            return k;
+            return slot + 1;
         }
         k -= 1;
     }
-    k
+    low
 }
 
 // Passes over the blank slots that end the first `from`, eight at a time: a part of that size is tested by a few wide operations.

@@ -17,7 +17,7 @@ use Rattle.sheet.specs.Bytes.{FF, allBlank}
 use Rattle.sheet.specs.Record.{Entry, lengthOf}
 use Rattle.sheet.specs.Slots.{Slot, spoiled, holds, slots, slotAt, slotOf, next}
 use Rattle.sheet.specs.Stores.{Store, _puts_, made, stores, after}
-use Rattle.sheet.specs.inside.InOrder.{placeOf}
+use Rattle.sheet.specs.inside.InSlot.{turnOf}
 use Rattle.sheet.specs.Save.{saveFault, Saves, savedNumber, storesMade}
 use Rattle.sheet.proofs.Storing.{stores-length, store-at, made-length}
 use Rattle.promises.specs.sheet.History.{Save, Takes, allStores}
@@ -31,10 +31,10 @@ use Rattle.promises.proofs.sheet.SaveMade.{slot-byte}
 use Rattle.promises.proofs.sheet.Fates.{Clear, clear, Fate, refused, idle, broken, closed, fate}
 
 -- Two stores of one record go to two places.
-apart : (at size j k : ℕ) → j < k → k < size + 2 → placeOf at size j ≢ placeOf at size k
+apart : (at size j k : ℕ) → j < k → k < size + 2 → at + turnOf size j ≢ at + turnOf size k
 apart at size j k h l = go (ltb j size) (ltb k size) refl refl
   where
-    go : (t u : Bool) → ltb j size ≡ t → ltb k size ≡ u → pick t (at + 2 + j) (at + (size + 1 - j)) ≢ pick u (at + 2 + k) (at + (size + 1 - k))
+    go : (t u : Bool) → ltb j size ≡ t → ltb k size ≡ u → at + pick t (2 + j) (size + 1 - j) ≢ at + pick u (2 + k) (size + 1 - k)
     go true true p q = omega arith
     go true false p q = omega (arith, ltb-false k size q)
     go false true p q = omega (arith, ltb-false j size p, ltb-true k size q)
@@ -66,10 +66,10 @@ module _ (s : List ℕ) (e : Entry) (may : ℕ) (c : Clear s e) where
   many : length ps ≡ min may (lengthOf e + 2)
   many = simp (length-take, stores-length)
 
-  nth-place : (k : ℕ) → k < length ps → nth ps k .place ≡ placeOf at (lengthOf e) k
+  nth-place : (k : ℕ) → k < length ps → nth ps k .place ≡ at + turnOf (lengthOf e) k
   nth-place k h =
       ap (λ (p : Store). p .place)
-      (getD-take may (stores at e) k (0 puts 0) (omega (arith, many)) ∙ store-at at e (0 puts 0) short k (omega (arith, many)))
+      (getD-take may (stores at e) k (0 puts 0) (omega (arith, many)) ∙ store-at at e (0 puts 0) k (omega (arith, many)))
 
   places-in : (k : ℕ) → k < length ps → nth ps k .place < length s
   places-in k h =
