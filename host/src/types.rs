@@ -23,7 +23,7 @@ pub const BLANK: u8 = 0xFF;
 /// Enough bytes for any line of a listing; the longest, newline included, takes 36.
 pub const LINE: usize = 64;
 
-/// The fault numbers of document 01.
+/// The fault numbers of documents 01 and 02.
 ///
 /// Two bytes wide, as degrees are: an answer of either then fits one machine word without the
 /// compiler taking it apart and together again through memory.
@@ -53,7 +53,7 @@ pub enum Fault {
 
 impl Fault {
     /// Every fault, in the order of its number.
-    pub const ALL: [Fault; 19] = [
+    pub const ALL: &'static [Fault] = &[
         Fault::Silent,
         Fault::Length,
         Fault::Start,
@@ -84,9 +84,21 @@ impl Fault {
     /// The fault of a number, if there is one.
     #[inline]
     pub fn from_number(number: u8) -> Option<Fault> {
-        Fault::ALL.get(usize::from(number).wrapping_sub(1)).copied()
+        BY_NUMBER[usize::from(number)]
     }
 }
+
+/// Every byte's fault; the numbers have gaps while some of document 02's requests are not in.
+static BY_NUMBER: [Option<Fault>; 256] = {
+    let mut faults = [None; 256];
+    let mut place = 0;
+    while place < Fault::ALL.len() {
+        let fault = Fault::ALL[place];
+        faults[fault.number() as usize] = Some(fault);
+        place += 1;
+    }
+    faults
+};
 
 /// What a call answers: its value, or the number of the first refusal that applies.
 pub type Answer<T> = Result<T, Fault>;
@@ -213,4 +225,25 @@ pub struct Standing {
     pub last: Option<Last>,
     /// Number of the last fault, 0 for none.
     pub fault: u8,
+}
+
+#[cfg(test)]
+mod tests {
+    use super::*;
+
+    #[test]
+    fn each_fault_has_its_number_and_no_other_byte_has_one() {
+        let numbers: Vec<u8> = Fault::ALL.iter().map(|fault| fault.number()).collect();
+        for number in 0..=u8::MAX {
+            let fault = Fault::from_number(number);
+            assert_eq!(
+                fault.map(Fault::number),
+                Some(number).filter(|n| numbers.contains(n))
+            );
+        }
+        assert!(
+            numbers.windows(2).all(|pair| pair[0] < pair[1]),
+            "{numbers:?}"
+        );
+    }
 }

@@ -4,8 +4,9 @@ mod damaged;
 
 use damaged::Damage::{self, *};
 use damaged::Damaged;
-use sisalcove_host::compare::{checks, Plan};
+use sisalcove_host::compare::{checks, Check, Plan};
 use sisalcove_host::reading::IndependentReading;
+use std::fmt::Debug;
 
 const CUT_MONTH: &str = "month cut after every store, right";
 const CUT_ANYWHERE: &str = "saves cut anywhere, right";
@@ -76,60 +77,84 @@ const FOUND_BY: [(Damage, &[&str]); 40] = [
     (SettingsOfRowNotAsked, &[BOARDS]),
 ];
 
-#[test]
-fn two_right_cores_agree() {
-    for check in checks() {
-        let verdict = (check.run)(
-            &IndependentReading,
-            &Damaged(Damage::Nothing),
-            &Plan::short(),
-        );
-        match verdict {
-            Ok(asked) => assert!(asked > 1_000, "{}: only {asked} asked", check.name),
-            Err(difference) => panic!("{}: {difference}", check.name),
-        }
-    }
+/// The comparisons of some calls, held to account: they pass for two right cores, whichever side
+/// they look at, each finds the mistakes named for it, and none is without a mistake to find.
+struct Account<C, M: 'static> {
+    checks: fn() -> Vec<Check<IndependentReading, C>>,
+    /// The same with the sides exchanged.
+    mirrored: fn() -> Vec<Check<C, IndependentReading>>,
+    /// A core that is right but for this mistake, or right without one.
+    core: fn(Option<M>) -> C,
+    found_by: &'static [(M, &'static [&'static str])],
 }
 
-#[test]
-fn every_mistake_is_found_by_each_comparison_that_should() {
-    let mut missed = Vec::new();
-    for (damage, found_by) in FOUND_BY {
-        for check in checks() {
-            if !found_by.contains(&check.name) {
-                continue;
+impl<C, M: Copy + Debug> Account<C, M> {
+    fn settle(&self) {
+        self.two_right_cores_agree();
+        self.every_mistake_is_found_by_each_comparison_that_should();
+        self.the_first_core_is_held_to_the_same();
+        self.every_comparison_has_a_mistake_to_find();
+    }
+
+    fn two_right_cores_agree(&self) {
+        for check in (self.checks)() {
+            let right = (self.core)(None);
+            match (check.run)(&IndependentReading, &right, &Plan::short()) {
+                Ok(asked) => assert!(asked > 1_000, "{}: only {asked} asked", check.name),
+                Err(difference) => panic!("{}: {difference}", check.name),
             }
-            if (check.run)(&IndependentReading, &Damaged(damage), &Plan::short()).is_ok() {
-                missed.push((damage, check.name));
+        }
+    }
+
+    fn every_mistake_is_found_by_each_comparison_that_should(&self) {
+        let mut missed = Vec::new();
+        for &(mistake, found_by) in self.found_by {
+            let wrong = (self.core)(Some(mistake));
+            for check in (self.checks)() {
+                let should = found_by.contains(&check.name);
+                if should && (check.run)(&IndependentReading, &wrong, &Plan::short()).is_ok() {
+                    missed.push((mistake, check.name));
+                }
+            }
+        }
+        assert!(missed.is_empty(), "{missed:#?}");
+    }
+
+    fn the_first_core_is_held_to_the_same(&self) {
+        for &(mistake, found_by) in self.found_by {
+            let wrong = (self.core)(Some(mistake));
+            for check in (self.mirrored)() {
+                let Some(which) = check.name.strip_suffix("left") else {
+                    continue;
+                };
+                let expected = found_by.contains(&format!("{which}right").as_str());
+                let verdict = (check.run)(&wrong, &IndependentReading, &Plan::short());
+                let name = check.name;
+                assert!(!expected || verdict.is_err(), "{mistake:?} by {name}");
             }
         }
     }
-    assert!(missed.is_empty(), "{missed:#?}");
-}
 
-#[test]
-fn the_first_core_is_held_to_the_same() {
-    for (damage, found_by) in FOUND_BY {
-        for check in checks() {
-            let Some(which) = check.name.strip_suffix("left") else {
-                continue;
-            };
-            let expected = found_by.contains(&format!("{which}right").as_str());
-            let verdict = (check.run)(&Damaged(damage), &IndependentReading, &Plan::short());
-            assert!(
-                !expected || verdict.is_err(),
-                "{damage:?} by {}",
-                check.name
-            );
+    fn every_comparison_has_a_mistake_to_find(&self) {
+        let names: Vec<&str> = (self.checks)().iter().map(|check| check.name).collect();
+        for name in &names {
+            let name = name.replace(", left", ", right");
+            let mut by = self.found_by.iter().map(|(_, by)| by);
+            assert!(by.any(|by| by.contains(&name.as_str())), "{name}");
+        }
+        for (mistake, by) in self.found_by {
+            assert!(by.iter().all(|name| names.contains(name)), "{mistake:?}");
         }
     }
 }
 
 #[test]
-fn every_comparison_has_a_mistake_to_find() {
-    for check in checks::<IndependentReading, IndependentReading>() {
-        let name = check.name.replace(", left", ", right");
-        let used = FOUND_BY.iter().any(|(_, by)| by.contains(&name.as_str()));
-        assert!(used, "{name}");
+fn document_01() {
+    Account {
+        checks,
+        mirrored: checks,
+        core: |mistake| Damaged(mistake.unwrap_or(Nothing)),
+        found_by: &FOUND_BY,
     }
+    .settle();
 }

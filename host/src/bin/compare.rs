@@ -5,7 +5,7 @@ use std::process::ExitCode;
 
 #[cfg(target_arch = "x86_64")]
 fn main() -> ExitCode {
-    use sisalcove_host::compare::{run, Plan};
+    use sisalcove_host::compare::{self, run, Plan};
     use sisalcove_host::library::Library;
     use sisalcove_host::random;
     use sisalcove_host::reading::IndependentReading;
@@ -19,7 +19,16 @@ fn main() -> ExitCode {
     };
     println!("the proved library (left) and the independent reading (right), seed {seed:#x}");
     let only = std::env::args().skip(1).collect::<Vec<_>>().join(" ");
-    let (passed, failed) = run(&Library, &IndependentReading, &Plan::full(seed), &only);
+    let plan = Plan::full(seed);
+    let verdicts = [run(
+        compare::checks(),
+        &Library,
+        &IndependentReading,
+        &plan,
+        &only,
+    )];
+    let passed: usize = verdicts.iter().map(|(passed, _)| passed).sum();
+    let failed: usize = verdicts.iter().map(|(_, failed)| failed).sum();
     println!("{passed} passed, {failed} failed");
     match failed {
         0 => ExitCode::SUCCESS,

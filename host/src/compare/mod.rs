@@ -169,11 +169,13 @@ pub struct Check<L, R> {
     pub run: fn(&L, &R, &Plan) -> Verdict,
 }
 
-/// Every comparison there is.
+/// A comparison and its name.
+fn check<L, R>(name: &'static str, run: fn(&L, &R, &Plan) -> Verdict) -> Check<L, R> {
+    Check { name, run }
+}
+
+/// Every comparison of document 01's calls.
 pub fn checks<L: Core, R: Core>() -> Vec<Check<L, R>> {
-    fn check<L, R>(name: &'static str, run: fn(&L, &R, &Plan) -> Verdict) -> Check<L, R> {
-        Check { name, run }
-    }
     vec![
         check("polls, all", |l, r, _| frames::polls(l, r)),
         check("levels, all of all settings", |l, r, _| {
@@ -227,11 +229,17 @@ pub fn checks<L: Core, R: Core>() -> Vec<Check<L, R>> {
     ]
 }
 
-/// Runs every comparison of two cores whose name has these words, telling of each as it ends.
+/// Runs those comparisons of two cores whose name has these words, telling of each as it ends.
 /// Answers how many passed, and how many did not.
-pub fn run<L: Core, R: Core>(left: &L, right: &R, plan: &Plan, only: &str) -> (usize, usize) {
+pub fn run<L, R>(
+    checks: Vec<Check<L, R>>,
+    left: &L,
+    right: &R,
+    plan: &Plan,
+    only: &str,
+) -> (usize, usize) {
     let (mut passed, mut failed) = (0, 0);
-    for check in checks() {
+    for check in checks {
         if !check.name.contains(only) {
             continue;
         }
