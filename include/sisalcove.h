@@ -243,8 +243,8 @@ SISAL_ANSWER struct sisal_reply sisal_read_reply(uint8_t settings, uint16_t addr
 /*
  * Writes a reply: SISAL_REPLY_40_BYTES where the temperature is absent, else SISAL_REPLY_56_BYTES, and answers how many. The kind is 1
  * degrees, 2 above, 3 below; every other kind is absent, and `tenths` counts for degrees alone. A level above its mode's largest is
- * written as the invalid level, and degrees beyond the type's range as its end (1900) or as above and below (1800). An alarm is set by
- * any number but 0. Refuses 10, 11, 15, with count 0 and no byte changed.
+ * written as the invalid level, and degrees beyond the type's range (1900: -7,999 to 7,999 tenths, 1800: -1,999 to 1,999) as its end
+ * (1900) or as above and below (1800). An alarm is set by any number but 0. Refuses 10, 11, 15, with count 0 and no byte changed.
  */
 SISAL_ANSWER struct sisal_done sisal_write_reply(uint8_t settings, uint16_t address, uint16_t level, uint8_t kind, int16_t tenths,
                                                  uint8_t alarm1, uint8_t alarm0, uint8_t *out, size_t out_bytes);

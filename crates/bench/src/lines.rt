@@ -14,7 +14,7 @@ pub(crate) fn thirty_feet(temperature: Temperature) -> Reading {
     }
 }
 
-// Writes a temperature at these settings, and prints its bits.
+// Writes a temperature at these settings, and prints its bits and what they read as.
 pub(crate) fn temperature(settings: u8, tenths: i16) {
     let mut out = [0u8; 7];
     match frame::write_reply(
@@ -23,7 +23,11 @@ pub(crate) fn temperature(settings: u8, tenths: i16) {
         thirty_feet(Temperature::Degrees(tenths)),
         &mut out,
     ) {
-        Written::Bytes(_) => print::temperature_bits(&out),
+        Written::Bytes(_) => {
+            print::temperature_bits(&out);
+            print::words(b" reads as ");
+            print::reply(frame::read_reply(settings, 7, 56, &out));
+        }
         Written::Refused(n) => print::fault(n),
     }
 }

@@ -8,6 +8,12 @@ fn main() {
     lines::temperature(1, 7999);
     print::words(b"1800, 100.0:");
     lines::temperature(5, 1000);
+    print::words(b"1800, 199.9:");
+    lines::temperature(5, 1999);
+    print::words(b"1800, 200.0:");
+    lines::temperature(5, 2000);
+    print::words(b"1800, -100.0:");
+    lines::temperature(5, -1000);
     let good: &[u8] = b"\x80\x0e\x50\x00\x00";
     print::words(b"last byte 01: ");
     print::reply(frame::read_reply(1, 7, 40, b"\x80\x0e\x50\x00\x01"));
@@ -30,4 +36,6 @@ fn main() {
     slots::save(&mut cut, 15);
     let mut two = [0xffu8; 64];
     slots::listing(&mut two);
+    let mut old = [0xffu8; 32];
+    slots::old_sheet(&mut old);
 }

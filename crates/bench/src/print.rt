@@ -80,7 +80,6 @@ pub(crate) fn temperature_bits(s: &[u8]) {
     four_bits(s, 44);
     four_bits(s, 48);
     four_bits(s, 52);
-    words(b"\n");
 }
 
 fn temperature(t: Temperature) {

@@ -48,8 +48,18 @@ pub(crate) fn save(sheet: &mut [u8], allowance: usize) {
 
 // Saves the bench reply on a sheet of two slots, and prints the sheet's listing.
 pub(crate) fn listing(sheet: &mut [u8]) {
-    let mut out = [0u8; 200];
     sheet::save(sheet, 1, 600, 7, 40, b"\x80\x0e\x50\x00\x00", 16);
+    listed(sheet);
+}
+
+// A sheet that was saved before bit 42 was read: the same bytes, in which the unit itself had set the bit.
+pub(crate) fn old_sheet(sheet: &mut [u8]) {
+    sheet::save(sheet, 5, 600, 7, 56, b"\x80\x0e\x50\x00\x00\xc6\x00", 18);
+    listed(sheet);
+}
+
+fn listed(sheet: &[u8]) {
+    let mut out = [0u8; 200];
     match listing::whole_listing(sheet, &mut out) {
         Written::Bytes(k) => print::front(&out, k),
         Written::Refused(n) => print::fault(n),

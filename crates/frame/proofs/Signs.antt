@@ -1,7 +1,7 @@
 -- Signed numbers as the machine keeps them, where they are small enough to be themselves. Assumes nothing.
 use mathlib.Core.Path.{_≡_, refl, ap, _∙_}
 use mathlib.Core.Bool.{true, false}
-use Prim.Native.Nat.{ℕ, zero, suc, _-_, _^_, _≤_}
+use Prim.Native.Nat.{ℕ, zero, suc, _-_, _^_, _<_, _≤_}
 use native.Mathlib.Nat.{zero-add}
 use native.Mathlib.Omega.{arith}
 use borrow.Author.Tests.{le-leb}
@@ -31,7 +31,7 @@ minus-is (suc m) = simp (le-leb 1 (suc m) (omega arith)) (ap negsuc less)
     less : suc m - 1 ≡ m
     less = omega arith
 
-pub minus-small : (m : ℕ) → m ≤ 7999 → SFits w16 (negℤ (pos m))
+pub minus-small : (m : ℕ) → m < 2 ^ 15 → SFits w16 (negℤ (pos m))
 minus-small zero h = record { sfits = omega arith }
 minus-small (suc m) h = record { sfits = omega arith }
 

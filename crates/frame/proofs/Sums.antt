@@ -4,13 +4,15 @@ use mathlib.Core.Bool.{Bool, true, false}
 use Prim.Native.Nat.{ℕ, _+_, _-_, _*_, _/_, _%_, _^_, _<_, _≤_, min}
 use native.Mathlib.Nat.{lt-of-lt-of-le, mul-assoc, mul-comm, mul-mod-left}
 use native.Mathlib.Omega.{arith}
+use borrow.Author.Tests.{leb-true}
 use lib.Dec.{leb, lit≤}
 use lib.Pow.{pow-add, pow-mono, shl-lt, ones-lt}
 use Rattle.frame.specs.declared.Temperature.{Temperature}
 use Rattle.frame.specs.declared.Temperature.the-variants.{Degrees, Above, Below, Absent}
+use Rattle.frame.specs.Pick.{pick}
 use Rattle.frame.specs.Line.{put, mark}
 use Rattle.frame.specs.Level.{Mode, modeOf, putLevel, fractionalMode, decimalMode, twentyMetreMode, thirtyMetreMode}
-use Rattle.frame.specs.Temperature.{isPlus, magnitude, putDegrees, putDegrees1900, putHeat1900, putDegrees1800, putHeat1800, putHeat, isAbsent}
+use Rattle.frame.specs.Temperature.{limit, isPlus, magnitude, putDegrees, putDegrees1900, putHeat1900, putDegrees1800, putHeat1800, putHeat, isAbsent}
 use Rattle.frame.specs.declared.Reading.{Reading}
 use Rattle.frame.specs.Reply.{modeIn, is1800, bodyOf}
 use Rattle.frame.specs.inside.Packed.{threeOf}
@@ -62,16 +64,13 @@ pub record Low (n : ℕ) : Type 0 where
   pub ends : n % 2 ^ 9 ≡ 0
 
 -- sign and digits end below bit 24, the hundreds' bits stand above the digits
-degrees-small : (plus : Bool) (m : ℕ) → putDegrees plus m < 2 ^ 23 + 2 ^ 21
+pub degrees-small : (plus : Bool) (m : ℕ) → putDegrees plus m < 2 ^ 23 + 2 ^ 21
 degrees-small true m = omega arith
 degrees-small false m = omega arith
 
 degrees-ends : (plus : Bool) (m : ℕ) → putDegrees plus m % 2 ^ 9 ≡ 0
 degrees-ends true m = omega arith
 degrees-ends false m = omega arith
-
-degrees-low : (plus : Bool) (m : ℕ) → Low (putDegrees plus m)
-degrees-low plus m = record { small = omega (arith, degrees-small plus m); ends = degrees-ends plus m }
 
 with-hundreds : (a b c d : ℕ) → a ≤ 1 → b ≤ 1 → c ≤ 1 → d < 2 ^ 23 + 2 ^ 21 → d % 2 ^ 9 ≡ 0 → Low (a * 2 ^ 24 + b * 2 ^ 22 + c * 2 ^ 21 + d)
 with-hundreds a b c d ha hb hc small ends = record { small = omega arith; ends = omega arith }
@@ -84,20 +83,35 @@ all-1900 plus m =
 
 low-1900 : (t : Temperature) → Low (putHeat1900 t)
 unfolding putHeat1900
-low-1900 (Degrees d) = all-1900 (isPlus d) (min (magnitude d) 7999)
-low-1900 Above = all-1900 true 7999
-low-1900 Below = all-1900 false 7999
+low-1900 (Degrees d) = all-1900 (isPlus d) (min (magnitude d) (limit false))
+low-1900 Above = all-1900 true (limit false)
+low-1900 Below = all-1900 false (limit false)
 low-1900 Absent = record { small = omega arith; ends = omega arith }
 
-low-1800 : (t : Temperature) → Low (putHeat1800 t)
-unfolding putHeat1800 putDegrees1800
-low-1800 (Degrees d) = pick-case Low (leb (magnitude d) 999) (degrees-low (isPlus d) (magnitude d)) (pick-case Low (isPlus d) above below)
+-- an 1800's one hundred stands where the second bit of a 1900's stands
+with-hundred : (plus : Bool) (m : ℕ) → m ≤ limit true → Low (put (m / 1000) 42 + putDegrees plus m)
+with-hundred plus m h = sum (m / 1000) (putDegrees plus m) (omega arith) (degrees-small plus m) (degrees-ends plus m)
+  where
+    sum : (b d : ℕ) → b ≤ 1 → d < 2 ^ 23 + 2 ^ 21 → d % 2 ^ 9 ≡ 0 → Low (b * 2 ^ 22 + d)
+    sum b d hb small ends = record { small = omega arith; ends = omega arith }
+
+all-1800 : (plus : Bool) (m : ℕ) → Low (putDegrees1800 plus m)
+unfolding putDegrees1800
+all-1800 plus m = go (leb m (limit true)) refl
   where
     above : Low (put 1 41 + put 1 43)
     above = record { small = omega arith; ends = omega arith }
 
     below : Low (put 1 40 + put 1 43)
     below = record { small = omega arith; ends = omega arith }
+
+    go : (b : Bool) → leb m (limit true) ≡ b → Low (pick b (put (m / 1000) 42 + putDegrees plus m) (pick plus (put 1 41 + put 1 43) (put 1 40 + put 1 43)))
+    go true e = with-hundred plus m (leb-true m (limit true) e)
+    go false e = pick-case Low plus above below
+
+low-1800 : (t : Temperature) → Low (putHeat1800 t)
+unfolding putHeat1800
+low-1800 (Degrees d) = all-1800 (isPlus d) (magnitude d)
 low-1800 Above = record { small = omega arith; ends = omega arith }
 low-1800 Below = record { small = omega arith; ends = omega arith }
 low-1800 Absent = record { small = omega arith; ends = omega arith }

@@ -1,4 +1,4 @@
--- Document 01, "Temperature", in tenths of a degree.
+-- Document 01, "Temperature", in tenths of a degree, with the hundred of an 1800 as document 02's request 06 has it.
 use mathlib.Core.Bool.{Bool, true, false}
 use Prim.Native.Nat.{ℕ, suc, _+_, _-_, _*_, _/_, _%_, min}
 use lib.Dec.{eqb, leb}
@@ -27,6 +27,10 @@ abbrev pub magnitude : ℤ → ℕ
 magnitude (pos n) = n
 magnitude (negsuc n) = suc n
 
+-- The most that each type can say, with either sign: an 1800 199.9 degrees, a 1900 799.9.
+abbrev pub limit : Bool → ℕ
+limit is1800 = pick is1800 1999 7999
+
 -- Bit 41 is 1 for positive; tens at 44-47, ones at 48-51, tenths at 52-55.
 abbrev pub degreesAt : ℕ → ℕ → Heat
 degreesAt n hundreds = pick (threeDecimal n 44) (told (Degrees (signed (eqb (bit n 41) 1) (hundreds * 1000 + threeDigits n 44)))) bad
@@ -47,31 +51,31 @@ putHundreds1900 h = put (1 - h % 2) 40 + put (1 - h / 2 % 2) 42 + put (1 - h / 4
 unfoldable pub putDegrees1900 : Bool → ℕ → ℕ
 putDegrees1900 plus m = putHundreds1900 (m / 1000) + putDegrees plus m
 
--- Range -7,999 to 7,999; beyond it, or for above and below, the nearer end is written. An absent temperature has no bits.
+-- Beyond the range, or for above and below, the nearer end is written. An absent temperature has no bits.
 unfoldable pub putHeat1900 : Temperature → ℕ
 unfolding putDegrees1900
-putHeat1900 (Degrees d) = putDegrees1900 (isPlus d) (min (magnitude d) 7999)
-putHeat1900 Above = putDegrees1900 true 7999
-putHeat1900 Below = putDegrees1900 false 7999
+putHeat1900 (Degrees d) = putDegrees1900 (isPlus d) (min (magnitude d) (limit false))
+putHeat1900 Above = putDegrees1900 true (limit false)
+putHeat1900 Below = putDegrees1900 false (limit false)
 putHeat1900 Absent = 0
 
--- Type 1800: above range sets bit 43, below sets bits 43 and 40; sign and digits are then not read. Bit 40 without 43 is not allowed,
--- and bit 42 is unused.
+-- Type 1800: above range sets bit 43, below sets bits 43 and 40; sign, hundred and digits are then not read. Bit 40 without 43 is not
+-- allowed. Bit 42 is the hundred: 1 means 100.0 more.
 unfoldable pub heat1800 : ℕ → Heat
 heat1800 n =
     pick (eqb (bit n 43) 1) (pick (eqb (bit n 40) 1) (told Below) (told Above))
-    (pick (eqb (bit n 40) 1) bad (degreesAt n 0))
+    (pick (eqb (bit n 40) 1) bad (degreesAt n (bit n 42)))
 
--- Beside an error the digits are written 0, the sign 1 above and 0 below.
+-- Beside an error hundred and digits are written 0, the sign 1 above and 0 below.
 abbrev pub putAbove1800 : ℕ
 putAbove1800 = put 1 41 + put 1 43
 
 abbrev pub putBelow1800 : ℕ
 putBelow1800 = put 1 40 + put 1 43
 
--- Range -999 to 999; beyond it is above or below.
+-- Beyond the range is above or below.
 unfoldable pub putDegrees1800 : Bool → ℕ → ℕ
-putDegrees1800 plus m = pick (leb m 999) (putDegrees plus m) (pick plus putAbove1800 putBelow1800)
+putDegrees1800 plus m = pick (leb m (limit true)) (put (m / 1000) 42 + putDegrees plus m) (pick plus putAbove1800 putBelow1800)
 
 unfoldable pub putHeat1800 : Temperature → ℕ
 unfolding putDegrees1800

@@ -1,10 +1,16 @@
 // Temperature in tenths of a degree, for types 1900 and 1800. Bit 40 of the line is bit 24 of its word, bit 55 is bit 9.
 ghost use mathlib.Core.Path.{_≡_};
+ghost use mathlib.Core.Bool.{false};
 ghost use Prim.Native.Nat.{_≤_, min};
-ghost use Rattle.frame.specs.Temperature.{signed, isPlus, magnitude, degreesAt, heat1900, heat1800, putDegrees, putDegrees1900, putDegrees1800, putHeat1900, putHeat1800};
+ghost use Rattle.frame.specs.Temperature.{limit, signed, isPlus, magnitude, degreesAt, heat1900, heat1800, putDegrees, putDegrees1900, putDegrees1800, putHeat1900, putHeat1800};
 ghost use Rattle.frame.specs.inside.Packed.{heatFor};
 use crate::Temperature;
 use crate::line;
+
+// The most that each type can say, with either sign.
+const LIMIT_1900: u64 = 7999;
+
+const LIMIT_1800: u64 = 1999;
 
 // What the temperature bits read as.
 pub(crate) enum Told {
@@ -14,7 +20,7 @@ pub(crate) enum Told {
 
 // A sign and a number of tenths.
 fn degrees(plus: bool, m: u64) -> i16
-    requires { ⌜ m ≤ 7999 ⌝ }
+    requires { ⌜ m ≤ limit false ⌝ }
     ensures { λ r. ⌜ r ≡ signed plus m ⌝ }
 {
     let d = m as i16;
@@ -63,7 +69,8 @@ pub(crate) fn read_1900(n: u64) -> Told
     degrees_at(n, hundreds)
 }
 
-// Type 1800: bit 43 is an error, above or, with bit 40, below; sign and digits are then not read. Bit 42 is not read at all.
+// Type 1800: bit 43 is an error, above or, with bit 40, below; sign and digits are then not read. Else bit 42 is the
+// hundred.
 pub(crate) fn read_1800(n: u64) -> Told
     ensures { λ r. ⌜ heatFor r ≡ heat1800 n ⌝ }
 {
@@ -78,7 +85,7 @@ pub(crate) fn read_1800(n: u64) -> Told
         }
         return Told::Is(Temperature::Above);
     }
-    degrees_at(n, 0)
+    degrees_at(n, (n >> 22) % 2)
 }
 
 // The sign and the last three digits of a number of tenths.
@@ -104,9 +111,9 @@ fn put_1900(plus: bool, m: u64) -> u64
 
 // The magnitude of a temperature, at most the end of the range of type 1900.
 fn within_1900(m: u64) -> u64
-    ensures { λ r. ⌜ r ≡ min m 7999 ⌝ }
+    ensures { λ r. ⌜ r ≡ min m (limit false) ⌝ }
 {
-    if 7999 < m { 7999 } else { m }
+    if LIMIT_1900 < m { LIMIT_1900 } else { m }
 }
 
 // Type 1900: beyond the range, and for above and below, the nearer end.
@@ -115,8 +122,8 @@ pub(crate) fn write_1900(t: Temperature) -> u64
 {
     match t {
         Temperature::Degrees(d) => put_1900(is_plus(d), within_1900(magnitude(d))),
-        Temperature::Above => put_1900(true, 7999),
-        Temperature::Below => put_1900(false, 7999),
+        Temperature::Above => put_1900(true, LIMIT_1900),
+        Temperature::Below => put_1900(false, LIMIT_1900),
         Temperature::Absent => 0,
     }
 }
@@ -126,11 +133,12 @@ const ABOVE_1800: u64 = line::BIT_41 + line::BIT_43;
 
 const BELOW_1800: u64 = line::BIT_40 + line::BIT_43;
 
+// Degrees of an 1800 with their hundred, or above or below its range.
 fn degrees_1800(plus: bool, m: u64) -> u64
     ensures { λ r. ⌜ r ≡ putDegrees1800 plus m ⌝ }
 {
-    if m <= 999 {
-        return put_degrees(plus, m);
+    if m <= LIMIT_1800 {
+        return m / 1000 * line::BIT_42 + put_degrees(plus, m);
     }
     if plus {
         return ABOVE_1800;

@@ -78,8 +78,8 @@ fn as_told(settings: u8, given: Temperature) -> Temperature {
     use Temperature::{Above, Absent, Below, Degrees};
     if settings & TYPE_1800 != 0 {
         match given {
-            Degrees(1_000..) => Above,
-            Degrees(..=-1_000) => Below,
+            Degrees(2_000..) => Above,
+            Degrees(..=-2_000) => Below,
             other => other,
         }
     } else {

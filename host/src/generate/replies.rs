@@ -102,7 +102,7 @@ pub fn reading(random: &mut Random, settings: u8) -> Reading {
         6 => Temperature::Above,
         7 => Temperature::Below,
         8 => Temperature::Degrees(random.next() as i16),
-        9..=11 => Temperature::Degrees(random.below(1_999) as i16 - 999),
+        9..=11 => Temperature::Degrees(random.below(4_003) as i16 - 2_001),
         _ => Temperature::Degrees(random.below(15_999) as i16 - 7_999),
     };
     Reading {

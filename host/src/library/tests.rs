@@ -53,7 +53,7 @@ fn raise_and_reset_are_set_by_any_number_but_0() {
 fn every_kind_is_a_temperature_and_alarms_are_set_by_any_number_but_0() {
     for kind in 0..=u8::MAX {
         for alarm1 in FLAGS {
-            for (alarm0, tenths) in FLAGS.into_iter().zip([0, -123, 999, i16::MIN, i16::MAX]) {
+            for (alarm0, tenths) in FLAGS.into_iter().zip([0, -123, 1_999, i16::MIN, i16::MAX]) {
                 let reading = Reading {
                     level: 3_000,
                     temperature: match kind {

@@ -119,9 +119,12 @@ fn read_temperature(settings: u8, field: u16) -> Answer<Temperature> {
     if ((digits + 0x666) ^ digits ^ 0x666) & 0x1110 != 0 {
         return Err(Fault::Temperature);
     }
-    // The hundreds' bits are inverted; an 1800 has none.
-    let hundreds = !field >> 15 & 1 | !field >> 12 & 2 | !field >> 10 & 4;
-    let hundreds = if is_1800 { 0 } else { hundreds };
+    // A 1900's hundreds' bits are inverted; an 1800's one hundred, bit 42, is not.
+    let hundreds = if is_1800 {
+        field >> 13 & 1
+    } else {
+        !field >> 15 & 1 | !field >> 12 & 2 | !field >> 10 & 4
+    };
     let tenths = (hundreds * 1_000 + number_of_digits(digits)) as i16;
     let positive = field & BIT_41 != 0;
     Ok(Temperature::Degrees(if positive {
@@ -189,6 +192,7 @@ fn temperature_field(settings: u8, temperature: Temperature) -> u16 {
     if settings & TYPE_1800 != 0 {
         return match (size, tenths >= 0) {
             (0..=999, _) => sign | decimal_digits(size),
+            (1_000..=1_999, _) => sign | BIT_42 | decimal_digits(size - 1_000),
             (_, true) => sign | BIT_43,
             (_, false) => BIT_43 | BIT_40,
         };

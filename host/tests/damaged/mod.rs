@@ -22,7 +22,8 @@ pub enum Damage {
     OneLevelWrong,
     ZeroWrittenNegative,
     LowestTemperatureWrong,
-    Bit42Of1800Read,
+    HundredOf1800Unread,
+    HundredBesideAboveRead,
     DigitsBesideAboveRead,
     DigitAboveNineInAddress,
     PadBitsIgnored,
@@ -169,8 +170,18 @@ impl Core for Damaged {
                     ..reading
                 })
             }
-            (Bit42Of1800Read, Ok(_))
-                if settings & 4 != 0 && count == 56 && reply[5] & 0x40 != 0 =>
+            (HundredOf1800Unread, Ok(reading)) if settings & 4 != 0 => {
+                let temperature = match reading.temperature {
+                    Temperature::Degrees(tenths) => Temperature::Degrees(tenths % 1_000),
+                    other => other,
+                };
+                Ok(Reading {
+                    temperature,
+                    ..reading
+                })
+            }
+            (HundredBesideAboveRead, Ok(reading))
+                if reading.temperature == Temperature::Above && reply[5] & 0x40 != 0 =>
             {
                 Err(Fault::Temperature)
             }

@@ -4,30 +4,14 @@ use mathlib.Core.Bool.{Bool, true, false, not, _&&_, false≢true}
 use Prim.Native.Nat.{ℕ, _-_, _%_, _^_, _+_, _<_, _≤_}
 use native.Mathlib.Omega.{arith}
 use native.Mathlib.Nat.{zero-div, zero-mod}
-use lib.Dec.{leb}
 use lib.IntN.{pos}
 use borrow.Author.Tests.{ne-eqb}
 use Rattle.frame.specs.declared.Temperature.{Temperature}
 use Rattle.frame.specs.declared.Temperature.the-variants.{Degrees, Above, Below, Absent}
-use Rattle.frame.specs.Pick.{pick}
 use Rattle.frame.specs.Line.{field, bit, mark}
-use Rattle.frame.specs.Temperature.{isPlus, magnitude, putDegrees, putAbove1800, putBelow1800, putDegrees1900, putHeat1900, putHeat1800, putHeat}
-use Rattle.promises.specs.frame.NotTold.{isError, NotTold, bit-2, bit-3, bit-42, sign-of-zero, sign-beside, digits-beside, isBelow, asWeWrite}
+use Rattle.frame.specs.Temperature.{putDegrees1900, putDegrees1800, putHeat1900, putHeat1800, putHeat}
+use Rattle.promises.specs.frame.NotTold.{isError, NotTold, bit-2, bit-3, sign-of-zero, sign-beside, hundred-beside, digits-beside, isBelow, asWeWrite}
 use Rattle.promises.proofs.frame.Fields.{same-within}
-use Rattle.promises.proofs.frame.TemperaturesBack.{parts-1800}
-
--- An 1800's bit 42.
-unused-42 : (t : Temperature) → bit (putHeat1800 t) 42 ≡ 0
-unfolding putHeat1800
-unused-42 (Degrees d) = go (leb (magnitude d) 999) (isPlus d)
-  where
-    go : (a b : Bool) → bit (pick a (putDegrees (isPlus d) (magnitude d)) (pick b putAbove1800 putBelow1800)) 42 ≡ 0
-    go true b = parts-1800 (isPlus d) (magnitude d) .at-42
-    go false true = refl
-    go false false = refl
-unused-42 Above = refl
-unused-42 Below = refl
-unused-42 Absent = refl
 
 -- The sign of a zero, of either type.
 plus-zero : (ty : Bool) → bit (putHeat ty (Degrees (pos 0))) 41 ≡ 1
@@ -35,13 +19,20 @@ unfolding putHeat1900 putHeat1800 putDegrees1900
 plus-zero true = refl
 plus-zero false = refl
 
--- Sign and digits beside an error.
+-- Sign, hundred and digits beside an error.
 sign-error : (t : Temperature) → isError t ≡ true → bit (putHeat1800 t) 41 ≡ asWeWrite t 41
 unfolding putHeat1800
 sign-error (Degrees d) e = absurd (false≢true e)
 sign-error Above e = refl
 sign-error Below e = refl
 sign-error Absent e = absurd (false≢true e)
+
+hundred-error : (t : Temperature) → isError t ≡ true → bit (putHeat1800 t) 42 ≡ asWeWrite t 42
+unfolding putHeat1800
+hundred-error (Degrees d) e = absurd (false≢true e)
+hundred-error Above e = refl
+hundred-error Below e = refl
+hundred-error Absent e = absurd (false≢true e)
 
 digits-error : (t : Temperature) → isError t ≡ true → field (putHeat1800 t) 44 55 ≡ field 0 44 55
 unfolding putHeat1800
@@ -61,15 +52,15 @@ pub as-ours : (ty : Bool) (t : Temperature) (w : ℕ) → field w 2 3 ≡ 0 → 
     → (40 ≤ i → field w 40 55 ≡ field (putHeat ty t) 40 55) → bit w i ≡ asWeWrite t i
 as-ours ty t w u i bit-2 h = omega arith
 as-ours ty t w u i bit-3 h = omega arith
-as-ours ty t w u i (bit-42 e) h =
-    same-within w (putHeat ty t) 40 55 42 42 (omega arith) (omega arith) (omega arith) (omega arith) (h (omega arith))
-    ∙ ap (λ (b : Bool). bit (putHeat b t) 42) e ∙ unused-42 t
 as-ours ty t w u i (sign-of-zero e) h =
     same-within w (putHeat ty t) 40 55 41 41 (omega arith) (omega arith) (omega arith) (omega arith) (h (omega arith))
     ∙ ap (λ (x : Temperature). bit (putHeat ty x) 41) e ∙ plus-zero ty ∙ sym (ap (λ (x : Temperature). asWeWrite x 41) e)
 as-ours ty t w u i (sign-beside e f) h =
     same-within w (putHeat ty t) 40 55 41 41 (omega arith) (omega arith) (omega arith) (omega arith) (h (omega arith))
     ∙ ap (λ (b : Bool). bit (putHeat b t) 41) e ∙ sign-error t f
+as-ours ty t w u i (hundred-beside e f) h =
+    same-within w (putHeat ty t) 40 55 42 42 (omega arith) (omega arith) (omega arith) (omega arith) (h (omega arith))
+    ∙ ap (λ (b : Bool). bit (putHeat b t) 42) e ∙ hundred-error t f
 as-ours ty t w u i (digits-beside e f j from to) h =
     same-within w (putHeat ty t) 40 55 j j (omega arith) (omega arith) to (omega arith) (h (omega arith))
     ∙ ap (λ (b : Bool). bit (putHeat b t) j) e

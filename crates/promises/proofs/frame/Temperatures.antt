@@ -11,13 +11,13 @@ use Rattle.frame.specs.declared.Temperature.{Temperature}
 use Rattle.frame.specs.declared.Temperature.the-variants.{Degrees, Above, Below}
 use Rattle.frame.specs.Pick.{pick}
 use Rattle.frame.specs.Line.{field, bit, mark, threeDecimal, threeDigits}
-use Rattle.frame.specs.Temperature.{told, bad, signed, isPlus, magnitude, degreesAt, hundreds1900, heat1900, heat1800, putDegrees, putDegrees1900, putHeat1900, putHeat1800, heatOf, putHeat, isAbsent}
-use Rattle.promises.specs.frame.NotTold.{isError, NotTold, bit-42, sign-of-zero, sign-beside, digits-beside}
+use Rattle.frame.specs.Temperature.{limit, told, bad, signed, isPlus, magnitude, degreesAt, hundreds1900, heat1900, heat1800, putDegrees, putDegrees1900, putHeat1900, putHeat1800, heatOf, putHeat, isAbsent}
+use Rattle.promises.specs.frame.NotTold.{isError, NotTold, sign-of-zero, sign-beside, hundred-beside, digits-beside}
 use Rattle.promises.specs.frame.Temperatures.{TemperatureBothWays}
 use Rattle.promises.proofs.Cases.{by-le, not-1, not-true}
 use Rattle.promises.proofs.frame.Fields.{same-within}
 use Rattle.promises.proofs.frame.Digits.{bit-lt, mark-bit, three-small, same-digits}
-use Rattle.promises.proofs.frame.TemperaturesBack.{parts-1900, parts-1800, reads-back, in-range}
+use Rattle.promises.proofs.frame.TemperaturesBack.{parts-1900, degrees1800, parts-1800, reads-back, in-range}
 
 -- The temperature bits of a line w hold what those of a line n tell of the temperature t.
 pub record Kept (is1800 : Bool) (t : Temperature) (w n : ℕ) : Type 0 where
@@ -25,7 +25,7 @@ pub record Kept (is1800 : Bool) (t : Temperature) (w n : ℕ) : Type 0 where
   pub no-error : is1800 ≡ false → isError t ≡ false
   pub at-40 : bit w 40 ≡ bit n 40
   pub at-41 : ¬ (t ≡ Degrees (pos 0)) → isError t ≡ false → bit w 41 ≡ bit n 41
-  pub at-42 : is1800 ≡ false → bit w 42 ≡ bit n 42
+  pub at-42 : isError t ≡ false → bit w 42 ≡ bit n 42
   pub at-43 : bit w 43 ≡ bit n 43
   pub digits : isError t ≡ false → field w 44 55 ≡ field n 44 55
 
@@ -96,48 +96,50 @@ again-1900 n t e =
     let m : ℕ = tenths1900 n in
     let d : ℤ = signed (eqb (bit n 41) 1) m in
     let got = told-if (threeDecimal n 44) (Degrees d) t e in
-    let small : m ≤ 7999 = bounded (bit n 40) (bit n 42) (bit n 43) (threeDigits n 44) (three-small n 44 (got .0)) in
-    let size : m ≡ min (magnitude d) 7999 = sym (ap (λ (k : ℕ). min k 7999) (magnitude-signed (eqb (bit n 41) 1) m) ∙ least m 7999 small) in
+    let small : m ≤ limit false = bounded (bit n 40) (bit n 42) (bit n 43) (threeDigits n 44) (three-small n 44 (got .0)) in
+    let size : m ≡ min (magnitude d) (limit false) = sym (ap (λ (k : ℕ). min k (limit false)) (magnitude-signed (eqb (bit n 41) 1) m) ∙ least m (limit false) small) in
     subst (λ (t : Temperature). Kept false t (putHeat1900 t) n) (got .1)
     (subst (λ (k : ℕ). Kept false (Degrees d) (putDegrees1900 (isPlus d) k) n) size (kept-1900 n (got .0)))
   where
-    bounded : (a c d r : ℕ) → r ≤ 999 → ((1 - a) + 2 * (1 - c) + 4 * (1 - d)) * 1000 + r ≤ 7999
+    bounded : (a c d r : ℕ) → r ≤ 999 → ((1 - a) + 2 * (1 - c) + 4 * (1 - d)) * 1000 + r ≤ limit false
     bounded a c d r h = omega arith
 
     least : (a b : ℕ) → a ≤ b → min a b ≡ a
     least a b h = omega arith
 
 -- Degrees as an 1800 reads them, written again.
-kept-1800 : (n : ℕ) → bit n 40 ≡ 0 → bit n 43 ≡ 0 → threeDecimal n 44 ≡ true
-    → let m : ℕ = 0 * 1000 + threeDigits n 44 in
-    let d : ℤ = signed (eqb (bit n 41) 1) m in Kept true (Degrees d) (putDegrees (isPlus d) m) n
-kept-1800 n a z dec =
-    let m : ℕ = 0 * 1000 + threeDigits n 44 in
+abbrev tenths1800 : ℕ → ℕ
+tenths1800 n = bit n 42 * 1000 + threeDigits n 44
+
+kept-1800 : (n : ℕ) → bit n 40 ≡ 0 → bit n 43 ≡ 0 → threeDecimal n 44 ≡ true → tenths1800 n ≤ limit true
+    → let d : ℤ = signed (eqb (bit n 41) 1) (tenths1800 n) in Kept true (Degrees d) (degrees1800 (isPlus d) (tenths1800 n)) n
+kept-1800 n a z dec small =
+    let m : ℕ = tenths1800 n in
     let d : ℤ = signed (eqb (bit n 41) 1) m in
-    let of = parts-1800 (isPlus d) m in
+    let of = parts-1800 (isPlus d) m small in
     record {
       there = refl;
       no-error = λ _. refl;
       at-40 = of .at-40 ∙ sym a;
       at-41 = λ p _. of .at-41 ∙ sign-kept n m p;
-      at-42 = λ p. absurd (true≢false p);
+      at-42 = λ _. of .at-42 ∙ digits-div (bit n 42) (le-lt-suc (three-small n 44 dec));
       at-43 = of .at-43 ∙ sym z;
-      digits = λ _. digits-kept n (putDegrees (isPlus d) m) 0 dec (of .tens) (of .ones) (of .tenths);
+      digits = λ _. digits-kept n (degrees1800 (isPlus d) m) (bit n 42) dec (of .tens) (of .ones) (of .tenths);
     }
 
-degrees-1800 : (n : ℕ) (t : Temperature) → bit n 40 ≡ 0 → bit n 43 ≡ 0 → degreesAt n 0 ≡ told t → Kept true t (putHeat1800 t) n
+degrees-1800 : (n : ℕ) (t : Temperature) → bit n 40 ≡ 0 → bit n 43 ≡ 0 → degreesAt n (bit n 42) ≡ told t → Kept true t (putHeat1800 t) n
 unfolding putHeat1800
 degrees-1800 n t a z e =
-    let m : ℕ = 0 * 1000 + threeDigits n 44 in
+    let m : ℕ = tenths1800 n in
     let d : ℤ = signed (eqb (bit n 41) 1) m in
     let got = told-if (threeDecimal n 44) (Degrees d) t e in
     let size : magnitude d ≡ m = magnitude-signed (eqb (bit n 41) 1) m in
-    let small : m ≤ 999 = bounded (threeDigits n 44) (three-small n 44 (got .0)) in
+    let small : m ≤ limit true = bounded (bit n 42) (threeDigits n 44) (bit-lt n 42) (three-small n 44 (got .0)) in
     subst (λ (t : Temperature). Kept true t (putHeat1800 t) n) (got .1)
-    (rw (size, le-leb m 999 small) (kept-1800 n a z (got .0)))
+    (rw (size, le-leb m (limit true) small) (kept-1800 n a z (got .0) small))
   where
-    bounded : (r : ℕ) → r ≤ 999 → 0 * 1000 + r ≤ 999
-    bounded r h = omega arith
+    bounded : (h r : ℕ) → h < 2 → r ≤ 999 → h * 1000 + r ≤ limit true
+    bounded h r few small = omega arith
 
 kept-above : (n : ℕ) → bit n 40 ≡ 0 → bit n 43 ≡ 1 → Kept true Above (putHeat1800 Above) n
 unfolding putHeat1800
@@ -170,7 +172,7 @@ unfolding heat1800
 again-1800 n t e = go (eqb (bit n 43) 1) refl (eqb (bit n 40) 1) refl e
   where
     go : (x : Bool) → eqb (bit n 43) 1 ≡ x → (y : Bool) → eqb (bit n 40) 1 ≡ y
-        → pick x (pick y (told Below) (told Above)) (pick y bad (degreesAt n 0)) ≡ told t → Kept true t (putHeat1800 t) n
+        → pick x (pick y (told Below) (told Above)) (pick y bad (degreesAt n (bit n 42))) ≡ told t → Kept true t (putHeat1800 t) n
     go true p true q e =
         let is : Below ≡ t = cc in
         subst (λ (t : Temperature). Kept true t (putHeat1800 t) n) is (kept-below n (eqb-true (bit n 40) 1 q) (eqb-true (bit n 43) 1 p))
@@ -194,7 +196,8 @@ kept-bits is1800 t w n kept i from to free =
     by-le i 40 (λ h. at 40 (omega arith) (kept .at-40)) λ p.
     by-le i 41 (λ h. let e : 41 ≡ i = omega arith in
     at 41 e (kept .at-41 (λ z. free (there 41 e (sign-of-zero z))) (error-free is1800 t (kept .no-error) (λ z. free (there 41 e (sign-beside (z .0) (z .1))))))) λ q.
-    by-le i 42 (λ h. let e : 42 ≡ i = omega arith in at 42 e (kept .at-42 (not-true is1800 (λ z. free (there 42 e (bit-42 z)))))) λ r.
+    by-le i 42 (λ h. let e : 42 ≡ i = omega arith in
+    at 42 e (kept .at-42 (error-free is1800 t (kept .no-error) (λ z. free (there 42 e (hundred-beside (z .0) (z .1))))))) λ r.
     by-le i 43 (λ h. at 43 (omega arith) (kept .at-43)) λ s.
     same-within w n 44 55 i i (omega arith) (omega arith) to (omega arith)
     (kept .digits (error-free is1800 t (kept .no-error) (λ z. free (digits-beside (z .0) (z .1) i (omega arith) to))))

@@ -88,7 +88,7 @@ heat-few settings count n =
     pick-case Short (eqb count 40) (omega arith)
     (pick-case Short (is1800 settings)
     (pick-case Short (eqb (bit n 43) 1) (pick-case Short (eqb (bit n 40) 1) (omega arith) (omega arith))
-    (pick-case Short (eqb (bit n 40) 1) (omega arith) (degrees-at-few n 0 (omega arith))))
+    (pick-case Short (eqb (bit n 40) 1) (omega arith) (degrees-at-few n (bit n 42) (omega arith))))
     (degrees-at-few n (hundreds1900 n) (omega arith)))
 
 -- a reading, and a reply

@@ -1,4 +1,4 @@
--- The positions that a reading does not tell, as document 01 lists them, and what we write there.
+-- The positions that a reading does not tell, as document 01 lists them and request 06 of document 02 mends the list, and what we write there.
 use mathlib.Core.Path.{_≡_}
 use mathlib.Core.Bool.{Bool, true, false, not, _&&_}
 use Prim.Native.Nat.{ℕ, _≤_}
@@ -15,13 +15,14 @@ isError Above = true
 isError Below = true
 isError Absent = false
 
--- Not told, of a reply of this type with the temperature t: bits 2 and 3; bit 42 of an 1800; the sign of a zero; sign and digits beside an 1800 error.
+-- Not told, of a reply of this type with the temperature t: bits 2 and 3; the sign of a zero; sign, hundred (bit 42) and digits beside an 1800
+-- error.
 pub data NotTold (is1800 : Bool) (t : Temperature) : ℕ → Type 0 where
   bit-2 : NotTold is1800 t 2
   bit-3 : NotTold is1800 t 3
-  bit-42 : is1800 ≡ true → NotTold is1800 t 42
   sign-of-zero : t ≡ Degrees (pos 0) → NotTold is1800 t 41
   sign-beside : is1800 ≡ true → isError t ≡ true → NotTold is1800 t 41
+  hundred-beside : is1800 ≡ true → isError t ≡ true → NotTold is1800 t 42
   digits-beside : is1800 ≡ true → isError t ≡ true → (i : ℕ) → 44 ≤ i → i ≤ 55 → NotTold is1800 t i
 
 abbrev pub isBelow : Temperature → Bool

@@ -1,37 +1,34 @@
--- Document 01's temperatures, both ways, for both types: bits 40 to 55 of a line, and the temperature that they read as.
+-- Document 01's temperatures, with the hundred of an 1800 (document 02, request 06), both ways, for both types: bits 40 to 55 of a line, and the temperature that they read as.
 use mathlib.Core.Path.{_≡_}
 use mathlib.Core.Bool.{Bool, true, false}
-use Prim.Native.Nat.{ℕ, _≤_, min}
+use Prim.Native.Nat.{ℕ, _≤_}
 use lib.Dec.{leb}
-use lib.IntN.{pos, negsuc}
 use Rattle.frame.specs.declared.Temperature.{Temperature}
 use Rattle.frame.specs.declared.Temperature.the-variants.{Degrees, Above, Below, Absent}
 use Rattle.frame.specs.Pick.{pick}
 use Rattle.frame.specs.Line.{bit}
-use Rattle.frame.specs.Temperature.{told, heatOf, putHeat, isAbsent, magnitude}
+use Rattle.frame.specs.Temperature.{limit, told, signed, isPlus, magnitude, heatOf, putHeat, isAbsent}
 use Rattle.promises.specs.frame.NotTold.{NotTold}
 
--- What a type of transmitter can say: degrees from -7,999 to 7,999 tenths (1900) or -999 to 999 (1800), above and below of an 1800 alone,
--- and in a reply of 40 bits nothing.
+-- What a type of transmitter can say: degrees up to its limit with either sign, above and below of an 1800 alone, and in a reply of 40 bits
+-- nothing.
 abbrev pub InRange : Bool → Temperature → Type 0
-InRange is1800 (Degrees d) = magnitude d ≤ pick is1800 999 7999
+InRange is1800 (Degrees d) = magnitude d ≤ limit is1800
 InRange is1800 Above = is1800 ≡ true
 InRange is1800 Below = is1800 ≡ true
 InRange is1800 Absent = Unit {0}
 
--- What a temperature reads back as once it was written: beyond the range, of a 1900 as the nearer end, of an 1800 as above or below.
--- (`negsuc n` is -(n + 1).)
+-- What a temperature beyond the range reads back as, by its sign: of an 1800 as above or below, of a 1900 as the nearer end.
+abbrev pub beyond : Bool → Bool → Temperature
+beyond true plus = pick plus Above Below
+beyond false plus = Degrees (signed plus (limit false))
+
+-- What a temperature reads back as once it was written.
 abbrev pub readBack : Bool → Temperature → Temperature
-readBack false (Degrees (pos n)) = Degrees (pos (min n 7999))
-readBack false (Degrees (negsuc n)) = Degrees (negsuc (min n 7998))
-readBack false Above = Degrees (pos 7999)
-readBack false Below = Degrees (negsuc 7998)
-readBack false Absent = Absent
-readBack true (Degrees (pos n)) = pick (leb n 999) (Degrees (pos n)) Above
-readBack true (Degrees (negsuc n)) = pick (leb n 998) (Degrees (negsuc n)) Below
-readBack true Above = Above
-readBack true Below = Below
-readBack true Absent = Absent
+readBack is1800 (Degrees d) = pick (leb (magnitude d) (limit is1800)) (Degrees d) (beyond is1800 (isPlus d))
+readBack is1800 Above = beyond is1800 true
+readBack is1800 Below = beyond is1800 false
+readBack is1800 Absent = Absent
 
 pub record TemperatureBothWays : Type 0 where
   -- A temperature, written, reads as `readBack` says, which within the range is the temperature itself.

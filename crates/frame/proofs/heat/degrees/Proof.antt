@@ -1,4 +1,4 @@
--- `frame::heat::degrees` meets its contract: a number up to 7,999 and its negative fit 16 bits. Assumes nothing.
+-- `frame::heat::degrees` meets its contract: a number within the limit and its negative fit 16 bits. Assumes nothing.
 use native.Mathlib.Omega.{arith}
 use mir.Syntax.{w16}
 use mir.Facts.{toZ-ofZ, toZ-pos}
@@ -16,12 +16,12 @@ returns c = rw (c .if1 .taken, toZ-pos w16 {n = c .before .args .m} (omega arith
 sub-result : tie.Need-sub-result
 sub-result c =
     let m = c .before .args .m in
-    rw (toZ-pos w16 {n = m} (omega arith), minus-is m) (minus-small m (c .before .pre))
+    rw (toZ-pos w16 {n = m} (omega arith), minus-is m) (minus-small m (omega arith))
 
 returns-2 : tie.Need-returns-2
 returns-2 c =
     let m = c .before .args .m in
-    rw (c .if1 .left, toZ-pos w16 {n = m} (omega arith), minus-is m) (toZ-ofZ {w = w16} (minus-small m (c .before .pre)))
+    rw (c .if1 .left, toZ-pos w16 {n = m} (omega arith), minus-is m) (toZ-ofZ {w = w16} (minus-small m (omega arith)))
 
 pub degrees-spec : {M : Type 1} → statement M
 degrees-spec = tie.close (tie.spec cast-d returns sub-result returns-2)

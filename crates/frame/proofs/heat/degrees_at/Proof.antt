@@ -1,4 +1,4 @@
--- `frame::heat::degrees_at` meets its contract: 1000 tells a digit above 9; else the number is that of the three digits, and at most 7,999 with its hundreds. Assumes nothing.
+-- `frame::heat::degrees_at` meets its contract: 1000 tells a digit above 9; else the number is that of the three digits, and within the limit with its hundreds. Assumes nothing.
 use mathlib.Core.Path.{_≡_, sym, _∙_}
 use mathlib.Core.Bool.{true, false}
 use Prim.Native.Nat.{ℕ, _≤_}
