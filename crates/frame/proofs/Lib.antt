@@ -5,6 +5,7 @@ pub mod Marks
 pub mod Shifts
 pub mod Tables
 pub mod EachMode
+pub mod DecimalCode
 pub mod Digits
 pub mod Upward
 pub mod Straight

@@ -1,9 +1,10 @@
 // The charts of the digits as words of sixteen places, four bits each. A chart's number: 0 one bit, 1 two bits, 2 feet tens,
 // 3 decimal, 4 inches, 5 sixteenths.
 ghost use mathlib.Core.Path.{_≡_};
-ghost use Prim.Native.Nat.{_/_, _%_, _<_};
+ghost use mathlib.Core.Logic.{_≢_};
+ghost use Prim.Native.Nat.{_/_, _%_, _<_, _≤_};
 ghost use lib.ListN.{getD};
-ghost use Rattle.frame.specs.Charts.{sizeOf, placeIn, codeOf};
+ghost use Rattle.frame.specs.Charts.{decimal, sizeOf, placeIn, codeOf};
 ghost use Rattle.frame.specs.inside.Packed.{chartOf, placesOf, codesOf, digitOf};
 
 // How many values a digit has.
@@ -48,15 +49,15 @@ fn places(chart: u64) -> u64
     }
 }
 
-// For each place of the chart its code; place 0 lowest.
+// For each place of a chart its code; place 0 lowest. The decimal codes are worked out (`decimal_code`).
 fn codes(chart: u64) -> u64
+    requires { ⌜ chart ≢ 3 ⌝ }
     ensures { λ r. ⌜ r ≡ codesOf (chartOf chart) ⌝ }
 {
     match chart {
         0 => 0x10,
         1 => 0x2310,
         2 => 0x45762310,
-        3 => 0x8c45762310,
         4 => 0xefdc45762310,
         _ => 0x89baefdc45762310,
     }
@@ -70,11 +71,26 @@ fn place(chart: u64, code: u64) -> u64
     (places(chart) >> (4 * code)) % 16
 }
 
+// The decimal code of a digit: the digit combined by exclusive or with half of it, rounded down, so that from each to the next just one bit
+// changes. 9 alone is 1000, which is one bit away from the code of 8 too.
+fn decimal_code(at: u64) -> u64
+    requires { ⌜ at ≤ 9 ⌝ }
+    ensures { λ r. ⌜ r ≡ getD (decimal .codes) at 0 ⌝ }
+{
+    if at == 9 {
+        return 0b1000;
+    }
+    at ^ (at / 2)
+}
+
 // The code at a place of a chart.
 fn code_at(chart: u64, at: u64) -> u64
-    requires { ⌜ at < 16 ⌝ }
+    requires { ⌜ at < sizeOf (chartOf chart) ⌝ }
     ensures { λ r. ⌜ r ≡ getD (chartOf chart .codes) at 0 ⌝ }
 {
+    if chart == 3 {
+        return decimal_code(at);
+    }
     (codes(chart) >> (4 * at)) % 16
 }
 

@@ -28,3 +28,4 @@ pub mod OneOutcome
 pub mod OnlyItsBytes
 pub mod Bench
 pub mod DemandTwo
+pub mod DecimalChart

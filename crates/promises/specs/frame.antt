@@ -1,4 +1,4 @@
--- Polls and replies: bits, levels and temperatures, then whole replies; the last file is the whole demand.
+-- Polls and replies: bits, levels and temperatures, then whole replies; `DemandTwo` is the whole demand, and after it stand what requests of document 02 add.
 pub mod Bits
 pub mod Rows
 pub mod Levels
@@ -14,3 +14,4 @@ pub mod OneOutcome
 pub mod OnlyItsBytes
 pub mod Bench
 pub mod DemandTwo
+pub mod DecimalChart

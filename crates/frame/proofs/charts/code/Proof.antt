@@ -1,7 +1,6 @@
--- `frame::charts::code` meets its contract: straight or turned, the place is below the chart's size, which is at most 16. Assumes nothing.
+-- `frame::charts::code` meets its contract: straight or turned, the place is below the chart's size. Assumes nothing.
 use native.Mathlib.Omega.{arith}
 use Rattle.frame.specs.Charts.{turned}
-use Rattle.frame.proofs.Tables.{size-high}
 use borrow.Author.Needs.{needs}
 use Rattle.frame.proofs.charts.code.Statement.{statement}
 use Rattle.frame.proofs.charts.code.Tie as tie
@@ -16,14 +15,14 @@ sub-code-at-2 : tie.Need-sub-code-at-2
 sub-code-at-2 c = search needs
 
 code-at-requires : tie.Need-code-at-requires
-code-at-requires c κs = omega (arith, size-high (c .before .before .args .chart))
+code-at-requires c κs = omega (arith, c .size .ensures)
 
 returns : tie.Need-returns
 unfolding turned
 returns c = simp (c .code-at .ensures, c .before .size .ensures, c .before .before .if1 .taken)
 
 code-at-requires-2 : tie.Need-code-at-requires-2
-code-at-requires-2 c κs = omega (arith, size-high (c .before .args .chart))
+code-at-requires-2 c κs = search needs
 
 returns-2 : tie.Need-returns-2
 unfolding turned

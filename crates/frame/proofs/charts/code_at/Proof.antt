@@ -1,24 +1,49 @@
--- `frame::charts::code_at` meets its contract: the rule of the table, at this place. Assumes nothing.
-use mathlib.Core.Path.{_∙_, ap}
-use Prim.Native.Nat.{ℕ, _*_, _/_, _%_, _^_}
-use Rattle.frame.proofs.Tables.{codes-rule}
+-- `frame::charts::code_at` meets its contract: the decimal codes by their formula, every other chart by the rule of its table at this place.
+-- Assumes nothing.
+use mathlib.Core.Path.{_≡_, _∙_, sym, ap}
+use Prim.Native.Nat.{ℕ, _*_, _/_, _%_, _^_, _<_}
+use native.Mathlib.Omega.{arith}
+use lib.ListN.{getD}
+use Rattle.frame.specs.Charts.{Chart, decimal, sizeOf}
+use Rattle.frame.specs.inside.Packed.{chartOf}
+use Rattle.frame.proofs.Tables.{codes-rule, size-high}
 use borrow.Author.Needs.{needs}
 use Rattle.frame.proofs.charts.code_at.Statement.{statement}
 use Rattle.frame.proofs.charts.code_at.Tie as tie
+
+-- chart 3 is the decimal one, with ten values
+is-decimal : (k : ℕ) → k ≡ 3 → chartOf k ≡ decimal
+unfolding chartOf
+is-decimal k e = rw e
+
+ten : (k at : ℕ) → k ≡ 3 → at < sizeOf (chartOf k) → at < 10
+unfolding decimal
+ten k at e h = rw (is-decimal k e) at h
+
+decimal-code-requires : tie.Need-decimal-code-requires
+decimal-code-requires c κs = omega (arith, ten (c .before .args .chart) (c .before .args .at) (c .if1 .taken) (c .before .pre))
+
+returns : tie.Need-returns
+returns c =
+    let b = c .before .before in
+    c .decimal-code .ensures ∙ sym (ap (λ (k : Chart). getD (k .codes) (b .args .at) 0) (is-decimal (b .args .chart) (c .before .if1 .taken)))
 
 codes-requires : tie.Need-codes-requires
 codes-requires c κs = search needs
 
 mul-result : tie.Need-mul-result
-mul-result c = search needs
+mul-result c = omega (arith, size-high (c .before .before .args .chart))
 
 shr-result : tie.Need-shr-result
-shr-result c = search needs
+shr-result c = omega (arith, size-high (c .before .before .args .chart))
 
-returns : tie.Need-returns
-returns c =
-    let a = c .before .args in
-    ap (λ (w : ℕ). w / 2 ^ (4 * a .at) % 16) (c .codes .ensures) ∙ codes-rule (a .chart) (a .at) (c .before .pre)
+returns-2 : tie.Need-returns-2
+returns-2 c =
+    let b = c .before .before in
+    let a = b .args in
+    ap (λ (w : ℕ). w / 2 ^ (4 * a .at) % 16) (c .codes .ensures) ∙ codes-rule (a .chart) (a .at) (omega (arith, b .pre, size-high (a .chart)))
 
 pub code-at-spec : {M : Type 1} → statement M
-code-at-spec = tie.close (tie.spec codes-requires mul-result shr-result returns)
+code-at-spec =
+    tie.close
+    (tie.spec decimal-code-requires returns codes-requires mul-result shr-result returns-2)
