@@ -1,10 +1,11 @@
 -- Ways to go by cases: on an order, on a bit, and on a test.
 use mathlib.Core.Path.{_≡_, refl}
-use mathlib.Core.Bool.{Bool, true, false, _&&_, true≢false, false≢true}
+use mathlib.Core.Bool.{Bool, true, false, _&&_, true≢false}
 use Prim.Native.Nat.{ℕ, zero, suc, _<_, _≤_}
 use native.Mathlib.Omega.{arith}
 use lib.Dec.{eqb, leb, ltb}
 use borrow.Author.Tests.{leb-true, leb-false, ltb-true, ltb-false, eqb-true, eqb-false}
+use Rattle.frame.proofs.Both.{both-left, both-right}
 
 pub by-le : {A : Type 0} (i k : ℕ) → (i ≤ k → A) → (k < i → A) → A
 by-le {A} i k f g = go (leb i k) refl
@@ -37,8 +38,7 @@ not-true true h = absurd (h refl)
 not-true false h = refl
 
 pub both : (a b : Bool) → a && b ≡ true → (a ≡ true) × (b ≡ true)
-both true b e = (refl, e)
-both false b e = absurd (false≢true e)
+both a b e = (both-left a b e, both-right a b e)
 
 -- Two numbers that are not unequal are equal.
 pub stable : (a b : ℕ) → ¬ (¬ (a ≡ b)) → a ≡ b

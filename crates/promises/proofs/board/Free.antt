@@ -10,6 +10,7 @@ use lib.ListN.{length, set, getD, length-map, length-set, length-take, drop-of-l
 use lib.Seq.{take-at, take-all}
 use borrow.Author.Tests.{ltb-true, ltb-false}
 use Rattle.frame.specs.Faults.{_gives_, firstOf}
+use Rattle.frame.proofs.Both.{both-left}
 use Rattle.frame.specs.Line.{line, formed}
 use Rattle.frame.specs.Pick.{pick}
 use Rattle.frame.specs.Reply.{replyFault, readingAt}
@@ -51,10 +52,6 @@ in-use-same : (t : Bool) (row : Row) → not t ≡ true → pick t freeRow row �
 in-use-same true row e = let bad : _≡_ {A = ℕ} 0 1 = cc in absurd (omega arith)
 in-use-same false row e = refl
 
-and-left : (a b : Bool) → a && b ≡ true → a ≡ true
-and-left true b e = refl
-and-left false b e = e
-
 -- Two boards alike.
 module _ (x y : List Row) (alike : map cleared x ≡ map cleared y) where
   same-length : length x ≡ length y
@@ -73,7 +70,7 @@ module _ (x y : List Row) (alike : map cleared x ≡ map cleared y) where
         ∙ List·getD-map cleared y (placeOf address y) freeRow
 
     as-it-is : (zs : List Row) → placeOf address zs < length zs → cleared (rowOf address zs) ≡ rowOf address zs
-    as-it-is zs l = in-use-same (isFree (rowOf address zs)) (rowOf address zs) (and-left (inUse (rowOf address zs)) (eqb (rowOf address zs .address) address) (place-at (holds address) zs l))
+    as-it-is zs l = in-use-same (isFree (rowOf address zs)) (rowOf address zs) (both-left (inUse (rowOf address zs)) (eqb (rowOf address zs .address) address) (place-at (holds address) zs l))
 
     same-row : rowOf address x ≡ rowOf address y
     same-row = go (ltb (placeOf address x) (length x)) refl

@@ -1,14 +1,13 @@
 -- Each of the sheet's calls asks its table in its order, so that the law of the first that applies gives its number. Assumes nothing.
-use mathlib.Core.Path.{_≡_, refl, sym, ap, _∙_}
+use mathlib.Core.Path.{_≡_, refl, ap, _∙_}
 use mathlib.Core.Bool.{Bool, true, false, not, _&&_}
 use mathlib.Core.List.{List, [], _∷_}
 use Prim.Native.Nat.{ℕ}
-use borrow.Author.Tests.{eqb-true}
-use lib.Dec.{eqb, ltb}
+use lib.Dec.{ltb}
 use Rattle.frame.specs.Pick.{pick}
 use Rattle.frame.specs.Faults.{firstOf}
+use Rattle.frame.proofs.Answers.{number-is}
 use Rattle.sheet.specs.declared.Found.the-variants as found
-use Rattle.sheet.specs.declared.Saved.{Saved}
 use Rattle.sheet.specs.declared.Saved.the-variants.{Refused}
 use Rattle.sheet.specs.Record.{Entry}
 use Rattle.sheet.specs.Slots.{Slot, blank, spoiled, foreign, holds, sizeAllowed, slots, slotAt, slotOf}
@@ -20,14 +19,6 @@ use Rattle.promises.proofs.frame.FirstFault.{asked, given}
 save-asks : (s : List ℕ) (e : Entry) → saveFault s e ≡ firstOf (asked (saveTable s e) saveOrder)
 unfolding saveFault
 save-asks s e = refl
-
--- The number of an answer is the fault that it was made from.
-saved-number : (a : Saved) (f : ℕ) → savedNumber a ≡ 0 → savedNumber (pick (eqb f 0) a (Refused f)) ≡ f
-saved-number a f z = go (eqb f 0) refl
-  where
-    go : (b : Bool) → eqb f 0 ≡ b → savedNumber (pick b a (Refused f)) ≡ f
-    go true e = z ∙ sym (eqb-true f 0 e)
-    go false e = refl
 
 told-number : (y : Slot) → foundNumber (told y .found) ≡ 0
 told-number blank = refl
@@ -47,7 +38,7 @@ pub sheet-fault : SheetFault
 sheet-fault =
     record {
       save = λ s e allowance answer t h. given (saveTable s e) saveOrder (savedNumber answer)
-          (ap savedNumber (h .answers) ∙ saved-number _ (saveFault s e) refl ∙ save-asks s e);
+          (ap savedNumber (h .answers) ∙ number-is _ Refused savedNumber refl (λ f. refl) (saveFault s e) ∙ save-asks s e);
       look = λ s k answer h. given (lookTable s k) (12 ∷ []) (foundNumber (answer .found))
           (ap (λ a. foundNumber (a .found)) (h .answers) ∙ look-asks s k);
     }
