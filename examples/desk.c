@@ -100,7 +100,8 @@ static void look(uint16_t address)
 /* A reply, its bytes in quotes, is heard, and its row is looked at. */
 static void hear(uint16_t address, uint32_t minute, size_t count, const char *reply, size_t bytes)
 {
-    say_answer("hear", address, sisal_board_hear(rows, ROWS, address, minute, count, (const uint8_t *)reply, bytes));
+    struct sisal_heard heard = sisal_board_hear(rows, ROWS, minute, address, count, (const uint8_t *)reply, bytes);
+    say_answer("hear", address, heard.number);
     look(address);
 }
 

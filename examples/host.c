@@ -103,8 +103,8 @@ static void poll_one(const struct transmitter *t, int day, int dusk, size_t stor
         return;
     }
     /* 1 to 9 is a faulty reply, which the row keeps; anything above is a refusal */
-    uint8_t heard = sisal_board_hear(board, SISAL_ROWS, t->address, minute, line.count, line.bytes, bytes_of(&line));
-    want(heard <= SISAL_FAULT_TEMPERATURE, "not heard");
+    struct sisal_heard heard = sisal_board_hear(board, SISAL_ROWS, minute, t->address, line.count, line.bytes, bytes_of(&line));
+    want(heard.number <= SISAL_FAULT_TEMPERATURE, "not heard");
 }
 
 /* Stores before the power goes, twice in the month. */

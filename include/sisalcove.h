@@ -67,7 +67,7 @@ enum sisal_number {
     SISAL_FAULT_ADDRESS = 4,        /* an address digit is above 9, or it is not the polled address */
     SISAL_FAULT_PARITY = 5,         /* wrong parity */
     SISAL_FAULT_FILL = 6,           /* a fill bit is 1 */
-    SISAL_FAULT_CODE = 7,           /* a level digit is in no chart */
+    SISAL_FAULT_CODE = 7,           /* a level digit is in no chart; it comes with the digit's place */
     SISAL_FAULT_RANGE = 8,          /* a level of mode 3 above 32,699 */
     SISAL_FAULT_TEMPERATURE = 9,    /* a temperature digit is above 9, or an 1800 has bit 40 without 43 */
     SISAL_FAULT_SETTINGS = 10,      /* a settings byte above 15 */
@@ -153,6 +153,8 @@ struct sisal_reply {
     uint8_t alarm1; /* 0 or 1: alarm 1 (reference 2) */
     uint8_t alarm0; /* 0 or 1: alarm 0 (reference 1) */
     uint8_t number;
+    uint8_t place; /* beside number 7 the first digit in no chart, counted from 0 at the top (1 to 4, since every first digit has all
+                      codes); else 0 */
 };
 
 /* A write, a save or a count that was made. */
@@ -187,10 +189,16 @@ struct sisal_row {
     uint8_t kind;     /* enum sisal_kind; 0 while there is no reading, and a number above 4 reads as absent */
     uint8_t alarm1;   /* set by any number but 0 */
     uint8_t alarm0;
-    uint32_t heard;   /* the last four: 0 in a new and in a free row, kept by a hearing, not read */
+    uint32_t heard;   /* 0 in a new and in a free row, kept by a hearing, not read; so are `faulty` and `gauge` */
     uint16_t faulty;
-    uint8_t place;
+    uint8_t place;    /* beside fault 7 the first digit in no chart, counted from 0 at the top; not read beside another fault */
     uint8_t gauge;
+};
+
+/* A reply that was heard on the board. */
+struct sisal_heard {
+    uint8_t number;
+    uint8_t place; /* beside number 7 the first digit in no chart, counted from 0 at the top; else 0 */
 };
 
 /* A transmitter that was looked up on the board. */
@@ -205,18 +213,19 @@ struct sisal_standing {
     uint8_t kind; /* 0 while there is no reading; minute, level, tenths and alarms are then 0 */
     uint8_t alarm1;
     uint8_t alarm0;
-    uint32_t heard; /* the last four: 0 */
+    uint32_t heard; /* 0; so are `faulty` and `gauge` */
     uint16_t faulty;
-    uint8_t place;
+    uint8_t place;  /* beside fault 7 the first digit in no chart, counted from 0 at the top; 0 beside another fault */
     uint8_t gauge;
 };
 
 static_assert(sizeof(struct sisal_poll) == 6, "struct sisal_poll");
-static_assert(sizeof(struct sisal_reply) == 8, "struct sisal_reply");
+static_assert(sizeof(struct sisal_reply) == 10, "struct sisal_reply");
 static_assert(sizeof(struct sisal_done) == 16, "struct sisal_done");
 static_assert(sizeof(struct sisal_slot) == 20, "struct sisal_slot");
 static_assert(sizeof(struct sisal_row) == 24, "struct sisal_row");
 static_assert(sizeof(struct sisal_standing) == 24, "struct sisal_standing");
+static_assert(sizeof(struct sisal_heard) == 2, "struct sisal_heard");
 static_assert(sizeof(size_t) == 8, "size_t");
 
 /* ---- polls and replies ----------------------------------------------------------------------------------------------------------- */
@@ -235,7 +244,7 @@ SISAL_ANSWER uint8_t sisal_form(size_t count, const uint8_t *reply, size_t reply
 
 /*
  * Reads a reply of `count` bits to a poll of `address`. Bit 1 is the highest bit of the first byte; there are (count + 7) / 8 bytes,
- * and the bits after the count are 0. Refuses 10, 11, 14, then 1 to 9, with all else 0.
+ * and the bits after the count are 0. Refuses 10, 11, 14, then 1 to 9, with all else 0 but for the place beside 7.
  */
 SISAL_ANSWER struct sisal_reply sisal_read_reply(uint8_t settings, uint16_t address, size_t count, const uint8_t *reply,
                                                  size_t reply_bytes);
@@ -298,10 +307,11 @@ SISAL_ANSWER uint8_t sisal_board_enrol(struct sisal_row *rows, size_t row_count,
 
 /*
  * Hears a reply to a poll of `address`: 0, and the row's reading, minute and fault 0 are set. Or 11, 14, 17, 10 (the row's own settings),
- * and no row is changed; or, asked last, 1 to 9, and only the row's fault is set.
+ * and no row is changed; or, asked last, 1 to 9, and only the row's fault is set, 7 with its place, which is answered too. Beside every
+ * other number `place` is 0.
  */
-SISAL_ANSWER uint8_t sisal_board_hear(struct sisal_row *rows, size_t row_count, uint16_t address, uint32_t minute, size_t count,
-                                      const uint8_t *reply, size_t reply_bytes);
+SISAL_ANSWER struct sisal_heard sisal_board_hear(struct sisal_row *rows, size_t row_count, uint32_t minute, uint16_t address,
+                                                 size_t count, const uint8_t *reply, size_t reply_bytes);
 
 /* Removes a transmitter and leaves its row free, all zeros: 0; or 11, 17, and no row is changed. */
 SISAL_ANSWER uint8_t sisal_board_remove(struct sisal_row *rows, size_t row_count, uint16_t address);

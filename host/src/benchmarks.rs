@@ -258,7 +258,7 @@ fn hears<'a, C: Core>(core: &'a C, rows: &[Row], replies: &'a [ReplyCase]) -> im
             let case = black_box(case);
             let rows = black_box(&mut rows);
             let minute = minute as u32;
-            let _ = black_box(core.hear(rows, case.address, minute, case.count, case.reply()));
+            let _ = black_box(core.hear(rows, minute, case.address, case.count, case.reply()));
         }
     }
 }

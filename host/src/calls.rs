@@ -76,8 +76,8 @@ pub trait Core: Sync {
     fn hear(
         &self,
         rows: &mut [Self::Row],
-        address: u16,
         minute: u32,
+        address: u16,
         count: usize,
         reply: &[u8],
     ) -> Answer<()>;

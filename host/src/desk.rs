@@ -38,7 +38,7 @@ impl<C: Core> Desk<'_, C> {
         let ((address, minute), (count, bytes)) = (asked, reply);
         let answered = self
             .core
-            .hear(&mut self.rows, address, minute, count, bytes);
+            .hear(&mut self.rows, minute, address, count, bytes);
         assert_eq!(answered, answer, "hear {address} at minute {minute}");
         self.look(address, Ok(row));
     }
@@ -50,6 +50,7 @@ fn standing(settings: u8, last: Option<Last>, fault: u8) -> Standing {
         settings,
         last,
         fault,
+        place: 0,
     }
 }
 
@@ -113,7 +114,7 @@ fn evening<C: Core>(desk: &mut Desk<C>) {
     let reply = (40, &b"\x93\x32\x50\x00\x00"[..]);
     desk.hear((999, 701), reply, Ok(()), standing(9, odd, 0));
     let core = desk.core;
-    let stranger = core.hear(&mut desk.rows, 8, 702, 40, b"\x80\x10\x50\x00\x01");
+    let stranger = core.hear(&mut desk.rows, 702, 8, 40, b"\x80\x10\x50\x00\x01");
     assert_eq!(stranger, Err(Fault::Unknown));
     desk.look(8, Err(Fault::Unknown));
     desk.remove(12, Ok(()));

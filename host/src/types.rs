@@ -36,7 +36,12 @@ pub enum Fault {
     Address = 4,
     Parity = 5,
     Fill = 6,
-    Code = 7,
+    /// Fault 7 with the place of the first digit in no chart, counted from 0 at the top. The number
+    /// is the low byte and the place the high one; no first digit is ever unreadable.
+    Code1 = 0x0107,
+    Code2 = 0x0207,
+    Code3 = 0x0307,
+    Code4 = 0x0407,
     Range = 8,
     Temperature = 9,
     Settings = 10,
@@ -60,7 +65,10 @@ impl Fault {
         Fault::Address,
         Fault::Parity,
         Fault::Fill,
-        Fault::Code,
+        Fault::Code1,
+        Fault::Code2,
+        Fault::Code3,
+        Fault::Code4,
         Fault::Range,
         Fault::Temperature,
         Fault::Settings,
@@ -78,7 +86,31 @@ impl Fault {
     /// The number the paper gives it.
     #[inline]
     pub const fn number(self) -> u8 {
-        self as u8
+        (self as u16 & 0xFF) as u8
+    }
+
+    /// The place of the unreadable digit beside fault 7, 0 beside any other.
+    #[inline]
+    pub const fn place(self) -> u8 {
+        (self as u16 >> 8) as u8
+    }
+
+    /// Fault 7 at a place from 1 to 4.
+    #[inline]
+    pub fn code(place: u8) -> Option<Fault> {
+        [Fault::Code1, Fault::Code2, Fault::Code3, Fault::Code4]
+            .get(usize::from(place).wrapping_sub(1))
+            .copied()
+    }
+
+    /// The fault of a number that came with a place: beside any number but 7 the place is 0.
+    #[inline]
+    pub fn from_parts(number: u8, place: u8) -> Option<Fault> {
+        match number {
+            7 => Fault::code(place),
+            _ if place == 0 => Fault::from_number(number),
+            _ => None,
+        }
     }
 
     /// The fault of a number, if there is one.
@@ -216,6 +248,8 @@ pub struct Row {
     pub last: Option<Last>,
     /// Number of the last fault, 0 for none.
     pub fault: u8,
+    /// Place of the unreadable digit beside fault 7.
+    pub place: u8,
 }
 
 /// How a transmitter stands on the board, as looking it up answers it.
@@ -225,6 +259,8 @@ pub struct Standing {
     pub last: Option<Last>,
     /// Number of the last fault, 0 for none.
     pub fault: u8,
+    /// Place of the unreadable digit beside fault 7, 0 beside any other.
+    pub place: u8,
 }
 
 #[cfg(test)]
@@ -242,7 +278,8 @@ mod tests {
             );
         }
         assert!(
-            numbers.windows(2).all(|pair| pair[0] < pair[1]),
+            // Fault 7 stands there once for each place.
+            numbers.windows(2).all(|pair| pair[0] < pair[1] || pair == [7, 7]),
             "{numbers:?}"
         );
     }

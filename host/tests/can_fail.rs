@@ -25,7 +25,7 @@ const CHANGED: &str = "records with one byte changed";
 const BOARDS: &str = "boards";
 
 /// Each mistake with the comparisons that must find it.
-const FOUND_BY: [(Damage, &[&str]); 40] = [
+const FOUND_BY: [(Damage, &[&str]); 43] = [
     (UnusedBitOfPollRead, &[POLLS]),
     (RaiseAndResetSwapped, &[POLLS]),
     (PollWritesThreeBytes, &[POLLS]),
@@ -46,6 +46,7 @@ const FOUND_BY: [(Damage, &[&str]); 40] = [
     (AddressBeforeSettings, &[COUNTS]),
     (ReplyWritesOneMore, &[LEVELS, TEMPERATURES, REPLIES]),
     (AlarmsSwapped, &[LEVELS, REPLIES]),
+    (LastUnreadableNamed, &[LEVELS, REPLIES]),
     (LargeSheetAccepted, &[SIZES, HOSTILE]),
     (SlotPastLastBlank, &[SIZES, HONEST, HOSTILE]),
     (
@@ -71,6 +72,8 @@ const FOUND_BY: [(Damage, &[&str]); 40] = [
     (NoLastLine, &[HONEST, HOSTILE, SIZES]),
     (ReadingClearedByFault, &[BOARDS]),
     (FaultKeptByGoodReply, &[BOARDS]),
+    (PlaceKeptBesideOtherFault, &[BOARDS]),
+    (PlaceNotInRow, &[BOARDS]),
     (RowPastThirtiethUsed, &[BOARDS]),
     (LastRowCounts, &[BOARDS]),
     (RemovalKeepsAddress, &[BOARDS]),

@@ -103,6 +103,11 @@ fn mark(b: bool) {
 pub(crate) fn reply(r: Reply) {
     match r {
         Reply::Refused(n) => fault(n),
+        Reply::Unreadable(place) => {
+            words(b"fault 7, digit ");
+            number(place as u64);
+            words(b"\n");
+        }
         Reply::Read(reading) => {
             let t = reading.temperature;
             words(b"level ");

@@ -20,6 +20,10 @@ pub sets-range : (n : ℕ) → setsFault n ≡ true → (1 ≤ n) × (n ≤ 9)
 unfolding setsFault
 sets-range n e = let t = both (leb 1 n) (leb n 9) e in (leb-true 1 n (t .0), leb-true n 9 (t .1))
 
+pub sets-7 : setsFault 7 ≡ true
+unfolding setsFault
+sets-7 = refl
+
 -- no fault is set by a good reply, nor by the refusals of a hearing
 pub not-0 : setsFault 0 ≡ false
 unfolding setsFault

@@ -1,5 +1,5 @@
 -- A hearing as a change: refused before the reply is read, or as the frame's answer has it. What the frame answers is opened just so far
--- that its number and its reading are seen.
+-- that its number, its reading and its place are seen.
 use mathlib.Core.Path.{_≡_, sym, _∙_, ap}
 use mathlib.Core.Bool.{true, false}
 use mathlib.Core.List.{List}
@@ -8,41 +8,49 @@ use native.Mathlib.Omega.{arith}
 use lib.Dec.{eqb}
 use lib.ListN.{length}
 use Rattle.frame.specs.declared.Reply.{Reply}
-use Rattle.frame.specs.declared.Reply.the-variants.{Read, Refused}
+use Rattle.frame.specs.declared.Reply.the-variants.{Read}
+use Rattle.frame.specs.Level.{Level, levelOf}
 use Rattle.frame.specs.Line.{line, formed}
 use Rattle.frame.specs.Pick.{pick}
-use Rattle.frame.specs.Reply.{replyOf, readingAt}
+use Rattle.frame.specs.Reply.{modeIn, refusedBy, replyOf, readingAt}
 use Rattle.board.specs.declared.Row.{Row}
 use Rattle.board.specs.declared.value.Change.{Change}
 use Rattle.board.specs.declared.value.Found.{Found}
 use Rattle.board.specs.Row.{setsFault}
 use Rattle.board.specs.Rows.{placeOf, rowOf}
-use Rattle.board.specs.Calls.{hearNumber, hearRows}
-use Rattle.board.specs.inside.ByValue.{Finds, Changes, refusal, heardChange}
+use Rattle.board.specs.Calls.{hearNumber, hearPlace, hearRows}
+use Rattle.board.specs.inside.ByValue.{Finds, Changes, HearsOn, refusal, heardChange}
 use Rattle.board.proofs.Numbers.{hear-read}
 use Rattle.board.proofs.OneRow.{unheard, hears}
 
-module _ (board : List Row) (few : length board ≤ 30) (address minute count : ℕ) (reply : List ℕ) (c : Change) where
+module _ (board : List Row) (few : length board ≤ 30) (minute address count : ℕ) (reply : List ℕ) (c : Change) where
   abbrev number : ℕ
   number = hearNumber board address count reply
 
   abbrev row : Row
   row = rowOf address board
 
-  pub hear-refuses : (n : ℕ) → eqb n 0 ≡ false → setsFault n ≡ false → c ≡ refusal n → number ≡ n → Changes board number (hearRows board address minute count reply) c
-  unfolding hearRows
-  hear-refuses n z l is e = unheard board few (placeOf address board) row minute (readingAt (row .settings) count (line reply)) n number c z l is e
+  abbrev level : Level
+  level = levelOf (modeIn (row .settings)) (line reply)
+
+  -- what the change answers, leaves and names
+  abbrev pub HearsAt : Type 0
+  HearsAt = Changes board number (hearRows board minute address count reply) c × (c .place ≡ hearPlace board address count reply)
+
+  pub hear-refuses : (n : ℕ) → eqb n 0 ≡ false → eqb n 7 ≡ false → setsFault n ≡ false → c ≡ refusal n → number ≡ n → HearsAt
+  unfolding hearRows hearPlace
+  hear-refuses n z v f is e = unheard board few (placeOf address board) row minute (readingAt (row .settings) count (line reply)) level n number c z v f is e
 
   abbrev by-number : ℕ → Reply
-  by-number n = pick (eqb n 0) (Read (readingAt (row .settings) count (line reply))) (Refused n)
+  by-number n = pick (eqb n 0) (Read (readingAt (row .settings) count (line reply))) (refusedBy level n)
 
-  here : address ≤ 999 → formed count reply ≡ true → placeOf address board < length board → c ≡ heardChange (placeOf address board) row minute (replyOf (row .settings) address count reply) → Changes board number (hearRows board address minute count reply) c
-  unfolding hearRows replyOf
+  here : address ≤ 999 → formed count reply ≡ true → placeOf address board < length board → c ≡ heardChange (placeOf address board) row minute (replyOf (row .settings) address count reply) → HearsAt
+  unfolding hearRows hearPlace replyOf
   here a f l is =
-      hears board few (placeOf address board) row minute (readingAt (row .settings) count (line reply)) number c (replyOf (row .settings) address count reply) is (ap by-number (sym (hear-read board address count reply a f l))) l
+      hears board few (placeOf address board) row minute (readingAt (row .settings) count (line reply)) level number c (replyOf (row .settings) address count reply) is (ap by-number (sym (hear-read board address count reply a f l))) l
 
   -- the same, of what a search found, and of an answer that was given
-  pub hear-changes : (f : Found) (answer : Reply) → Finds board address f → address ≤ 999 → formed count reply ≡ true → f .at < f .n → answer ≡ replyOf (f .row .settings) address count reply → c ≡ heardChange (f .at) (f .row) minute answer → Changes board number (hearRows board address minute count reply) c
+  pub hear-changes : (f : Found) (answer : Reply) → Finds board address f → address ≤ 999 → formed count reply ≡ true → f .at < f .n → answer ≡ replyOf (f .row .settings) address count reply → c ≡ heardChange (f .at) (f .row) minute answer → HearsAt
   hear-changes f answer finds a form l w is =
       let same : f .row ≡ row = finds .there l in
       here a form (omega (arith, finds .count, finds .place))
@@ -50,3 +58,8 @@ module _ (board : List Row) (few : length board ≤ 30) (address minute count : 
       ∙ ap (λ (i : ℕ). heardChange i (f .row) minute answer) (finds .place)
       ∙ ap (λ (y : Row). heardChange (placeOf address board) y minute answer) same
       ∙ ap (λ (x : Reply). heardChange (placeOf address board) row minute x) (w ∙ ap (λ (y : Row). replyOf (y .settings) address count reply) same))
+
+-- so on every board on which the search finds the same
+pub hears-on : (f : Found) (minute address count : ℕ) (reply : List ℕ) (c : Change) → ((board : List Row) (few : length board ≤ 30) → Finds board address f → HearsAt board few minute address count reply c) → HearsOn f minute address count reply c
+hears-on f minute address count reply c at =
+    record { changes = record { on = λ board few finds. at board few finds .0 }; names = λ board few finds. at board few finds .1 }

@@ -10,13 +10,16 @@ use lib.Seq.{length-take-le}
 use borrow.Author.Tests.{lt-ltb, le-ltb, eqb-true}
 use Rattle.frame.specs.declared.Reading.{Reading}
 use Rattle.frame.specs.declared.Reply.{Reply}
-use Rattle.frame.specs.declared.Reply.the-variants.{Read, Refused}
+use Rattle.frame.specs.declared.Reply.the-variants.{Read, Refused, Unreadable}
+use Rattle.frame.specs.Level.{Level, placeLost}
+use Rattle.frame.specs.Reply.{refusedBy}
 use Rattle.frame.specs.Pick.{pick}
 use Rattle.board.specs.declared.Row.{Row}
 use Rattle.board.specs.declared.value.Board.{Board}
 use Rattle.board.specs.declared.value.Change.{Change}
 use Rattle.board.specs.Row.{freeRow, withReading, withFault, setsFault}
-use Rattle.board.specs.inside.ByValue.{rowsOf, putIn, Changes, refusal, heardChange}
+use Rattle.board.proofs.Faults.{sets-7}
+use Rattle.board.specs.inside.ByValue.{rowsOf, putIn, Changes, changeOf, refusal, heardChange}
 
 -- the rows of a board by value are as many as it says
 pub rows-count : (b : Board) → length (b .rows) ≡ 30 → b .n ≤ 30 → length (rowsOf b) ≡ b .n
@@ -35,25 +38,35 @@ module _ (board : List Row) where
       record { answers = ap (λ (d : Change). d .number) is ∙ sym e; leaves = ap (λ (d : Change). putIn (length board) (d .at) (d .row) board) is ∙ put-nowhere 30 freeRow few ∙ sym (ap (λ (t : Bool). pick t changed board) (ap (λ (m : ℕ). eqb m 0) e ∙ z)) }
 
   -- number 0 changes the row at a place
-  pub alters : (number at : ℕ) (row : Row) (c : Change) → at < length board → c ≡ record { at = at; row = row; number = 0 } → number ≡ 0 → Changes board number (pick (eqb number 0) (set board at row) board) c
+  pub alters : (number at : ℕ) (row : Row) (c : Change) → at < length board → c ≡ changeOf at row 0 0 → number ≡ 0 → Changes board number (pick (eqb number 0) (set board at row) board) c
   alters number at row c l is e =
       record { answers = ap (λ (d : Change). d .number) is ∙ sym e; leaves = ap (λ (d : Change). putIn (length board) (d .at) (d .row) board) is ∙ put-there at row l ∙ sym (ap (λ (m : ℕ). pick (eqb m 0) (set board at row) board) e) }
 
-  module _ (few : length board ≤ 30) (at : ℕ) (row : Row) (minute : ℕ) (r : Reading) where
-    -- what a hearing leaves, by whether the reply was good and whether its fault is set
-    abbrev Left : Bool → Bool → ℕ → List Row
-    Left is-good is-set number = pick is-good (set board at (withReading row r minute)) (pick is-set (set board at (withFault row number)) board)
+  module _ (few : length board ≤ 30) (at : ℕ) (row : Row) (minute : ℕ) (r : Reading) (level : Level) where
+    -- what a hearing leaves, by whether the reply was good, a digit was unreadable, and the fault is set; and the place that it names
+    abbrev Left : Bool → Bool → Bool → ℕ → List Row
+    Left is-good is-seven is-set number = pick is-good (set board at (withReading row r minute)) (pick is-set (set board at (withFault row number (pick is-seven (placeLost level) 0))) board)
+
+    abbrev Hearing : Bool → Bool → Bool → ℕ → Change → Type 0
+    Hearing is-good is-seven is-set number c = Changes board number (Left is-good is-seven is-set number) c × (c .place ≡ pick is-seven (placeLost level) 0)
 
     -- a hearing refused before the reply is read
-    pub unheard : (n number : ℕ) (c : Change) → eqb n 0 ≡ false → setsFault n ≡ false → c ≡ refusal n → number ≡ n → Changes board number (Left (eqb number 0) (setsFault number) number) c
-    unheard n number c z l is e =
-        record { answers = ap (λ (d : Change). d .number) is ∙ sym e; leaves = ap (λ (d : Change). putIn (length board) (d .at) (d .row) board) is ∙ put-nowhere 30 freeRow few ∙ sym (ap (λ (m : ℕ). Left (eqb m 0) (setsFault m) m) e ∙ ap (λ (t : Bool). Left t (setsFault n) n) z ∙ ap (λ (t : Bool). Left false t n) l) }
+    pub unheard : (n number : ℕ) (c : Change) → eqb n 0 ≡ false → eqb n 7 ≡ false → setsFault n ≡ false → c ≡ refusal n → number ≡ n → Hearing (eqb number 0) (eqb number 7) (setsFault number) number c
+    unheard n number c z v f is e = rw (is, e) (rw (z, v, f) (record { answers = refl; leaves = put-nowhere 30 freeRow few }, refl))
 
     -- the change that the frame's answer makes
-    heard-by : (is-good is-set : Bool) (number : ℕ) → eqb number 0 ≡ is-good → setsFault number ≡ is-set → at < length board → Changes board number (Left is-good is-set number) (heardChange at row minute (pick is-good (Read r) (Refused number)))
-    heard-by true is-set number e f l = record { answers = sym (eqb-true number 0 e); leaves = put-there at (withReading row r minute) l }
-    heard-by false true number e f l = rw f (record { answers = refl; leaves = put-there at (withFault row number) l })
-    heard-by false false number e f l = rw f (record { answers = refl; leaves = put-nowhere 30 freeRow few })
+    heard-by : (is-good is-seven is-set : Bool) (number : ℕ) → eqb number 0 ≡ is-good → eqb number 7 ≡ is-seven → setsFault number ≡ is-set → at < length board
+        → Hearing is-good is-seven is-set number (heardChange at row minute (pick is-good (Read r) (pick is-seven (Unreadable (placeLost level)) (Refused number))))
+    heard-by true true is-set number z v f l = absurd (omega (arith, eqb-true number 0 z, eqb-true number 7 v))
+    heard-by true false is-set number z v f l = (record { answers = sym (eqb-true number 0 z); leaves = put-there at (withReading row r minute) l }, refl)
+    heard-by false true true number z v f l =
+        let e : number ≡ 7 = eqb-true number 7 v in
+        (record { answers = sym e; leaves = put-there at (withFault row 7 (placeLost level)) l ∙ ap (λ (n : ℕ). set board at (withFault row n (placeLost level))) (sym e) }, refl)
+    heard-by false true false number z v f l =
+        let b : _≡_ {A = Bool} true false = sym sets-7 ∙ ap setsFault (sym (eqb-true number 7 v)) ∙ f in let bad : _≡_ {A = ℕ} 0 1 = cc in absurd (omega arith)
+    heard-by false false true number z v f l = rw f (record { answers = refl; leaves = put-there at (withFault row number 0) l }, refl)
+    heard-by false false false number z v f l = rw f (record { answers = refl; leaves = put-nowhere 30 freeRow few }, refl)
 
-    pub hears : (number : ℕ) (c : Change) (answer : Reply) → c ≡ heardChange at row minute answer → answer ≡ pick (eqb number 0) (Read r) (Refused number) → at < length board → Changes board number (Left (eqb number 0) (setsFault number) number) c
-    hears number c answer is e l = rw (is, e) (heard-by (eqb number 0) (setsFault number) number refl refl l)
+    pub hears : (number : ℕ) (c : Change) (answer : Reply) → c ≡ heardChange at row minute answer → answer ≡ pick (eqb number 0) (Read r) (refusedBy level number) → at < length board
+        → Hearing (eqb number 0) (eqb number 7) (setsFault number) number c
+    hears number c answer is e l = rw (is, e) (heard-by (eqb number 0) (eqb number 7) (setsFault number) number refl refl refl l)

@@ -28,7 +28,7 @@ module _ (rows : List Row) where
   pub put-on-board : (at : ℕ) (row : Row) → putIn (length (boardOf rows)) at row rows ≡ putIn (length (boardOf rows)) at row (boardOf rows) ++ beyond rows
   put-on-board at row = put-by (ltb at (length (boardOf rows))) at row refl
 
-  board-few : length (boardOf rows) ≤ 30
+  pub board-few : length (boardOf rows) ≤ 30
   board-few = omega (arith, length-counted rows, counted-few (length rows))
 
   board-within : length (boardOf rows) ≤ length rows

@@ -9,10 +9,12 @@ use lib.ListN.{set}
 use Rattle.frame.specs.Faults.{_gives_, firstOf}
 use Rattle.frame.specs.Line.{line, formed}
 use Rattle.frame.specs.Pick.{pick}
-use Rattle.frame.specs.Reply.{replyFault, readingAt}
+use Rattle.frame.specs.Level.{levelOf, placeLost}
+use Rattle.frame.specs.Reply.{modeIn, replyFault, readingAt}
+use Rattle.board.specs.declared.Heard.{Heard}
 use Rattle.board.specs.declared.Looked.{Looked}
 use Rattle.board.specs.declared.Row.{Row}
-use Rattle.board.specs.Row.{Last, lastBy, lastOf, rowBy, keptAs, unheard, faultOf, freeRow, newRow, withReading, withFault, setsFault}
+use Rattle.board.specs.Row.{Last, lastBy, lastOf, rowBy, keptAs, unheard, faultOf, placeTold, freeRow, newRow, withReading, withFault, setsFault}
 use Rattle.board.specs.Rows.{boardOf, beyond, placeOf, onBoard, rowOf, placeFree, hasFree}
 
 -- Enrolling: 10, 11, 18, 19. It takes the first free row; a refused enrolment changes no row.
@@ -41,17 +43,26 @@ hearNumber board address count reply =
     ∷ true gives replyFault (rowOf address board .settings) address count reply
     ∷ [])
 
--- A good reply sets reading, minute and fault 0. Faults 1 to 9 set only the fault. 10, 11, 14 and 17 change nothing.
-unfoldable pub hearRows : List Row → ℕ → ℕ → ℕ → List ℕ → List Row
-hearRows board address minute count reply =
+-- Document 02, request 02: fault 7 comes with the place of the first digit in no chart. No other number does.
+unfoldable pub hearPlace : List Row → ℕ → ℕ → List ℕ → ℕ
+hearPlace board address count reply =
+    pick (eqb (hearNumber board address count reply) 7) (placeLost (levelOf (modeIn (rowOf address board .settings)) (line reply))) 0
+
+-- A good reply sets reading, minute and fault 0. Faults 1 to 9 set only the fault, 7 with its place. 10, 11, 14 and 17 change nothing.
+unfoldable pub hearRows : List Row → (minute address count : ℕ) → List ℕ → List Row
+hearRows board minute address count reply =
     let number = hearNumber board address count reply in
     let row = rowOf address board in
     pick (eqb number 0) (set board (placeOf address board) (withReading row (readingAt (row .settings) count (line reply)) minute))
-    (pick (setsFault number) (set board (placeOf address board) (withFault row number)) board)
+    (pick (setsFault number) (set board (placeOf address board) (withFault row number (hearPlace board address count reply))) board)
 
-pub record Hears (rows : List Row) (address minute count : ℕ) (reply : List ℕ) (answer : ℕ) (after : List Row) : Type 0 where
-  pub answers : answer ≡ hearNumber (boardOf rows) address count reply
-  pub leaves : after ≡ hearRows (boardOf rows) address minute count reply ++ beyond rows
+-- What hearing answers.
+abbrev pub heardAs : (number place : ℕ) → Heard
+heardAs number place = record { number = number; place = place }
+
+pub record Hears (rows : List Row) (minute address count : ℕ) (reply : List ℕ) (answer : Heard) (after : List Row) : Type 0 where
+  pub answers : answer ≡ heardAs (hearNumber (boardOf rows) address count reply) (hearPlace (boardOf rows) address count reply)
+  pub leaves : after ≡ hearRows (boardOf rows) minute address count reply ++ beyond rows
 
 -- Removing, or looking at a row: 11, 17.
 unfoldable pub findNumber : List Row → ℕ → ℕ
@@ -86,12 +97,13 @@ answerBy number row =
       gauge = row .gauge;
     }
 
--- What looking tells of a row: its address and settings, the last good reading with its minute, and the last fault. It tells what the
--- row holds and not its bytes.
+-- What looking tells of a row: its address and settings, the last good reading with its minute, and the last fault with its
+-- place. It tells what the row holds and not its bytes.
 abbrev pub told : Row → Looked
 told row =
     answerBy 0
-    (rowBy (record { used = 0; address = row .address; settings = row .settings; gauge = 0 }) (keptAs (lastOf row)) (faultOf unheard (row .fault)))
+    (rowBy (record { used = 0; address = row .address; settings = row .settings; gauge = 0 }) (keptAs (lastOf row))
+    (faultOf unheard (row .fault) (placeTold row)))
 
 -- A refusal answers its number alone.
 abbrev pub refusedLook : ℕ → Looked

@@ -45,7 +45,8 @@ pub record Kept : Type 0 where
   pub alarm1 : ℕ
   pub alarm0 : ℕ
 
--- What came of the hearings since: the last fault, 0 for none. Place, faulty and heard are kept as they stand.
+-- What came of the hearings since: the last fault, 0 for none, with the place of the unreadable digit beside fault 7. Faulty and heard are
+-- kept as they stand.
 pub record Since : Type 0 where
   pub fault : ℕ
   pub place : ℕ
@@ -104,9 +105,13 @@ keptAs (good r minute) =
 abbrev pub unheard : Since
 unheard = record { fault = 0; place = 0; faulty = 0; heard = 0 }
 
--- The same with this last fault.
-abbrev pub faultOf : Since → ℕ → Since
-faultOf s fault = record { fault = fault; place = s .place; faulty = s .faulty; heard = s .heard }
+-- The same with this last fault and its place, 0 where it has none.
+abbrev pub faultOf : Since → ℕ → ℕ → Since
+faultOf s fault place = record { fault = fault; place = place; faulty = s .faulty; heard = s .heard }
+
+-- The place that a row tells of: that of the unreadable digit beside fault 7, 0 beside any other, whatever stands in the row.
+abbrev pub placeTold : Row → ℕ
+placeTold row = pick (eqb (row .fault) 7) (row .place) 0
 
 -- A free row as a removal leaves it: address and settings 0, no reading, fault 0. It is all zeros.
 abbrev pub freeRow : Row
@@ -116,13 +121,13 @@ freeRow = rowBy nobody (keptAs none) unheard
 abbrev pub newRow : ℕ → ℕ → Row
 newRow settings address = rowBy (enrolled settings address) (keptAs none) unheard
 
--- Hearing a good reply sets reading, minute and fault 0.
+-- Hearing a good reply sets reading, minute and fault 0, and no place.
 abbrev pub withReading : Row → Reading → ℕ → Row
-withReading row r minute = rowBy (ownerOf row) (keptAs (good r minute)) (faultOf (sinceOf row) 0)
+withReading row r minute = rowBy (ownerOf row) (keptAs (good r minute)) (faultOf (sinceOf row) 0 0)
 
--- A faulty reply sets only that row's fault.
-abbrev pub withFault : Row → ℕ → Row
-withFault row fault = rowBy (ownerOf row) (keptOf row) (faultOf (sinceOf row) fault)
+-- A faulty reply sets only that row's fault, with its place.
+abbrev pub withFault : Row → ℕ → ℕ → Row
+withFault row fault place = rowBy (ownerOf row) (keptOf row) (faultOf (sinceOf row) fault place)
 
 -- Faults 1 to 9 are those that a row's fault is set to.
 unfoldable pub setsFault : ℕ → Bool

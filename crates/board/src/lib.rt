@@ -23,11 +23,20 @@ pub struct Row {
     // 0 for no alarm, any other number for an alarm
     pub alarm1: u8,
     pub alarm0: u8,
-    // The last four are 0 in a new and in a free row, kept by a hearing, and not read.
+    // These two are 0 in a new and in a free row, kept by a hearing, and not read.
     pub heard: u32,
     pub faulty: u16,
+    // Beside fault 7 the place of the unreadable digit, counted from 0 at the top; it means nothing beside another fault.
     pub place: u8,
+    // As `heard` and `faulty`.
     pub gauge: u8,
+}
+
+// What hearing answers: the number, 0 for a good reply, and beside 7 the place of the first digit in no chart; beside any other, place 0.
+#[repr(C)]
+pub struct Heard {
+    pub number: u8,
+    pub place: u8,
 }
 
 // What looking answers: the refusal's number alone, or number 0 and what the row holds. It is laid out as a row is; its kind is at
@@ -60,21 +69,22 @@ pub extern "C" fn sisal_board_enrol(rows: &mut [Row], settings: u8, address: u16
     lent::put(rows, f.n, c)
 }
 
-// Hears a reply: 0, reading, minute and fault 0 are set; 1 to 9, the row's fault is set and its reading stays; or 11 asked address,
-// 14 form, 17 unknown, 10 the row's own settings, and nothing changes.
+// Hears a reply: 0, reading, minute and fault 0 are set; 1 to 9, the row's fault is set, 7 with its place, and its reading stays; or 11
+// asked address, 14 form, 17 unknown, 10 the row's own settings, and nothing changes.
 #[no_mangle]
 pub extern "C" fn sisal_board_hear<'r, 'b>(
     rows: &'r mut [Row],
-    address: u16,
     minute: u32,
+    address: u16,
     count: usize,
     reply: &'b [u8],
-) -> u8
-    ensures { λ r. ⌜ Hears (now (rows .entry)) address minute count (now (reply .entry)) r (now (rows .exit)) ⌝ }
+) -> Heard
+    ensures { λ r. ⌜ Hears (now (rows .entry)) minute address count (now (reply .entry)) r (now (rows .exit)) ⌝ }
 {
     let f = lent::find(rows, address);
-    let c = value::hear(f, address, minute, count, reply);
-    lent::put(rows, f.n, c)
+    let c = value::hear(f, minute, address, count, reply);
+    lent::put(rows, f.n, c);
+    value::said(c)
 }
 
 // Removes a transmitter and leaves its row free: 0; or 11 asked address, 17 unknown.

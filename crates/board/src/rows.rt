@@ -1,7 +1,7 @@
 // One row by value: what it holds, and what becomes of it.
 ghost use mathlib.Core.Path.{_≡_};
 ghost use lib.ListN.{replicate};
-ghost use Rattle.board.specs.Row.{freeRow, newRow, isFree, withReading, withFault, setsFault};
+ghost use Rattle.board.specs.Row.{freeRow, newRow, isFree, withReading, withFault, placeTold, setsFault};
 ghost use Rattle.board.specs.Rows.{holds};
 ghost use Rattle.board.specs.Calls.{told, refusedLook};
 use crate::Looked;
@@ -74,14 +74,16 @@ pub(crate) fn with_reading(row: Row, reading: Reading, minute: u32) -> Row
     next.alarm1 = kinds::marked(reading.alarm1);
     next.alarm0 = kinds::marked(reading.alarm0);
     next.fault = 0;
+    next.place = 0;
     next
 }
 
-pub(crate) fn with_fault(row: Row, fault: u8) -> Row
-    ensures { λ r. ⌜ r ≡ withFault row fault ⌝ }
+pub(crate) fn with_fault(row: Row, fault: u8, place: u8) -> Row
+    ensures { λ r. ⌜ r ≡ withFault row fault place ⌝ }
 {
     let mut next = row;
     next.fault = fault;
+    next.place = place;
     next
 }
 
@@ -113,6 +115,13 @@ pub(crate) fn refused_look(number: u8) -> Looked
     }
 }
 
+// The place that is told of a row: beside another fault than 7 none, whatever the host left there.
+fn place_told(row: Row) -> u8
+    ensures { λ r. ⌜ r ≡ placeTold row ⌝ }
+{
+    if row.fault == 7 { row.place } else { 0 }
+}
+
 // What looking at a row answers.
 pub(crate) fn tell(row: Row) -> Looked
     ensures { λ r. ⌜ r ≡ told row ⌝ }
@@ -121,6 +130,7 @@ pub(crate) fn tell(row: Row) -> Looked
     answer.address = row.address;
     answer.settings = row.settings;
     answer.fault = row.fault;
+    answer.place = place_told(row);
     if row.kind == 0 {
         return answer;
     }

@@ -2,7 +2,8 @@
 // in the order of document 01, which one row changes, or that none does.
 ghost use mathlib.Core.Path.{_≡_};
 ghost use Prim.Native.Nat.{_≤_};
-ghost use Rattle.board.specs.inside.ByValue.{rowsOf, Finds, freeAfter, refusal, heardChange, EnrolsOn, HearsOn, RemovesOn, LooksOn};
+ghost use Rattle.board.specs.inside.ByValue.{rowsOf, Finds, freeAfter, changeOf, refusal, heardChange, saidOf, EnrolsOn, HearsOn, RemovesOn, LooksOn};
+use crate::Heard;
 use crate::Looked;
 use crate::Row;
 use crate::rows;
@@ -13,11 +14,13 @@ pub(crate) struct Board {
     pub n: usize,
 }
 
-// Row `at` becomes `row`, or no row changes where `at` is not on the board; and the number that the call answers.
+// Row `at` becomes `row`, or no row changes where `at` is not on the board; and the number that the call answers, with the place of the
+// unreadable digit beside 7.
 pub(crate) struct Change {
     pub at: usize,
     pub row: Row,
     pub number: u8,
+    pub place: u8,
 }
 
 // What a search for an address finds: the number n of rows that count, the place of the address's row, or n where it has none, the
@@ -90,6 +93,7 @@ fn refused(number: u8) -> Change
         at: 30,
         row: row,
         number: number,
+        place: 0,
     }
 }
 
@@ -114,39 +118,52 @@ pub(crate) fn enrol(f: Found, settings: u8, address: u16) -> Change
         at: f.free,
         row: row,
         number: 0,
+        place: 0,
     }
 }
 
-// The change that an answer of the frame makes of a row: a good reading is set, a fault that counts is set, 10 changes nothing.
+// A row's change with the number that is answered, and its place.
+fn changed(at: usize, row: Row, number: u8, place: u8) -> Change
+    ensures { λ r. ⌜ r ≡ changeOf at row number place ⌝ }
+{
+    Change {
+        at: at,
+        row: row,
+        number: number,
+        place: place,
+    }
+}
+
+// The change that an answer of the frame makes of a row: a good reading is set, a fault that counts is set, 7 with its place, and 10
+// changes nothing.
 fn heard(at: usize, row: Row, minute: u32, answer: Reply) -> Change
     ensures { λ r. ⌜ r ≡ heardChange at row minute answer ⌝ }
 {
     match answer {
-        Reply::Read(reading) => {
-            let next = rows::with_reading(row, reading, minute);
-            Change {
-                at: at,
-                row: next,
-                number: 0,
-            }
-        }
+        Reply::Read(reading) => changed(at, rows::with_reading(row, reading, minute), 0, 0),
         Reply::Refused(number) => {
             if rows::sets_fault(number) {
-                let next = rows::with_fault(row, number);
-                return Change {
-                    at: at,
-                    row: next,
-                    number: number,
-                };
+                return changed(at, rows::with_fault(row, number, 0), number, 0);
             }
             refused(number)
         }
+        Reply::Unreadable(place) => changed(at, rows::with_fault(row, 7, place), 7, place),
+    }
+}
+
+// What hearing answers of a change.
+pub(crate) fn said(c: Change) -> Heard
+    ensures { λ r. ⌜ r ≡ saidOf c ⌝ }
+{
+    Heard {
+        number: c.number,
+        place: c.place,
     }
 }
 
 // Hearing: 11, 14, 17, and then what the frame answers by the row's settings.
-pub(crate) fn hear(f: Found, address: u16, minute: u32, count: usize, reply: &[u8]) -> Change
-    ensures { λ r. ⌜ HearsOn f address minute count (now (reply .entry)) r ⌝ }
+pub(crate) fn hear(f: Found, minute: u32, address: u16, count: usize, reply: &[u8]) -> Change
+    ensures { λ r. ⌜ HearsOn f minute address count (now (reply .entry)) r ⌝ }
 {
     if 999 < address {
         return refused(11);
@@ -177,6 +194,7 @@ pub(crate) fn remove(f: Found, address: u16) -> Change
         at: f.at,
         row: row,
         number: 0,
+        place: 0,
     }
 }
 

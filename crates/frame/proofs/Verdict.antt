@@ -1,22 +1,23 @@
 -- What a reply answers by the tests that were made: each fault once those before it do not apply, and what the number of a level says
 -- of faults 6, 7 and 8. Assumes nothing.
-use mathlib.Core.Path.{_≡_, refl, sym, _∙_}
+use mathlib.Core.Path.{_≡_, refl, sym, _∙_, ap}
 use mathlib.Core.Bool.{Bool, true, false, not, _&&_}
 use mathlib.Core.List.{List, [], _∷_}
 use Prim.Native.Nat.{ℕ, suc, _+_, _*_, _/_, _%_, _^_, _<_, _≤_}
 use native.Mathlib.Omega.{arith}
-use borrow.Author.Tests.{ltb-false}
+use borrow.Author.Tests.{eqb-true, ltb-false}
 use lib.Dec.{eqb, ltb}
 use lib.ListN.{length}
-use Rattle.frame.specs.declared.Reply.the-variants.{Read, Refused}
+use Rattle.frame.specs.declared.Reply.the-variants.{Read, Refused, Unreadable}
 use Rattle.frame.specs.Pick.{pick}
 use Rattle.frame.specs.Line.{line, bit, threeDecimal, threeDigits}
 use Rattle.frame.specs.Charts.{Chart, sizeOf, isOdd, turned, placeIn}
-use Rattle.frame.specs.Level.{Level, known, lost, Mode, widthOf, readRow, levelOf, fillClear, noChart, valueOf, aboveLargest}
+use Rattle.frame.specs.Level.{Level, known, lost, Mode, widthOf, readRow, levelOf, fillClear, noChart, valueOf, placeLost, aboveLargest}
 use Rattle.frame.specs.Temperature.{isBad}
-use Rattle.frame.specs.Reply.{modeIn, heatIn, parityRight, readingAt}
-use Rattle.frame.specs.inside.Packed.{levelNumber, levelCode, lineFault, lineReply, heatReply}
+use Rattle.frame.specs.Reply.{modeIn, heatIn, parityRight, readingAt, refusedBy}
+use Rattle.frame.specs.inside.Packed.{levelNumber, levelCode, lineFault, lineReply, levelReply, heatReply}
 use Rattle.frame.proofs.Answers.{refused-by}
+use Rattle.frame.proofs.Refusals.{plain-by}
 use Rattle.frame.proofs.Tables.{pick-case}
 use Rattle.frame.proofs.EachMode.{small-levels, few-digits}
 
@@ -48,6 +49,16 @@ module _ (m : Mode) (small : m .largest < 65536) where
     where
       go : (t : Bool) → ltb (m .largest) v ≡ t → numberOf m true (known v) / 65536 ≡ afterLevel m true (known v) rest
       go true e = rw e
+      go false e = absurd (omega (arith, ltb-false (m .largest) v e, small, rw e at h))
+
+  -- of a refused level the number's rest is the place that fault 7 names
+  rest-is : (clear : Bool) (l : Level) → LostBelow 5 l → 65536 ≤ numberOf m clear l → (numberOf m clear l % 65536 < 256) × (numberOf m clear l / 65536 ≡ 7 → numberOf m clear l % 65536 ≡ placeLost l)
+  rest-is false l few h = (omega arith, λ e. absurd (omega arith))
+  rest-is true (lost k) few h = (omega arith, λ _. omega arith)
+  rest-is true (known v) few h = go (ltb (m .largest) v) refl
+    where
+      go : (t : Bool) → ltb (m .largest) v ≡ t → (numberOf m true (known v) % 65536 < 256) × (numberOf m true (known v) / 65536 ≡ 7 → numberOf m true (known v) % 65536 ≡ 0)
+      go true e = rw e (omega arith, λ _. omega arith)
       go false e = absurd (omega (arith, ltb-false (m .largest) v e, small, rw e at h))
 
   number-lt : (clear : Bool) (l : Level) → LostBelow 5 l → numberOf m clear l < 9 * 65536
@@ -82,10 +93,22 @@ module _ (settings n : ℕ) where
   few : LostBelow 5 (levelOf (modeIn settings) n)
   few = lost-below (modeIn settings .row) _ false 0 0 5 (omega (arith, few-digits (settings % 4)))
 
+  small-place : (l : Level) → LostBelow 5 l → placeLost l < 5
+  small-place (known v) h = omega arith
+  small-place (lost k) h = h
+
+  -- the place that is named is one of five digits
+  pub place-small : placeLost (levelOf (modeIn settings) n) < 5
+  place-small = small-place (levelOf (modeIn settings) n) few
+
   pub level-refused : 65536 ≤ levelCode (modeIn settings) n → (rest : ℕ)
       → levelCode (modeIn settings) n / 65536 ≡ afterLevel (modeIn settings) (fillClear n (modeIn settings .fill)) (levelOf (modeIn settings) n) rest
   unfolding levelCode
   level-refused h rest = refusing (modeIn settings) (small-levels (settings % 4)) (fillClear n (modeIn settings .fill)) (levelOf (modeIn settings) n) few h rest
+
+  pub level-rest : 65536 ≤ levelCode (modeIn settings) n → (levelCode (modeIn settings) n % 65536 < 256) × (levelCode (modeIn settings) n / 65536 ≡ 7 → levelCode (modeIn settings) n % 65536 ≡ placeLost (levelOf (modeIn settings) n))
+  unfolding levelCode
+  level-rest h = rest-is (modeIn settings) (small-levels (settings % 4)) (fillClear n (modeIn settings .fill)) (levelOf (modeIn settings) n) few h
 
   pub level-lt : levelCode (modeIn settings) n < 9 * 65536
   unfolding levelCode
@@ -108,38 +131,53 @@ module _ (settings address count : ℕ) (s : List ℕ) where
   abbrev fault9 : ℕ
   fault9 = pick (isBad (heatIn settings count (line s))) 9 0
 
-  answer-is : (f : ℕ) → lineFault settings address count s ≡ f → (f ≡ 0 → ⊥) → lineReply settings address count s ≡ Refused f
+  abbrev level : Level
+  level = levelOf (modeIn settings) (line s)
+
+  refused-is : (f : ℕ) → lineFault settings address count s ≡ f → (f ≡ 0 → ⊥) → lineReply settings address count s ≡ refusedBy level f
   unfolding lineReply
-  answer-is f e some = refused-by (Read (readingAt settings count (line s))) Refused _ f e some
+  refused-is f e some = refused-by (Read (readingAt settings count (line s))) (refusedBy level) _ f e some
+
+  answer-is : (f : ℕ) → lineFault settings address count s ≡ f → (f ≡ 0 → ⊥) → eqb f 7 ≡ false → lineReply settings address count s ≡ Refused f
+  answer-is f e some other = refused-is f e some ∙ plain-by level f other
+
+  -- a refusal by the number of a level
+  by-code : (code : ℕ) → (code / 65536 ≡ 7 → code % 65536 ≡ placeLost level) → (t : Bool) → eqb (code / 65536) 7 ≡ t
+      → pick t (Unreadable (placeLost level)) (Refused (code / 65536)) ≡ pick t (Unreadable (code % 65536)) (Refused (code / 65536))
+  by-code code rest true e = ap Unreadable (sym (rest (eqb-true (code / 65536) 7 e)))
+  by-code code rest false e = refl
 
   pub line-3 : eqb (bit (line s) 1) 0 ≡ true → lineReply settings address count s ≡ Refused 3
   unfolding lineFault
-  line-3 e3 = answer-is 3 (rw e3) (omega arith)
+  line-3 e3 = answer-is 3 (rw e3) (omega arith) refl
 
   module _ (e3 : eqb (bit (line s) 1) 0 ≡ false) where
     pub line-4 : right4 ≡ false → lineReply settings address count s ≡ Refused 4
     unfolding lineFault
-    line-4 e4 = answer-is 4 (rw (e3, e4)) (omega arith)
+    line-4 e4 = answer-is 4 (rw (e3, e4)) (omega arith) refl
 
     module _ (e4 : right4 ≡ true) where
       pub line-5 : parityRight settings s ≡ false → lineReply settings address count s ≡ Refused 5
       unfolding lineFault
-      line-5 e5 = answer-is 5 (rw (e3, e4, e5)) (omega arith)
+      line-5 e5 = answer-is 5 (rw (e3, e4, e5)) (omega arith) refl
 
       module _ (e5 : parityRight settings s ≡ true) where
         from-6 : lineFault settings address count s ≡ afterLevel (modeIn settings) (fillClear (line s) (modeIn settings .fill)) (levelOf (modeIn settings) (line s)) fault9
         unfolding lineFault
         from-6 = rw (e3, e4, e5)
 
-        pub line-level : 65536 ≤ levelCode (modeIn settings) (line s) → lineReply settings address count s ≡ Refused (levelCode (modeIn settings) (line s) / 65536)
-        line-level h = answer-is (levelCode (modeIn settings) (line s) / 65536) (from-6 ∙ sym (level-refused settings (line s) h fault9)) (omega arith)
+        pub line-level : 65536 ≤ levelCode (modeIn settings) (line s) → lineReply settings address count s ≡ levelReply (levelCode (modeIn settings) (line s))
+        line-level h =
+            let code = levelCode (modeIn settings) (line s) in
+            refused-is (code / 65536) (from-6 ∙ sym (level-refused settings (line s) h fault9)) (omega arith)
+            ∙ by-code code (level-rest settings (line s) h .1) (eqb (code / 65536) 7) refl
 
         pub line-read : levelCode (modeIn settings) (line s) < 65536 → lineReply settings address count s ≡ heatReply settings count (line s) (levelCode (modeIn settings) (line s))
         unfolding lineReply heatReply
         line-read h = rw (from-6 ∙ level-passed settings (line s) h fault9) (go (isBad (heatIn settings count (line s))) refl)
           where
             go : (b : Bool) → isBad (heatIn settings count (line s)) ≡ b
-                → pick (eqb (pick (isBad (heatIn settings count (line s))) 9 0) 0) (Read (readingAt settings count (line s))) (Refused (pick (isBad (heatIn settings count (line s))) 9 0))
+                → pick (eqb (pick (isBad (heatIn settings count (line s))) 9 0) 0) (Read (readingAt settings count (line s))) (refusedBy level (pick (isBad (heatIn settings count (line s))) 9 0))
                 ≡ heatReply settings count (line s) (levelCode (modeIn settings) (line s))
             go true e = rw e
             go false e = rw (e, level-value settings (line s) h)

@@ -118,6 +118,11 @@ abbrev pub valueOf : Level → ℕ
 valueOf (known v) = v
 valueOf (lost k) = 0
 
+-- The place of the digit that is in no chart, 0 where every digit was read.
+abbrev pub placeLost : Level → ℕ
+placeLost (known v) = 0
+placeLost (lost k) = k
+
 -- The level is above the largest of its mode; only the 30 m mode has codes for such levels.
 abbrev pub aboveLargest : Mode → Level → Bool
 aboveLargest m (known v) = ltb (m .largest) v

@@ -8,14 +8,14 @@ use lib.Dec.{eqb, ltb}
 use lib.ListN.{length, drop}
 use Rattle.frame.specs.declared.Reading.{Reading}
 use Rattle.frame.specs.declared.Reply.{Reply}
-use Rattle.frame.specs.declared.Reply.the-variants.{Read, Refused}
+use Rattle.frame.specs.declared.Reply.the-variants.{Read, Refused, Unreadable}
 use Rattle.frame.specs.declared.Temperature.the-variants.{Absent}
 use Rattle.frame.specs.declared.Written.{Written}
 use Rattle.frame.specs.declared.Written.the-variants.{Bytes}
 use Rattle.frame.specs.declared.Written.the-variants as written
 use Rattle.frame.specs.Pick.{pick}
 use Rattle.frame.specs.Line.{line, bit, put, mark, formed, marks, firstBytes, threeDigits, threeDecimal, putThree}
-use Rattle.frame.specs.Level.{Mode, modeOf, levelOf, fillClear, noChart, valueOf, aboveLargest, putLevel}
+use Rattle.frame.specs.Level.{Mode, Level, modeOf, levelOf, fillClear, noChart, valueOf, placeLost, aboveLargest, putLevel}
 use Rattle.frame.specs.Temperature.{Heat, told, heatOf, isBad, temperatureOf, isAbsent, putHeat}
 use Rattle.frame.specs.Faults.{Test, _gives_, firstOf}
 
@@ -69,10 +69,14 @@ readingAt settings count n =
       alarm0 = eqb (bit n 39) 1;
     }
 
+-- Document 02, request 02: fault 7 names the place of the first digit in no chart, counted from 0 at the top. No other fault carries a place.
+abbrev pub refusedBy : Level → ℕ → Reply
+refusedBy level fault = pick (eqb fault 7) (Unreadable (placeLost level)) (Refused fault)
+
 unfoldable pub replyOf : ℕ → ℕ → ℕ → List ℕ → Reply
 replyOf settings address count s =
     pick (eqb (replyFault settings address count s) 0) (Read (readingAt settings count (line s)))
-    (Refused (replyFault settings address count s))
+    (refusedBy (levelOf (modeIn settings) (line s)) (replyFault settings address count s))
 
 -- What `read_reply` answers.
 pub record ReadsReply (settings address count : ℕ) (reply : List ℕ) (answer : Reply) : Type 0 where
@@ -119,3 +123,4 @@ pub record WritesReply (settings address : ℕ) (r : Reading) (out : List ℕ) (
 abbrev pub replyNumber : Reply → ℕ
 replyNumber (Read r) = 0
 replyNumber (Refused n) = n
+replyNumber (Unreadable place) = 7

@@ -32,10 +32,12 @@ pub struct Reading {
     pub alarm0: bool,
 }
 
-// What reading a reply answers.
+// What reading a reply answers: the reading; a refusal by its number; or fault 7, which alone names a place, that of the first digit
+// that is in no chart, counted from 0 at the top.
 pub enum Reply {
     Read(Reading),
     Refused(u8),
+    Unreadable(u8),
 }
 
 pub struct Poll {

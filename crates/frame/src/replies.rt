@@ -3,10 +3,10 @@ ghost use mathlib.Core.Path.{_≡_};
 ghost use mathlib.Core.Bool.{not, _&&_};
 ghost use mathlib.Core.Logic.{_≢_};
 ghost use lib.Dec.{eqb};
-ghost use Prim.Native.Nat.{_≤_, _<_, _^_};
+ghost use Prim.Native.Nat.{_≤_, _<_, _%_, _^_};
 ghost use lib.ListN.{length};
 ghost use Rattle.frame.specs.Reply.{heatIn, parityRight};
-ghost use Rattle.frame.specs.inside.Packed.{heatFor, heatReply, lineReply};
+ghost use Rattle.frame.specs.inside.Packed.{heatFor, heatReply, lineReply, levelReply};
 use crate::Reading;
 use crate::Reply;
 use crate::Temperature;
@@ -63,6 +63,19 @@ fn with_level(settings: u8, count: usize, n: u64, level: u64) -> Reply
     }
 }
 
+// The refusal that the number of a level stands for: 6 and 8 by their number alone, 7 with the place of the digit.
+fn by_level(code: u64) -> Reply
+    requires { ⌜ code < 2 ^ 24 ⌝ }
+    requires { ⌜ code % 2 ^ 16 < 2 ^ 8 ⌝ }
+    ensures { λ r. ⌜ r ≡ levelReply code ⌝ }
+{
+    let fault = code / level::FAULT;
+    if fault == 7 {
+        return Reply::Unreadable((code % level::FAULT) as u8);
+    }
+    Reply::Refused(fault as u8)
+}
+
 // A reply of the right form in 40 or 56 bits.
 pub(crate) fn read_line(settings: u8, address: u16, count: usize, reply: &[u8]) -> Reply
     requires { ⌜ address ≤ 999 ⌝ }
@@ -83,7 +96,7 @@ pub(crate) fn read_line(settings: u8, address: u16, count: usize, reply: &[u8]) 
     }
     let level = modes::read_level((settings % 4) as u64, n);
     if level::FAULT <= level {
-        return Reply::Refused((level / level::FAULT) as u8);
+        return by_level(level);
     }
     with_level(settings, count, n, level)
 }

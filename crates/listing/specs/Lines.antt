@@ -5,7 +5,7 @@ use Prim.Native.Nat.{ℕ, zero, suc}
 use lib.ListN.{length}
 use Rattle.frame.specs.declared.Reading.{Reading}
 use Rattle.frame.specs.declared.Reply.{Reply}
-use Rattle.frame.specs.declared.Reply.the-variants.{Read, Refused}
+use Rattle.frame.specs.declared.Reply.the-variants.{Read, Refused, Unreadable}
 use Rattle.frame.specs.declared.Temperature.{Temperature}
 use Rattle.frame.specs.declared.Temperature.the-variants.{Degrees, Above, Below, Absent}
 use Rattle.frame.specs.Pick.{pick}
@@ -36,10 +36,12 @@ readingText r =
     decimal (r .level) ++ ascii " " ++ temperatureText (r .temperature) ++ ascii " "
     ++ alarmText (r .alarm1) ++ ascii " " ++ alarmText (r .alarm0)
 
--- A faulty reply ends after the address with "fault" and its number.
+-- A faulty reply ends after the address with "fault" and its number; document 02, request 02: after 7 stands the place of the unreadable
+-- digit.
 abbrev pub replyText : Reply → List ℕ
 replyText (Read r) = readingText r
 replyText (Refused n) = ascii "fault " ++ decimal n
+replyText (Unreadable place) = ascii "fault 7 " ++ decimal place
 
 -- Minute, address, and what the reply reads as.
 unfoldable pub recordText : Entry → List ℕ

@@ -72,7 +72,7 @@ fn put_reading(out: &mut [u8], at: usize, r: Reading) -> usize
     put_byte(out, gap0, alarm(r.alarm0))
 }
 
-// What a reply reads as: its reading, or "fault" and its number.
+// What a reply reads as: its reading, or "fault" and its number, and after 7 the place of the unreadable digit.
 fn put_reply(out: &mut [u8], at: usize, reply: Reply) -> usize
     requires { ⌜ at + 16 ≤ length (now out) ⌝ }
     ensures { λ r. ⌜ Puts (replyText reply) 16 (now (out .entry)) at r (now (out .exit)) ⌝ }
@@ -82,6 +82,10 @@ fn put_reply(out: &mut [u8], at: usize, reply: Reply) -> usize
         Reply::Refused(n) => {
             let next = put_word(out, at, b"fault ");
             put_short(out, next, n as u16)
+        }
+        Reply::Unreadable(place) => {
+            let next = put_word(out, at, b"fault 7 ");
+            put_short(out, next, place as u16)
         }
     }
 }

@@ -24,6 +24,7 @@ pub mod WrittenThenRead
 pub mod WrittenAgain
 pub mod Parity
 pub mod FirstFault
+pub mod Unreadable
 pub mod OneOutcome
 pub mod OnlyItsBytes
 pub mod Bench

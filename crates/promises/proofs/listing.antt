@@ -7,5 +7,6 @@ pub mod Decimals
 pub mod Records
 pub mod Bench
 pub mod Room
+pub mod Faults
 pub mod OneOutcome
 pub mod Promises

@@ -10,6 +10,7 @@ pub mod OutsideItsRange
 pub mod WrittenAgain
 pub mod Parity
 pub mod FirstFault
+pub mod Unreadable
 pub mod OneOutcome
 pub mod OnlyItsBytes
 pub mod Bench

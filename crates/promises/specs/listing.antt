@@ -5,5 +5,6 @@ pub mod Records
 pub mod Decimals
 pub mod Bench
 pub mod Room
+pub mod Faults
 pub mod OneOutcome
 pub mod Promises

@@ -11,7 +11,8 @@ use Rattle.frame.specs.declared.Written.the-variants as written
 use Rattle.frame.specs.Line.{line}
 use Rattle.frame.specs.Pick.{pick}
 use Rattle.frame.specs.Poll.{pollAt, pollFault, pollOf}
-use Rattle.frame.specs.Reply.{readingAt, replyFault, replyOf}
+use Rattle.frame.specs.Level.{Level, levelOf, placeLost}
+use Rattle.frame.specs.Reply.{modeIn, readingAt, replyFault, refusedBy, replyOf}
 use Rattle.sheet.specs.declared.Found.the-variants as found
 use Rattle.sheet.specs.declared.Saved.the-variants as saved
 use Rattle.sheet.specs.declared.view.Counted.the-variants as counted
@@ -34,10 +35,18 @@ unfolding pollOf
 poll-back s =
     by-fault pollTold pollMeant (asked.Asked (pollAt (line s))) asked.Refused (simp flag-back) (λ n e. simp e) (pollFault s)
 
+refused-back : (level : Level) (n : ℕ) → eqb n 0 ≡ false → replyMeant (replyTold (refusedBy level n)) ≡ refusedBy level n
+refused-back level n e = go (eqb n 7) refl
+  where
+    go : (t : Bool) → eqb n 7 ≡ t → let a = pick t (replied.Unreadable (placeLost level)) (replied.Refused n) in replyMeant (replyTold a) ≡ a
+    go true f = refl
+    go false f = simp (e, f)
+
 pub reply-back : (settings address count : ℕ) (s : List ℕ) → replyMeant (replyTold (replyOf settings address count s)) ≡ replyOf settings address count s
 unfolding replyOf
 reply-back settings address count s =
-    by-fault replyTold replyMeant (replied.Read (readingAt settings count (line s))) replied.Refused (ap replied.Read (reading-back (readingAt settings count (line s)))) (λ n e. simp e) (replyFault settings address count s)
+    let level = levelOf (modeIn settings) (line s) in
+    by-fault replyTold replyMeant (replied.Read (readingAt settings count (line s))) (refusedBy level) (ap replied.Read (reading-back (readingAt settings count (line s)))) (refused-back level) (replyFault settings address count s)
 
 pub written-back : (bytes fault : ℕ) → let a = pick (eqb fault 0) (written.Bytes bytes) (written.Refused fault) in writtenMeant (writtenTold a) ≡ a
 written-back bytes fault = by-fault writtenTold writtenMeant (written.Bytes bytes) written.Refused refl (λ n e. simp e) fault

@@ -80,9 +80,16 @@ numbered number good bad g b n = go (eqb n 0) refl
 pub poll-number : (t : PollTold) → pollNumber (pollMeant t) ≡ t .number
 poll-number t = numbered pollNumber (asked.Asked (pollSaid t)) asked.Refused refl (λ n. refl) (t .number)
 
+refused-number : (place n : ℕ) → replyNumber (pick (eqb n 7) (replied.Unreadable place) (replied.Refused n)) ≡ n
+refused-number place n = go (eqb n 7) refl
+  where
+    go : (t : Bool) → eqb n 7 ≡ t → replyNumber (pick t (replied.Unreadable place) (replied.Refused n)) ≡ n
+    go true e = sym (eqb-true n 7 e)
+    go false e = refl
+
 pub reply-number : (t : ReplyTold) → replyNumber (replyMeant t) ≡ t .number
 reply-number t =
-    numbered replyNumber (replied.Read (readingBy (t .kind) (t .tenths) (t .level) (t .alarm1) (t .alarm0))) replied.Refused refl (λ n. refl) (t .number)
+    numbered replyNumber (replied.Read (readingBy (t .kind) (t .tenths) (t .level) (t .alarm1) (t .alarm0))) (λ n. pick (eqb n 7) (replied.Unreadable (t .place)) (replied.Refused n)) refl (refused-number (t .place)) (t .number)
 
 pub written-number : (d : Done) → writtenNumber (writtenMeant d) ≡ d .number
 written-number d = numbered writtenNumber (written.Bytes (d .count)) written.Refused refl (λ n. refl) (d .number)

@@ -41,17 +41,22 @@ pollMeant t = pick (eqb (t .number) 0) (asked.Asked (pollSaid t)) (asked.Refused
 -- A reply: its reading with the temperature by kind and tenths, as a row of the board keeps it; beside a refusal all else is 0.
 abbrev pub readingTold : Reading → ReplyTold
 readingTold r =
-    record { level = r .level; tenths = tenthsOf (r .temperature); kind = kindOf (r .temperature); alarm1 = mark (r .alarm1); alarm0 = mark (r .alarm0); number = 0 }
+    record { level = r .level; tenths = tenthsOf (r .temperature); kind = kindOf (r .temperature); alarm1 = mark (r .alarm1); alarm0 = mark (r .alarm0); number = 0; place = 0 }
+
+-- Beside number 7 stands the place of the unreadable digit.
+abbrev pub refusedTold : ℕ → ℕ → ReplyTold
+refusedTold number place =
+    record { level = 0; tenths = pos 0; kind = 0; alarm1 = 0; alarm0 = 0; number = number; place = place }
 
 abbrev pub replyTold : Reply → ReplyTold
 replyTold (replied.Read r) = readingTold r
-replyTold (replied.Refused n) =
-    record { level = 0; tenths = pos 0; kind = 0; alarm1 = 0; alarm0 = 0; number = n }
+replyTold (replied.Refused n) = refusedTold n 0
+replyTold (replied.Unreadable place) = refusedTold 7 place
 
 abbrev pub replyMeant : ReplyTold → Reply
 replyMeant t =
     pick (eqb (t .number) 0) (replied.Read (readingBy (t .kind) (t .tenths) (t .level) (t .alarm1) (t .alarm0)))
-    (replied.Refused (t .number))
+    (pick (eqb (t .number) 7) (replied.Unreadable (t .place)) (replied.Refused (t .number)))
 
 -- The bytes written, the stores made, or the slots that there are; beside a refusal 0.
 abbrev pub done : ℕ → ℕ → Done

@@ -16,7 +16,7 @@ pub struct PollTold {
     pub number: u8,
 }
 
-// What reading a reply answers: alarms are 0 or 1; beside a refusal all else is 0.
+// What reading a reply answers: alarms are 0 or 1; beside a refusal all else is 0, but for the place beside 7.
 #[repr(C)]
 pub struct ReplyTold {
     pub level: u16,
@@ -26,6 +26,8 @@ pub struct ReplyTold {
     pub alarm1: u8,
     pub alarm0: u8,
     pub number: u8,
+    // Beside number 7 the place of the first digit in no chart, counted from 0 at the top; else 0.
+    pub place: u8,
 }
 
 // What writing, saving and counting answer: the bytes written, the stores made or the slots there are; beside a refusal 0.

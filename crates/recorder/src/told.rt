@@ -1,6 +1,6 @@
 // What the calls below answer, told in integers.
 ghost use mathlib.Core.Path.{_≡_};
-ghost use Rattle.recorder.specs.Told.{pollTold, readingTold, replyTold, writtenTold, savedTold, countedTold, bareTold, countFits, slotTold};
+ghost use Rattle.recorder.specs.Told.{pollTold, readingTold, refusedTold, replyTold, writtenTold, savedTold, countedTold, bareTold, countFits, slotTold};
 use crate::Done;
 use crate::PollTold;
 use crate::ReplyTold;
@@ -46,6 +46,22 @@ fn reading(reading: Reading) -> ReplyTold
         alarm1: kinds::marked(reading.alarm1),
         alarm0: kinds::marked(reading.alarm0),
         number: 0,
+        place: 0,
+    }
+}
+
+// A reply that was refused: its number, and the place beside 7.
+fn refused_reply(number: u8, place: u8) -> ReplyTold
+    ensures { λ r. ⌜ r ≡ refusedTold number place ⌝ }
+{
+    ReplyTold {
+        level: 0,
+        tenths: 0,
+        kind: 0,
+        alarm1: 0,
+        alarm0: 0,
+        number: number,
+        place: place,
     }
 }
 
@@ -54,14 +70,8 @@ pub(crate) fn reply(answer: Reply) -> ReplyTold
 {
     match answer {
         Reply::Read(r) => reading(r),
-        Reply::Refused(number) => ReplyTold {
-            level: 0,
-            tenths: 0,
-            kind: 0,
-            alarm1: 0,
-            alarm0: 0,
-            number: number,
-        },
+        Reply::Refused(number) => refused_reply(number, 0),
+        Reply::Unreadable(place) => refused_reply(7, place),
     }
 }
 

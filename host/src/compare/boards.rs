@@ -16,7 +16,7 @@ fn call<C: Core>(core: &C, rows: &mut [C::Row], call: &BoardCall) -> Answer<Opti
             core.enrol(rows, *settings, *address).map(|()| None)
         }
         BoardCall::Hear { minute, reply } => core
-            .hear(rows, reply.address, *minute, reply.count, reply.reply())
+            .hear(rows, *minute, reply.address, reply.count, reply.reply())
             .map(|()| None),
         BoardCall::Remove { address } => core.remove(rows, *address).map(|()| None),
         BoardCall::LookUp { address } => core.look_up(rows, *address).map(Some),

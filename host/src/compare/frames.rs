@@ -60,7 +60,8 @@ fn there_and_back<L: Core, R: Core>(
     let reply = &out[..bytes];
     read(left, right, settings, ADDRESS, 8 * bytes, reply)?;
     let expected = if reading.level > LARGEST_LEVEL[usize::from(settings & 3)] {
-        Err(Fault::Code)
+        // Every digit bit is 1, and the second digit from the top has no such code.
+        Err(Fault::Code1)
     } else {
         Ok(Reading {
             temperature: as_told(settings, reading.temperature),

@@ -45,6 +45,7 @@ fn crowded_row(random: &mut Random, place: usize) -> Row {
         settings: random.below(16) as u8,
         last: None,
         fault: 0,
+        place: 0,
     }
 }
 
@@ -69,7 +70,12 @@ fn hostile_row(random: &mut Random, pool: usize) -> Row {
         address,
         settings,
         last,
-        fault: if random.coin() { 0 } else { random.byte() },
+        fault: match random.below(4) {
+            0 => random.byte(),
+            1 => 7,
+            _ => 0,
+        },
+        place: random.byte(),
     }
 }
 
@@ -119,7 +125,7 @@ mod tests {
     fn every_outcome_is_reached() {
         let mut random = Random::new(crate::random::SEED, 0);
         let mut seen = [[0u32; 20]; 4];
-        for _ in 0..1_000 {
+        for _ in 0..1_200 {
             let mut rows = rows(&mut random);
             for _ in 0..100 {
                 let (call, answer) = match board_call(&mut random, &rows) {
@@ -128,7 +134,7 @@ mod tests {
                     }
                     BoardCall::Hear { minute, reply } => {
                         let (address, count) = (reply.address, reply.count);
-                        (1, hear(&mut rows, address, minute, count, reply.reply()))
+                        (1, hear(&mut rows, minute, address, count, reply.reply()))
                     }
                     BoardCall::Remove { address } => (2, remove(&mut rows, address)),
                     BoardCall::LookUp { address } => (3, look_up(&rows, address).map(|_| ())),

@@ -24,6 +24,7 @@ pub struct Reply {
     pub alarm1: u8,
     pub alarm0: u8,
     pub number: u8,
+    pub place: u8,
 }
 
 #[repr(C)]
@@ -64,6 +65,13 @@ pub struct Row {
     pub gauge: u8,
 }
 
+/// What hearing answers.
+#[repr(C)]
+pub struct Heard {
+    pub number: u8,
+    pub place: u8,
+}
+
 #[repr(C)]
 pub struct Standing {
     pub minute: u32,
@@ -84,11 +92,12 @@ pub struct Standing {
 
 const _: () = {
     assert!(size_of::<Poll>() == 6);
-    assert!(size_of::<Reply>() == 8);
+    assert!(size_of::<Reply>() == 10);
     assert!(size_of::<Done>() == 16);
     assert!(size_of::<Slot>() == 20);
     assert!(size_of::<Row>() == 24 && align_of::<Row>() == 4);
     assert!(size_of::<Standing>() == 24);
+    assert!(size_of::<Heard>() == 2);
 };
 
 extern "C" {
@@ -162,12 +171,12 @@ extern "C" {
     pub fn sisal_board_hear(
         rows: *mut Row,
         row_count: usize,
-        address: u16,
         minute: u32,
+        address: u16,
         count: usize,
         reply: *const u8,
         reply_bytes: usize,
-    ) -> u8;
+    ) -> Heard;
     pub fn sisal_board_remove(rows: *mut Row, row_count: usize, address: u16) -> u8;
     pub fn sisal_board_look_up(rows: *const Row, row_count: usize, address: u16) -> Standing;
 }

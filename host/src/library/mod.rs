@@ -41,6 +41,16 @@ fn refused(number: u8) -> Answer<()> {
     }
 }
 
+/// The same of a number that came with the place of an unreadable digit, 0 for none.
+#[inline]
+fn refused_at(number: u8, place: u8) -> Answer<()> {
+    match (number, place) {
+        (0, 0) => Ok(()),
+        _ => Err(Fault::from_parts(number, place)
+            .unwrap_or_else(|| unreachable!("the library refused by {number} at place {place}"))),
+    }
+}
+
 /// The fault of a number that the library answered, which is always one of the paper's.
 #[inline]
 fn fault(number: u8) -> Fault {
@@ -149,7 +159,7 @@ impl Core for Library {
         // SAFETY: the library reads the bytes of the slice alone.
         let told =
             unsafe { ffi::sisal_read_reply(settings, address, count, reply.as_ptr(), reply.len()) };
-        refused(told.number).map(|()| Reading {
+        refused_at(told.number, told.place).map(|()| Reading {
             level: told.level,
             temperature: temperature(told.kind, told.tenths),
             alarm1: told.alarm1 != 0,
@@ -273,24 +283,25 @@ impl Core for Library {
     fn hear(
         &self,
         rows: &mut [LentRow],
-        address: u16,
         minute: u32,
+        address: u16,
         count: usize,
         reply: &[u8],
     ) -> Answer<()> {
         // SAFETY: the library reads the reply and writes rows of the slice alone, which is lent to
         // nobody else.
-        refused(unsafe {
+        let told = unsafe {
             ffi::sisal_board_hear(
                 rows.as_mut_ptr(),
                 rows.len(),
-                address,
                 minute,
+                address,
                 count,
                 reply.as_ptr(),
                 reply.len(),
             )
-        })
+        };
+        refused_at(told.number, told.place)
     }
 
     #[inline]
@@ -308,6 +319,7 @@ impl Core for Library {
             settings: told.settings,
             last: last(told.kind, told.tenths, told.level, alarms, told.minute),
             fault: told.fault,
+            place: told.place,
         })
     }
 
@@ -316,6 +328,7 @@ impl Core for Library {
             address: says.address,
             settings: says.settings,
             fault: says.fault,
+            place: says.place,
             used: says.in_use.into(),
             ..LentRow::default()
         };
@@ -343,6 +356,7 @@ impl Core for Library {
                 row.minute,
             ),
             fault: row.fault,
+            place: row.place,
         }
     }
 }

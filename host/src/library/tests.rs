@@ -249,8 +249,8 @@ fn call_both(call: &BoardCall, rows: &mut [LentRow], says: &mut [Row]) -> Answer
             board::enrol(says, *settings, *address),
         ),
         BoardCall::Hear { minute, reply } => (
-            Library.hear(rows, reply.address, *minute, reply.count, reply.reply()),
-            board::hear(says, reply.address, *minute, reply.count, reply.reply()),
+            Library.hear(rows, *minute, reply.address, reply.count, reply.reply()),
+            board::hear(says, *minute, reply.address, reply.count, reply.reply()),
         ),
         BoardCall::Remove { address } => (
             Library.remove(rows, *address),
@@ -287,8 +287,12 @@ fn every_pattern_is_a_row() {
             match (answer, changed.as_slice()) {
                 (_, []) | (Ok(()), [0..=29]) => {}
                 (Err(fault), &[n @ 0..=29]) if fault.number() <= 9 => {
-                    let fault = fault.number();
-                    assert_eq!(rows[n], LentRow { fault, ..before[n] }, "{call:?}");
+                    let heard = LentRow {
+                        fault: fault.number(),
+                        place: fault.place(),
+                        ..before[n]
+                    };
+                    assert_eq!(rows[n], heard, "{call:?}");
                 }
                 _ => panic!("{call:?} changed the rows {changed:?}"),
             }

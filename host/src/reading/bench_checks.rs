@@ -110,7 +110,7 @@ fn an_invalid_level_is_all_marks_and_in_no_chart() {
         let mut reply = [0; 5];
         assert_eq!(write_reply(mode, 7, &plain(level), &mut reply), Ok(5));
         assert_eq!(bits_like(&reply, first, marks), marks);
-        assert_eq!(read_reply(mode, 7, 40, &reply), Err(Fault::Code));
+        assert_eq!(read_reply(mode, 7, 40, &reply), Err(Fault::Code1));
     }
 }
 
@@ -378,10 +378,10 @@ fn a_parity_fault_keeps_the_last_reading() {
     let mut rows = [Row::default(); 31];
     assert_eq!(board::enrol(&mut rows, DECIMAL, 7), Ok(()));
     assert_eq!(board::enrol(&mut rows, DECIMAL, 7), Err(Fault::Twice));
-    assert_eq!(board::hear(&mut rows, 7, 600, 40, &REPLY), Ok(()));
+    assert_eq!(board::hear(&mut rows, 600, 7, 40, &REPLY), Ok(()));
     let wrong = [0x80, 0x0E, 0x50, 0x00, 0x01];
     assert_eq!(
-        board::hear(&mut rows, 7, 601, 40, &wrong),
+        board::hear(&mut rows, 601, 7, 40, &wrong),
         Err(Fault::Parity)
     );
     let standing = board::look_up(&rows, 7);
@@ -391,7 +391,7 @@ fn a_parity_fault_keeps_the_last_reading() {
     );
     assert_eq!(standing.map(|s| s.fault), Ok(5));
     assert_eq!(
-        board::hear(&mut rows, 8, 601, 40, &wrong),
+        board::hear(&mut rows, 601, 8, 40, &wrong),
         Err(Fault::Unknown)
     );
     assert_eq!(board::remove(&mut rows, 7), Ok(()));
@@ -401,4 +401,26 @@ fn a_parity_fault_keeps_the_last_reading() {
     }
     assert_eq!(board::enrol(&mut rows, 0, 30), Err(Fault::NoRow));
     assert_eq!(rows[30], Row::default());
+}
+
+/// Document 02, request 02: which digit was unreadable.
+#[test]
+fn the_unreadable_digit_is_named() {
+    let named: [(u8, [u8; 5], Fault); 12] = [
+        (1, [0x80, 0x0E, 0xFF, 0xFE, 0x01], Fault::Code1),
+        (0, [0x80, 0x0E, 0xFF, 0xFE, 0x01], Fault::Code1),
+        (2, [0x80, 0x0F, 0xFF, 0xFF, 0x01], Fault::Code1),
+        (3, [0x80, 0x0F, 0xFF, 0xFF, 0x80], Fault::Code1),
+        (1, [0x80, 0x0E, 0x51, 0xE0, 0x00], Fault::Code2),
+        (1, [0x80, 0x0E, 0x50, 0x16, 0x01], Fault::Code3),
+        (1, [0x80, 0x0E, 0x51, 0xF6, 0x01], Fault::Code2),
+        (0, [0x80, 0x0E, 0x0F, 0x40, 0x01], Fault::Code2),
+        (2, [0x80, 0x0E, 0x80, 0x0D, 0x00], Fault::Code4),
+        (3, [0x80, 0x0F, 0x22, 0xC7, 0x81], Fault::Code4),
+        (1, [0x80, 0x0E, 0x51, 0xE0, 0x81], Fault::Fill),
+        (1, [0x80, 0x0E, 0x51, 0xE0, 0x01], Fault::Parity),
+    ];
+    for (settings, reply, fault) in named {
+        assert_eq!(read_reply(settings, 7, 40, &reply), Err(fault), "{reply:02x?}");
+    }
 }

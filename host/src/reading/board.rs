@@ -39,15 +39,16 @@ pub fn enrol(rows: &mut [Row], settings: u8, address: u16) -> Answer<()> {
         settings,
         last: None,
         fault: 0,
+        place: 0,
     };
     Ok(())
 }
 
 /// Hears a reply to a poll of `address`. Refusals: 11, 14, 17, 10, then 1 to 9.
 ///
-/// A good reply sets reading, minute and fault 0; the faults 1 to 9 set the row's fault and
-/// leave its last good reading as it is.
-pub fn hear(rows: &mut [Row], address: u16, minute: u32, count: usize, reply: &[u8]) -> Answer<()> {
+/// A good reply sets reading, minute and fault 0; the faults 1 to 9 set the row's fault, 7 with the
+/// place of the unreadable digit, and leave its last good reading as it is.
+pub fn hear(rows: &mut [Row], minute: u32, address: u16, count: usize, reply: &[u8]) -> Answer<()> {
     if address > LARGEST_ADDRESS {
         return Err(Fault::AskedAddress);
     }
@@ -60,10 +61,12 @@ pub fn hear(rows: &mut [Row], address: u16, minute: u32, count: usize, reply: &[
         Ok(reading) => {
             row.last = Some(Last { reading, minute });
             row.fault = 0;
+            row.place = 0;
             Ok(())
         }
         Err(fault) => {
             row.fault = fault.number();
+            row.place = fault.place();
             Err(fault)
         }
     }
@@ -89,5 +92,6 @@ pub fn look_up(rows: &[Row], address: u16) -> Answer<Standing> {
         settings: row.settings,
         last: row.last,
         fault: row.fault,
+        place: if row.fault == 7 { row.place } else { 0 },
     })
 }

@@ -42,13 +42,29 @@ pub struct Part {
     pub code: [u8; 512],
     /// Numbers by code, or [`NO_CODE`].
     pub number: [u8; 512],
+    /// The charts of the two digits, and the bits of the lower one's code.
+    upper: &'static [u8],
+    lower: &'static [u8],
+    bits: u32,
+}
+
+impl Part {
+    /// Which of the two digits, 0 or 1, is the first whose code is in no place of its chart.
+    pub fn unreadable(&self, code: u8) -> Option<u8> {
+        let digits = [code >> self.bits, code & !(0xFF << self.bits)];
+        let known = [self.upper.contains(&digits[0]), self.lower.contains(&digits[1])];
+        known.iter().position(|known| !known).map(|digit| digit as u8)
+    }
 }
 
 /// The part of two digits, the code of the lower one taking `bits` bits.
-const fn part(upper: &[u8], lower: &[u8], bits: u32) -> Part {
+const fn part(upper: &'static [u8], lower: &'static [u8], bits: u32) -> Part {
     let mut part = Part {
         code: [0; 512],
         number: [NO_CODE; 512],
+        upper,
+        lower,
+        bits,
     };
     let numbers = upper.len() * lower.len();
     let mut entry = 0;

@@ -1,6 +1,6 @@
 //! Polls and replies.
 
-use super::modes::{level_number, level_word, MODES};
+use super::modes::{level_number, level_word, unreadable_place, Mode, MODES};
 use super::word::{bit, pack};
 use crate::types::{
     Answer, Fault, Poll, Reading, Temperature, LARGEST_ADDRESS, LARGEST_SETTINGS, ODD_PARITY,
@@ -85,7 +85,9 @@ pub(super) fn read_word(settings: u8, address: u16, count: usize, word: u64) -> 
     if word & mode.fill != 0 {
         return Err(Fault::Fill);
     }
-    let level = level_number(mode, word).ok_or(Fault::Code)?;
+    let Some(level) = level_number(mode, word) else {
+        return Err(unreadable(mode, word));
+    };
     // Only mode 3 has codes for levels above its largest.
     if level > mode.largest {
         return Err(Fault::Range);
@@ -101,6 +103,13 @@ pub(super) fn read_word(settings: u8, address: u16, count: usize, word: u64) -> 
         alarm1: word & ALARM_1 != 0,
         alarm0: word & ALARM_0 != 0,
     })
+}
+
+/// Fault 7 with the place of the first digit in no chart.
+#[cold]
+fn unreadable(mode: &Mode, word: u64) -> Fault {
+    let place = unreadable_place(mode, word).and_then(Fault::code);
+    place.expect("a level that is not read has a digit in no chart, and never the first")
 }
 
 /// Reads bits 40 to 55, lent as a word of 16 bits. Refusal: 9.

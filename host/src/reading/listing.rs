@@ -115,6 +115,10 @@ impl Lines<'_> {
             Err(fault) => {
                 self.word(b" fault ");
                 self.number(u32::from(fault.number()));
+                if fault.number() == 7 {
+                    self.word(b" ");
+                    self.number(u32::from(fault.place()));
+                }
                 self.word(b"\n");
             }
             Ok(reading) => {

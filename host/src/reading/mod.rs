@@ -100,12 +100,12 @@ impl Core for IndependentReading {
     fn hear(
         &self,
         rows: &mut [Row],
-        address: u16,
         minute: u32,
+        address: u16,
         count: usize,
         reply: &[u8],
     ) -> Answer<()> {
-        board::hear(rows, address, minute, count, reply)
+        board::hear(rows, minute, address, count, reply)
     }
 
     #[inline(never)]

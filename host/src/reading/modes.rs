@@ -107,6 +107,21 @@ pub fn level_number(mode: &Mode, word: u64) -> Option<u16> {
     Some(worth(&mode.head, head) + worth(&mode.pair, pair) + u16::from(last))
 }
 
+/// The place, from 0 at the top, of the first digit whose code is in no chart. Whether a code is in
+/// its chart does not depend on the digit above it, so each part is asked for its digits' own codes:
+/// the digit above may have been unreadable too.
+pub fn unreadable_place(mode: &Mode, word: u64) -> Option<u8> {
+    let mut place = 0;
+    for part in [&mode.head, &mode.pair, &mode.last] {
+        let code = (word >> part.shift) as u8 & part.mask;
+        if let Some(digit) = part.part.unreadable(code) {
+            return Some(place + digit);
+        }
+        place += 2;
+    }
+    None
+}
+
 /// The digits of a level in their places, or the invalid level.
 #[inline]
 pub fn level_word(mode: &Mode, level: u16) -> u64 {

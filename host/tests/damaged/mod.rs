@@ -18,6 +18,7 @@ pub enum Damage {
     // replies
     ChartEndByCode,
     RangeCalledCode,
+    LastUnreadableNamed,
     CodeBeforeFill,
     OneLevelWrong,
     ZeroWrittenNegative,
@@ -50,6 +51,8 @@ pub enum Damage {
     // boards
     ReadingClearedByFault,
     FaultKeptByGoodReply,
+    PlaceKeptBesideOtherFault,
+    PlaceNotInRow,
     RowPastThirtiethUsed,
     LastRowCounts,
     RemovalKeepsAddress,
@@ -86,11 +89,16 @@ fn decimal_by_code(reply: &[u8]) -> Answer<u16> {
     for shift in [41, 37, 33] {
         let code = (word >> shift) as u8 & 15;
         let found = DECIMAL.iter().position(|&known| known == code);
-        let digit = found.ok_or(Fault::Code)?;
+        let digit = found.ok_or(Fault::Code1)?;
         level = 10 * level + if above & 1 == 1 { 9 - digit } else { digit };
         above = code;
     }
     Ok(level as u16)
+}
+
+/// The place of an unreadable digit counted from the bottom of four.
+fn last_unreadable(fault: Fault) -> Fault {
+    Fault::code(5 - fault.place()).unwrap_or(fault)
 }
 
 /// A reply with other bits and its parity as it was.
@@ -144,14 +152,15 @@ impl Core for Damaged {
                 let level = decimal_by_code(reply)?;
                 Ok(Reading { level, ..reading })
             }
-            (RangeCalledCode, Err(Fault::Range)) => Err(Fault::Code),
+            (RangeCalledCode, Err(Fault::Range)) => Err(Fault::Code1),
+            (LastUnreadableNamed, Err(fault)) if fault.number() == 7 => Err(last_unreadable(fault)),
             (CodeBeforeFill, Err(Fault::Fill)) => {
                 let cleared = with_bits(reply, |bytes| {
                     bytes[3] &= !1;
                     bytes[4] &= 7;
                 });
                 match RIGHT.read_reply(settings, address, count, &cleared) {
-                    Err(Fault::Code) => Err(Fault::Code),
+                    Err(fault) if fault.number() == 7 => Err(fault),
                     _ => right,
                 }
             }
@@ -194,7 +203,7 @@ impl Core for Damaged {
                 let digits = u16::from_be_bytes([reply[0], reply[1]]) >> 1 & 0xFFF;
                 let value = (digits >> 8) * 100 + (digits >> 4 & 15) * 10 + (digits & 15);
                 if value == address {
-                    Err(Fault::Code)
+                    Err(Fault::Code1)
                 } else {
                     right
                 }
@@ -350,8 +359,8 @@ impl Core for Damaged {
     fn hear(
         &self,
         rows: &mut [Row],
-        address: u16,
         minute: u32,
+        address: u16,
         count: usize,
         reply: &[u8],
     ) -> Answer<()> {
@@ -359,22 +368,28 @@ impl Core for Damaged {
         if self.0 == LastRowCounts {
             let rows = &mut rows[..before.len().min(30)];
             rows.reverse();
-            let answer = board::hear(rows, address, minute, count, reply);
+            let answer = board::hear(rows, minute, address, count, reply);
             rows.reverse();
             return answer;
         }
-        let answer = board::hear(rows, address, minute, count, reply);
+        let answer = board::hear(rows, minute, address, count, reply);
         let mine = rows
             .iter()
             .position(|row| row.in_use && row.address == address);
         match (self.0, answer, mine) {
             (ReadingClearedByFault, Err(Fault::Parity), Some(mine)) => rows[mine].last = None,
             (FaultKeptByGoodReply, Ok(()), Some(mine)) => rows[mine].fault = before[mine].fault,
+            (PlaceKeptBesideOtherFault, Err(Fault::Parity), Some(mine)) => {
+                rows[mine].place = before[mine].place;
+            }
+            (PlaceNotInRow, Err(fault), Some(mine)) if fault.number() == 7 => {
+                rows[mine].place = 0;
+            }
             (UnknownBeforeForm, Err(Fault::Form), None) => return Err(Fault::Unknown),
             (SettingsOfRowNotAsked, Err(Fault::Settings), Some(mine)) => {
                 let settings = rows[mine].settings;
                 rows[mine].settings &= 15;
-                let answer = board::hear(rows, address, minute, count, reply);
+                let answer = board::hear(rows, minute, address, count, reply);
                 rows[mine].settings = settings;
                 return answer;
             }

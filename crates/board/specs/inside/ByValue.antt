@@ -6,8 +6,9 @@ use Prim.Native.Nat.{ℕ, _<_, _≤_}
 use lib.Dec.{ltb}
 use lib.ListN.{length, take, set}
 use Rattle.frame.specs.declared.Reply.{Reply}
-use Rattle.frame.specs.declared.Reply.the-variants.{Read, Refused}
+use Rattle.frame.specs.declared.Reply.the-variants.{Read, Refused, Unreadable}
 use Rattle.frame.specs.Pick.{pick}
+use Rattle.board.specs.declared.Heard.{Heard}
 use Rattle.board.specs.declared.Looked.{Looked}
 use Rattle.board.specs.declared.Row.{Row}
 use Rattle.board.specs.declared.value.Board.{Board}
@@ -15,7 +16,7 @@ use Rattle.board.specs.declared.value.Change.{Change}
 use Rattle.board.specs.declared.value.Found.{Found}
 use Rattle.board.specs.Row.{isFree, freeRow, withReading, withFault, setsFault}
 use Rattle.board.specs.Rows.{boardOf, placeOf, rowOf, placeFree}
-use Rattle.board.specs.Calls.{enrolNumber, enrolRows, hearNumber, hearRows, findNumber, removeRows, lookedAt}
+use Rattle.board.specs.Calls.{enrolNumber, enrolRows, hearNumber, hearPlace, hearRows, heardAs, findNumber, removeRows, lookedAt}
 
 -- The rows that a board by value holds.
 abbrev pub rowsOf : Board → List Row
@@ -51,14 +52,23 @@ pub record Changes (board : List Row) (number : ℕ) (after : List Row) (c : Cha
   pub answers : c .number ≡ number
   pub leaves : putIn (length board) (c .at) (c .row) board ≡ after
 
+-- A change of the row at a place, with the number that is answered and the place that it names.
+abbrev pub changeOf : ℕ → Row → ℕ → ℕ → Change
+changeOf at row number place = record { at = at; row = row; number = number; place = place }
+
 -- A change of no row: place 30 is on no board.
 abbrev pub refusal : ℕ → Change
-refusal number = record { at = 30; row = freeRow; number = number }
+refusal number = changeOf 30 freeRow number 0
 
 -- The change that a reply makes of the row at a place.
 abbrev pub heardChange : ℕ → Row → ℕ → Reply → Change
-heardChange at row minute (Read r) = record { at = at; row = withReading row r minute; number = 0 }
-heardChange at row minute (Refused n) = pick (setsFault n) (record { at = at; row = withFault row n; number = n }) (refusal n)
+heardChange at row minute (Read r) = changeOf at (withReading row r minute) 0 0
+heardChange at row minute (Refused n) = pick (setsFault n) (changeOf at (withFault row n 0) n 0) (refusal n)
+heardChange at row minute (Unreadable p) = changeOf at (withFault row 7 p) 7 p
+
+-- What hearing answers of a change.
+abbrev pub saidOf : Change → Heard
+saidOf c = heardAs (c .number) (c .place)
 
 -- The change is the call's on every board of at most 30 rows on which a search for the address finds f.
 pub record ChangesOn (f : Found) (address : ℕ) (number : List Row → ℕ) (after : List Row → List Row) (c : Change) : Type 0 where
@@ -68,9 +78,10 @@ abbrev pub EnrolsOn : Found → ℕ → ℕ → Change → Type 0
 EnrolsOn f settings address =
     ChangesOn f address (λ board. enrolNumber board settings address) (λ board. enrolRows board settings address)
 
-abbrev pub HearsOn : Found → (address minute count : ℕ) (reply : List ℕ) → Change → Type 0
-HearsOn f address minute count reply =
-    ChangesOn f address (λ board. hearNumber board address count reply) (λ board. hearRows board address minute count reply)
+-- Of a hearing the change names the place too.
+pub record HearsOn (f : Found) (minute address count : ℕ) (reply : List ℕ) (c : Change) : Type 0 where
+  pub changes : ChangesOn f address (λ board. hearNumber board address count reply) (λ board. hearRows board minute address count reply) c
+  pub names : (board : List Row) → length board ≤ 30 → Finds board address f → c .place ≡ hearPlace board address count reply
 
 abbrev pub RemovesOn : Found → ℕ → Change → Type 0
 RemovesOn f address = ChangesOn f address (λ board. findNumber board address) (λ board. removeRows board address)

@@ -8,11 +8,11 @@ use lib.ListN.{drop}
 use Rattle.frame.specs.declared.heat.Told.{Told}
 use Rattle.frame.specs.declared.heat.Told.the-variants.{Is, Bad}
 use Rattle.frame.specs.declared.Reply.{Reply}
-use Rattle.frame.specs.declared.Reply.the-variants.{Read, Refused}
+use Rattle.frame.specs.declared.Reply.the-variants.{Read, Refused, Unreadable}
 use Rattle.frame.specs.Pick.{pick}
 use Rattle.frame.specs.Line.{line, bit}
 use Rattle.frame.specs.Faults.{firstOf}
-use Rattle.frame.specs.Reply.{replyTests, heatIn, readingAt}
+use Rattle.frame.specs.Reply.{modeIn, replyTests, heatIn, readingAt, refusedBy}
 use Rattle.frame.specs.Charts.{Chart, oneBit, twoBits, feetTens, decimal, inches, sixteenths, placeIn, sizeOf, isOdd, turned, codeOf}
 use Rattle.frame.specs.Temperature.{Heat, told, bad, isBad, temperatureOf}
 use Rattle.frame.specs.Level.{Level, known, lost, Mode, levelOf, fillClear, readRow}
@@ -101,7 +101,11 @@ lineFault settings address count s = firstOf (drop 5 (replyTests settings addres
 unfoldable pub lineReply : ℕ → ℕ → ℕ → List ℕ → Reply
 lineReply settings address count s =
     pick (eqb (lineFault settings address count s) 0) (Read (readingAt settings count (line s)))
-    (Refused (lineFault settings address count s))
+    (refusedBy (levelOf (modeIn settings) (line s)) (lineFault settings address count s))
+
+-- The refusal that the number of a level stands for, where it is 2 ^ 16 or more.
+abbrev pub levelReply : ℕ → Reply
+levelReply code = pick (eqb (code / 2 ^ 16) 7) (Unreadable (code % 2 ^ 16)) (Refused (code / 2 ^ 16))
 
 -- And once its level is read too: fault 9, or the reading.
 unfoldable pub heatReply : ℕ → ℕ → ℕ → ℕ → Reply

@@ -9,15 +9,17 @@ use lib.Dec.{eqb}
 use lib.ListN.{set, drop}
 use borrow.Author.Tests.{lt-ltb, le-ltb, eqb-true}
 use Rattle.frame.specs.declared.Reading.{Reading}
-use Rattle.frame.specs.declared.Reply.the-variants.{Read, Refused}
+use Rattle.frame.specs.declared.Reply.the-variants.{Read, Refused, Unreadable}
 use Rattle.frame.specs.Faults.{Test, firstOf}
 use Rattle.frame.specs.Line.{line, formed}
 use Rattle.frame.specs.Pick.{pick}
-use Rattle.frame.specs.Reply.{ReadsReply, replyTests, replyFault, replyOf, readingAt}
+use Rattle.frame.specs.Level.{Level, levelOf, placeLost}
+use Rattle.frame.specs.declared.Reply.{Reply}
+use Rattle.frame.specs.Reply.{ReadsReply, modeIn, replyTests, replyFault, refusedBy, replyOf, readingAt}
 use Rattle.board.specs.declared.Row.{Row}
 use Rattle.board.specs.Row.{freeRow, newRow, withReading, withFault, setsFault}
 use Rattle.board.specs.Rows.{placeOf, placeFree, rowOf}
-use Rattle.board.specs.Calls.{enrolNumber, enrolRows, hearNumber, hearRows, findNumber, removeRows, lookedAt, told, refusedLook}
+use Rattle.board.specs.Calls.{enrolNumber, enrolRows, hearNumber, hearPlace, hearRows, findNumber, removeRows, lookedAt, told, refusedLook}
 
 module _ (board : List Row) (settings address : ℕ) where
   pub enrol-keeps : eqb (enrolNumber board settings address) 0 ≡ false → enrolRows board settings address ≡ board
@@ -45,7 +47,7 @@ module _ (board : List Row) (address : ℕ) where
   unfolding lookedAt
   look-told e = ap (λ (m : ℕ). pick (eqb m 0) (told (rowOf address board)) (refusedLook m)) e
 
-module _ (board : List Row) (address minute count : ℕ) (reply : List ℕ) where
+module _ (board : List Row) (minute address count : ℕ) (reply : List ℕ) where
   abbrev number : ℕ
   number = hearNumber board address count reply
 
@@ -56,17 +58,26 @@ module _ (board : List Row) (address minute count : ℕ) (reply : List ℕ) wher
   good-rows = set board (placeOf address board) (withReading row (readingAt (row .settings) count (line reply)) minute)
 
   abbrev fault-rows : ℕ → List Row
-  fault-rows n = set board (placeOf address board) (withFault row n)
+  fault-rows n = set board (placeOf address board) (withFault row n (hearPlace board address count reply))
 
-  pub hear-keeps : eqb number 0 ≡ false → setsFault number ≡ false → hearRows board address minute count reply ≡ board
+  pub hear-keeps : eqb number 0 ≡ false → setsFault number ≡ false → hearRows board minute address count reply ≡ board
   unfolding hearRows
   hear-keeps e f = ap (λ (t : Bool). pick t good-rows (pick (setsFault number) (fault-rows number) board)) e ∙ ap (λ (t : Bool). pick t (fault-rows number) board) f
 
-  pub hear-faults : eqb number 0 ≡ false → setsFault number ≡ true → hearRows board address minute count reply ≡ fault-rows number
+  pub hear-faults : eqb number 0 ≡ false → setsFault number ≡ true → hearRows board minute address count reply ≡ fault-rows number
   unfolding hearRows
   hear-faults e f = ap (λ (t : Bool). pick t good-rows (pick (setsFault number) (fault-rows number) board)) e ∙ ap (λ (t : Bool). pick t (fault-rows number) board) f
 
-  pub hear-sets : number ≡ 0 → hearRows board address minute count reply ≡ good-rows
+  -- the place that is answered: none beside another number than 7
+  pub no-place : eqb number 7 ≡ false → hearPlace board address count reply ≡ 0
+  unfolding hearPlace
+  no-place e = ap (λ (t : Bool). pick t (placeLost (levelOf (modeIn (row .settings)) (line reply))) 0) e
+
+  pub its-place : number ≡ 7 → hearPlace board address count reply ≡ placeLost (levelOf (modeIn (row .settings)) (line reply))
+  unfolding hearPlace
+  its-place e = ap (λ (n : ℕ). pick (eqb n 7) (placeLost (levelOf (modeIn (row .settings)) (line reply))) 0) e
+
+  pub hear-sets : number ≡ 0 → hearRows board minute address count reply ≡ good-rows
   unfolding hearRows
   hear-sets e = ap (λ (n : ℕ). pick (eqb n 0) good-rows (pick (setsFault n) (fault-rows n) board)) e
 
@@ -86,29 +97,52 @@ first-small (t ∷ ts) h = by (t .applies) (first-small ts (h .1))
 
 -- What the frame answers: a reading and number 0, or a number that is not 0.
 module _ (settings address count : ℕ) (reply : List ℕ) where
-  refused-by : (t : Bool) (f n : ℕ) (r : Reading) → Refused f ≡ pick t (Read r) (Refused n) → (t ≡ false) × (n ≡ f)
-  refused-by true f n r e = let z : _≡_ {A = ℕ} 0 1 = cc in absurd (omega arith)
-  refused-by false f n r e = (refl, cc)
+  abbrev level : Level
+  level = levelOf (modeIn settings) (line reply)
 
-  read-by : (t : Bool) (n : ℕ) (r got : Reading) → Read got ≡ pick t (Read r) (Refused n) → (t ≡ true) × (got ≡ r)
-  read-by true n r got e = (refl, cc)
-  read-by false n r got e = let z : _≡_ {A = ℕ} 0 1 = cc in absurd (omega arith)
+  -- an answer, by whether there is a fault and whether it is 7
+  abbrev by : Bool → Bool → Reading → ℕ → Reply
+  by t s r n = pick t (Read r) (pick s (Unreadable (placeLost level)) (Refused n))
 
-  pub refused-is : (f : ℕ) → ReadsReply settings address count reply (Refused f) → (replyFault settings address count reply ≡ f) × (eqb f 0 ≡ false)
+  refused-by : (t s : Bool) (f n : ℕ) (r : Reading) → Refused f ≡ by t s r n → (t ≡ false) × (s ≡ false) × (n ≡ f)
+  refused-by true s f n r e = let z : _≡_ {A = ℕ} 0 1 = cc in absurd (omega arith)
+  refused-by false true f n r e = let z : _≡_ {A = ℕ} 0 1 = cc in absurd (omega arith)
+  refused-by false false f n r e = (refl, refl, cc)
+
+  lost-by : (t s : Bool) (p n : ℕ) (r : Reading) → Unreadable p ≡ by t s r n → (s ≡ true) × (p ≡ placeLost level)
+  lost-by true s p n r e = let z : _≡_ {A = ℕ} 0 1 = cc in absurd (omega arith)
+  lost-by false true p n r e = (refl, cc)
+  lost-by false false p n r e = let z : _≡_ {A = ℕ} 0 1 = cc in absurd (omega arith)
+
+  read-by : (t s : Bool) (n : ℕ) (r got : Reading) → Read got ≡ by t s r n → (t ≡ true) × (got ≡ r)
+  read-by true s n r got e = (refl, cc)
+  read-by false true n r got e = let z : _≡_ {A = ℕ} 0 1 = cc in absurd (omega arith)
+  read-by false false n r got e = let z : _≡_ {A = ℕ} 0 1 = cc in absurd (omega arith)
+
+  abbrev fault : ℕ
+  fault = replyFault settings address count reply
+
+  pub refused-is : (f : ℕ) → ReadsReply settings address count reply (Refused f) → (replyFault settings address count reply ≡ f) × (eqb f 0 ≡ false) × (eqb f 7 ≡ false)
   unfolding replyOf
   refused-is f e =
-      let p = refused-by (eqb (replyFault settings address count reply) 0) f (replyFault settings address count reply) (readingAt settings count (line reply)) (e .answers) in
-      (p .1, ap (λ (n : ℕ). eqb n 0) (sym (p .1)) ∙ p .0)
+      let p = refused-by (eqb fault 0) (eqb fault 7) f fault (readingAt settings count (line reply)) (e .answers) in
+      (p .2, ap (λ (n : ℕ). eqb n 0) (sym (p .2)) ∙ p .0, ap (λ (n : ℕ). eqb n 7) (sym (p .2)) ∙ p .1)
+
+  pub lost-is : (place : ℕ) → ReadsReply settings address count reply (Unreadable place) → (replyFault settings address count reply ≡ 7) × (place ≡ placeLost (levelOf (modeIn settings) (line reply)))
+  unfolding replyOf
+  lost-is place e =
+      let p = lost-by (eqb fault 0) (eqb fault 7) place fault (readingAt settings count (line reply)) (e .answers) in
+      (eqb-true fault 7 (p .0), p .1)
 
   pub read-is : (r : Reading) → ReadsReply settings address count reply (Read r) → (replyFault settings address count reply ≡ 0) × (r ≡ readingAt settings count (line reply))
   unfolding replyOf
   read-is r e =
-      let p = read-by (eqb (replyFault settings address count reply) 0) (replyFault settings address count reply) (readingAt settings count (line reply)) r (e .answers) in
+      let p = read-by (eqb fault 0) (eqb fault 7) fault (readingAt settings count (line reply)) r (e .answers) in
       (eqb-true (replyFault settings address count reply) 0 (p .0), p .1)
 
   pub reads : replyFault settings address count reply ≡ 0 → ReadsReply settings address count reply (Read (readingAt settings count (line reply)))
   unfolding replyOf
-  reads e = record { answers = sym (ap (λ (n : ℕ). pick (eqb n 0) (Read (readingAt settings count (line reply))) (Refused n)) e) }
+  reads e = record { answers = sym (ap (λ (n : ℕ). pick (eqb n 0) (Read (readingAt settings count (line reply))) (refusedBy level n)) e) }
 
   -- settings above 15 are refused by 10; else, of an address up to 999 and a reply in the right form, the number is at most 9
   pub settings-10 : 15 < settings → replyFault settings address count reply ≡ 10

@@ -9,26 +9,28 @@ use lib.Dec.{eqb}
 use lib.ListN.{length, set}
 use borrow.Author.Tests.{eqb-false}
 use Rattle.frame.specs.declared.Reading.{Reading}
-use Rattle.frame.specs.declared.Reply.the-variants.{Read, Refused}
+use Rattle.frame.specs.declared.Reply.the-variants.{Read, Refused, Unreadable}
 use Rattle.frame.specs.Line.{line, formed}
-use Rattle.frame.specs.Reply.{ReadsReply, replyFault, readingAt}
+use Rattle.frame.specs.Level.{levelOf, placeLost}
+use Rattle.frame.specs.Reply.{ReadsReply, modeIn, replyFault, readingAt}
+use Rattle.board.specs.declared.Heard.{Heard}
 use Rattle.board.specs.declared.Looked.{Looked}
 use Rattle.board.specs.declared.Row.{Row}
 use Rattle.board.specs.Row.{freeRow, newRow, withReading, withFault, setsFault}
 use Rattle.board.specs.Rows.{boardOf, beyond, placeOf, placeFree, rowOf}
-use Rattle.board.specs.Calls.{Enrols, Hears, Removes, LooksUp, enrolNumber, hearNumber, findNumber, told}
-use Rattle.board.proofs.Faults.{sets-by, not-10, not-11, not-14, not-17}
+use Rattle.board.specs.Calls.{Enrols, Hears, Removes, LooksUp, heardAs, enrolNumber, hearNumber, hearPlace, findNumber, told}
+use Rattle.board.proofs.Faults.{sets-by, sets-7, not-10, not-11, not-14, not-17}
 use Rattle.board.proofs.Numbers.{enrol-10, enrol-11, enrol-18, enrol-19, enrol-0, hear-11, hear-14, hear-17, hear-read, find-11, find-17, find-0}
 use Rattle.promises.specs.board.Calls.{rowAt, IsRowOf, IsFirstFree, OnlyRow, EnrolPromise, HearPromise, RemovePromise, LookPromise, BoardCalls, BoardOneOutcome}
 use Rattle.promises.proofs.board.Places.{row-place, row-on, row-is, unknown-off, free-place, free-on, none-free, only-row, unchanged}
-use Rattle.promises.proofs.board.After.{enrol-keeps, enrol-sets, remove-keeps, remove-sets, look-refused, look-told, hear-keeps, hear-faults, hear-sets, refused-is, read-is, settings-10, at-most-9}
+use Rattle.promises.proofs.board.After.{enrol-keeps, enrol-sets, remove-keeps, remove-sets, look-refused, look-told, hear-keeps, hear-faults, hear-sets, no-place, its-place, refused-is, lost-is, read-is, settings-10, at-most-9}
 use Rattle.promises.proofs.board.Told.{tells}
 
 pub board-one-outcome : BoardOneOutcome
 board-one-outcome =
     record {
       enrol = λ rows settings address a b after later p q. (p .answers ∙ sym (q .answers), p .leaves ∙ sym (q .leaves));
-      hear = λ rows address minute count reply a b after later p q. (p .answers ∙ sym (q .answers), p .leaves ∙ sym (q .leaves));
+      hear = λ rows minute address count reply a b after later p q. (p .answers ∙ sym (q .answers), p .leaves ∙ sym (q .leaves));
       remove = λ rows address a b after later p q. (p .answers ∙ sym (q .answers), p .leaves ∙ sym (q .leaves));
       look-up = λ rows address a b p q. p .answers ∙ sym (q .answers);
     }
@@ -80,54 +82,75 @@ module _ (rows : List Row) (address : ℕ) (answer : Looked) (e : LooksUp rows a
         found = λ a i p. tells (rowAt rows i) answer (e .answers ∙ look-told (boardOf rows) address (find-0 (boardOf rows) address a (row-on rows address i p)) ∙ ap told (row-is rows address i p));
       }
 
-module _ (rows : List Row) (address minute count : ℕ) (reply : List ℕ) (answer : ℕ) (after : List Row) (e : Hears rows address minute count reply answer after) where
-  abbrev number : ℕ
-  number = hearNumber (boardOf rows) address count reply
+module _ (rows : List Row) (minute address count : ℕ) (reply : List ℕ) (answer : Heard) (after : List Row) (e : Hears rows minute address count reply answer after) where
+  abbrev board : List Row
+  board = boardOf rows
 
-  hear-refused : (n : ℕ) → eqb n 0 ≡ false → setsFault n ≡ false → number ≡ n → (answer ≡ n) × (after ≡ rows)
-  hear-refused n z l is =
-      (e .answers ∙ is, unchanged rows after (e .leaves ∙ ap (λ (b : List Row). b ++ beyond rows) (hear-keeps (boardOf rows) address minute count reply (ap (λ (m : ℕ). eqb m 0) is ∙ z) (ap (λ (m : ℕ). setsFault m) is ∙ l))))
+  abbrev number : ℕ
+  number = hearNumber board address count reply
+
+  -- what is answered, by the number and the place
+  said : (n p : ℕ) → number ≡ n → hearPlace board address count reply ≡ p → answer ≡ heardAs n p
+  said n p is named = e .answers ∙ ap (λ (m : ℕ). heardAs m (hearPlace board address count reply)) is ∙ ap (heardAs n) named
+
+  plain : (n : ℕ) → eqb n 7 ≡ false → number ≡ n → answer ≡ heardAs n 0
+  plain n v is = said n 0 is (no-place board minute address count reply (ap (λ (m : ℕ). eqb m 7) is ∙ v))
+
+  hear-refused : (n : ℕ) → eqb n 0 ≡ false → eqb n 7 ≡ false → setsFault n ≡ false → number ≡ n → (answer ≡ heardAs n 0) × (after ≡ rows)
+  hear-refused n z v l is =
+      (plain n v is, unchanged rows after (e .leaves ∙ ap (λ (b : List Row). b ++ beyond rows) (hear-keeps (boardOf rows) minute address count reply (ap (λ (m : ℕ). eqb m 0) is ∙ z) (ap (λ (m : ℕ). setsFault m) is ∙ l))))
 
   -- the number is the frame's, by the settings of the row
   by-frame : address ≤ 999 → formed count reply ≡ true → (i : ℕ) → IsRowOf rows address i → number ≡ replyFault (rowAt rows i .settings) address count reply
   by-frame a f i p = hear-read (boardOf rows) address count reply a f (row-on rows address i p) ∙ ap (λ (r : Row). replyFault (r .settings) address count reply) (row-is rows address i p)
 
+  -- a fault that is set, with the place that is answered
+  fault-set : (i : ℕ) → IsRowOf rows address i → (n p : ℕ) → number ≡ n → hearPlace board address count reply ≡ p → eqb n 0 ≡ false → setsFault n ≡ true → OnlyRow rows i (withFault (rowAt rows i) n p) after
+  fault-set i w n p is named z f =
+      placed rows after (placeOf address (boardOf rows)) i (withFault (rowOf address (boardOf rows)) number (hearPlace board address count reply)) (withFault (rowAt rows i) n p) (sym (row-place rows address i w))
+      (ap (λ (r : Row). withFault r number (hearPlace board address count reply)) (row-is rows address i w) ∙ ap (λ (m : ℕ). withFault (rowAt rows i) m (hearPlace board address count reply)) is ∙ ap (withFault (rowAt rows i) n) named) (row-on rows address i w)
+      (e .leaves ∙ ap (λ (b : List Row). b ++ beyond rows) (hear-faults (boardOf rows) minute address count reply (ap (λ (m : ℕ). eqb m 0) is ∙ z) (ap (λ (m : ℕ). setsFault m) is ∙ f)))
+
   hear-faulty : address ≤ 999 → formed count reply ≡ true → (i : ℕ) → IsRowOf rows address i → rowAt rows i .settings ≤ 15 → (fault : ℕ) → ReadsReply (rowAt rows i .settings) address count reply (Refused fault)
-      → (answer ≡ fault) × (1 ≤ fault) × (fault ≤ 9) × OnlyRow rows i (withFault (rowAt rows i) fault) after
+      → (answer ≡ heardAs fault 0) × (1 ≤ fault) × (fault ≤ 9) × OnlyRow rows i (withFault (rowAt rows i) fault 0) after
   hear-faulty a f i p s fault read =
       let is = refused-is (rowAt rows i .settings) address count reply fault read in
       let same : number ≡ fault = by-frame a f i p ∙ is .0 in
       let most : fault ≤ 9 = subst (λ (n : ℕ). n ≤ 9) (is .0) (at-most-9 (rowAt rows i .settings) address count reply s a f) in
-      let some : 1 ≤ fault = positive fault (is .1) in (
-        e .answers ∙ same,
-        some,
-        most,
-        placed rows after (placeOf address (boardOf rows)) i (withFault (rowOf address (boardOf rows)) number) (withFault (rowAt rows i) fault) (sym (row-place rows address i p))
-            (ap (λ (r : Row). withFault r number) (row-is rows address i p) ∙ ap (λ (n : ℕ). withFault (rowAt rows i) n) same) (row-on rows address i p)
-            (e .leaves ∙ ap (λ (b : List Row). b ++ beyond rows) (hear-faults (boardOf rows) address minute count reply (ap (λ (m : ℕ). eqb m 0) same ∙ is .1) (ap (λ (m : ℕ). setsFault m) same ∙ sets-by fault some most))),
-      )
+      let some : 1 ≤ fault = positive fault (is .1) in
+      (plain fault (is .2) same, some, most, fault-set i p fault 0 same (no-place board minute address count reply (ap (λ (m : ℕ). eqb m 7) same ∙ is .2)) (is .1) (sets-by fault some most))
     where
       positive : (n : ℕ) → eqb n 0 ≡ false → 1 ≤ n
       positive n z = let ne : n ≡ 0 → ⊥ = eqb-false n 0 z in omega arith
 
-  hear-heard : address ≤ 999 → formed count reply ≡ true → (i : ℕ) → IsRowOf rows address i → (r : Reading) → ReadsReply (rowAt rows i .settings) address count reply (Read r) → (answer ≡ 0) × OnlyRow rows i (withReading (rowAt rows i) r minute) after
+  hear-unreadable : address ≤ 999 → formed count reply ≡ true → (i : ℕ) → IsRowOf rows address i → (place : ℕ) → ReadsReply (rowAt rows i .settings) address count reply (Unreadable place)
+      → (answer ≡ heardAs 7 place) × OnlyRow rows i (withFault (rowAt rows i) 7 place) after
+  hear-unreadable a f i p place read =
+      let is = lost-is (rowAt rows i .settings) address count reply place read in
+      let same : number ≡ 7 = by-frame a f i p ∙ is .0 in
+      let named : hearPlace board address count reply ≡ place
+      = its-place board minute address count reply same ∙ ap (λ (r : Row). placeLost (levelOf (modeIn (r .settings)) (line reply))) (row-is rows address i p) ∙ sym (is .1) in
+      (said 7 place same named, fault-set i p 7 place same named refl sets-7)
+
+  hear-heard : address ≤ 999 → formed count reply ≡ true → (i : ℕ) → IsRowOf rows address i → (r : Reading) → ReadsReply (rowAt rows i .settings) address count reply (Read r) → (answer ≡ heardAs 0 0) × OnlyRow rows i (withReading (rowAt rows i) r minute) after
   hear-heard a f i p r read =
       let is = read-is (rowAt rows i .settings) address count reply r read in
       let zero : number ≡ 0 = by-frame a f i p ∙ is .0 in (
-        e .answers ∙ zero,
+        plain 0 refl zero,
         placed rows after (placeOf address (boardOf rows)) i (withReading (rowOf address (boardOf rows)) (readingAt (rowOf address (boardOf rows) .settings) count (line reply)) minute) (withReading (rowAt rows i) r minute) (sym (row-place rows address i p))
             (ap (λ (x : Row). withReading x (readingAt (x .settings) count (line reply)) minute) (row-is rows address i p) ∙ ap (λ (x : Reading). withReading (rowAt rows i) x minute) (sym (is .1))) (row-on rows address i p)
-            (e .leaves ∙ ap (λ (b : List Row). b ++ beyond rows) (hear-sets (boardOf rows) address minute count reply zero)),
+            (e .leaves ∙ ap (λ (b : List Row). b ++ beyond rows) (hear-sets (boardOf rows) minute address count reply zero)),
       )
 
-  hear-promise : HearPromise rows address minute count reply answer after
+  hear-promise : HearPromise rows minute address count reply answer after
   hear-promise =
       record {
-        bad-address = λ a. hear-refused 11 refl not-11 (hear-11 (boardOf rows) address count reply a);
-        bad-form = λ a f. hear-refused 14 refl not-14 (hear-14 (boardOf rows) address count reply a f);
-        unknown = λ a f u. hear-refused 17 refl not-17 (hear-17 (boardOf rows) address count reply a f (unknown-off rows address u));
-        bad-settings = λ a f i p s. hear-refused 10 refl not-10 (by-frame a f i p ∙ settings-10 (rowAt rows i .settings) address count reply s);
+        bad-address = λ a. hear-refused 11 refl refl not-11 (hear-11 (boardOf rows) address count reply a);
+        bad-form = λ a f. hear-refused 14 refl refl not-14 (hear-14 (boardOf rows) address count reply a f);
+        unknown = λ a f u. hear-refused 17 refl refl not-17 (hear-17 (boardOf rows) address count reply a f (unknown-off rows address u));
+        bad-settings = λ a f i p s. hear-refused 10 refl refl not-10 (by-frame a f i p ∙ settings-10 (rowAt rows i .settings) address count reply s);
         faulty = hear-faulty;
+        unreadable = hear-unreadable;
         heard = hear-heard;
       }
 

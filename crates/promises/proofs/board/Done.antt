@@ -10,16 +10,17 @@ use lib.Seq.{getD-set-same, getD-set-other}
 use borrow.Author.Tests.{eqb-true, eqb-false}
 use Rattle.frame.specs.Line.{line, formed}
 use Rattle.frame.specs.Reply.{replyFault, readingAt}
+use Rattle.board.specs.declared.Heard.{Heard}
 use Rattle.board.specs.declared.Row.{Row}
 use Rattle.board.specs.Row.{isFree, freeRow, newRow, withReading, withFault, setsFault}
 use Rattle.board.specs.Rows.{boardOf, beyond, holds, placeOf, placeFree, rowOf}
-use Rattle.board.specs.Calls.{Enrols, Hears, Removes, enrolNumber, hearNumber, findNumber}
+use Rattle.board.specs.Calls.{Enrols, Hears, Removes, enrolNumber, hearNumber, hearPlace, findNumber}
 use Rattle.board.proofs.Faults.{not-11, not-14, not-17}
 use Rattle.board.proofs.Numbers.{enrol-10, enrol-11, enrol-18, enrol-19, hear-11, hear-14, hear-17, hear-read, find-11, find-17}
 use Rattle.promises.specs.board.Calls.{rowAt, OnBoard, IsRowOf, Unknown, IsFirstFree, NoFree, at-row, unknown, at-free, none-free, BoardCases, OnlyRow}
 use Rattle.promises.proofs.board.Places.{board-on, on-board, same-row, is-holds, place-row, at-place, before-place, set-rows, unchanged}
 use Rattle.promises.proofs.Cases.{by-lt}
-use Rattle.promises.proofs.board.After.{enrol-keeps, enrol-sets, remove-keeps, remove-sets, hear-keeps, hear-faults, hear-sets}
+use Rattle.promises.proofs.board.After.{enrol-keeps, enrol-sets, remove-keeps, remove-sets, hear-keeps, hear-faults, hear-sets, no-place}
 
 -- One row is set: what it was set to, and where.
 pub set-only : (rows after : List Row) (i : ℕ) (row : Row) → OnBoard rows i → after ≡ set rows i row → OnlyRow rows i row after
@@ -113,19 +114,30 @@ remove-done rows address answer after e = go (eqb (findNumber (boardOf rows) add
         gave (e .answers ∙ z) (found-on rows address z .0) (place-row rows address l) (e .leaves ∙ ap (λ (b : List Row). b ++ beyond rows) (remove-sets (boardOf rows) address z) ∙ set-rows rows (placeOf address (boardOf rows)) freeRow l)
     go false t = not-removed (ap (λ (n : ℕ). eqb n 0) (e .answers) ∙ t) (unchanged rows after (e .leaves ∙ ap (λ (b : List Row). b ++ beyond rows) (remove-keeps (boardOf rows) address t)))
 
--- A hearing: nothing has changed, or the row of the address has its fault set, or its reading.
-pub data Heard (rows : List Row) (address minute count : ℕ) (reply : List ℕ) (answer : ℕ) (after : List Row) : Type 0 where
-  not-heard : eqb answer 0 ≡ false → setsFault answer ≡ false → after ≡ rows → Heard rows address minute count reply answer after
-  faulty : setsFault answer ≡ true → address ≤ 999 → IsRowOf rows address (placeOf address (boardOf rows)) → after ≡ set rows (placeOf address (boardOf rows)) (withFault (rowAt rows (placeOf address (boardOf rows))) answer) → Heard rows address minute count reply answer after
-  good : answer ≡ 0 → address ≤ 999 → IsRowOf rows address (placeOf address (boardOf rows)) → replyFault (rowAt rows (placeOf address (boardOf rows)) .settings) address count reply ≡ 0
-      → after ≡ set rows (placeOf address (boardOf rows)) (withReading (rowAt rows (placeOf address (boardOf rows))) (readingAt (rowAt rows (placeOf address (boardOf rows)) .settings) count (line reply)) minute) → Heard rows address minute count reply answer after
+-- A hearing: nothing has changed, or the row of the address has its fault set, or its reading. The answer names no place but beside 7.
+pub data HearDone (rows : List Row) (minute address count : ℕ) (reply : List ℕ) (answer : Heard) (after : List Row) : Type 0 where
+  not-heard : eqb (answer .number) 0 ≡ false → setsFault (answer .number) ≡ false → after ≡ rows → HearDone rows minute address count reply answer after
+  faulty : setsFault (answer .number) ≡ true → address ≤ 999 → IsRowOf rows address (placeOf address (boardOf rows))
+      → after ≡ set rows (placeOf address (boardOf rows)) (withFault (rowAt rows (placeOf address (boardOf rows))) (answer .number) (answer .place))
+      → (eqb (answer .number) 7 ≡ false → answer .place ≡ 0) → HearDone rows minute address count reply answer after
+  good : answer .number ≡ 0 → address ≤ 999 → IsRowOf rows address (placeOf address (boardOf rows)) → replyFault (rowAt rows (placeOf address (boardOf rows)) .settings) address count reply ≡ 0
+      → after ≡ set rows (placeOf address (boardOf rows)) (withReading (rowAt rows (placeOf address (boardOf rows))) (readingAt (rowAt rows (placeOf address (boardOf rows)) .settings) count (line reply)) minute) → HearDone rows minute address count reply answer after
 
-module _ (rows : List Row) (address minute count : ℕ) (reply : List ℕ) (answer : ℕ) (after : List Row) (e : Hears rows address minute count reply answer after) where
+module _ (rows : List Row) (minute address count : ℕ) (reply : List ℕ) (answer : Heard) (after : List Row) (e : Hears rows minute address count reply answer after) where
   abbrev number : ℕ
   number = hearNumber (boardOf rows) address count reply
 
+  abbrev named : ℕ
+  named = hearPlace (boardOf rows) address count reply
+
   abbrev place : ℕ
   place = placeOf address (boardOf rows)
+
+  number-said : answer .number ≡ number
+  number-said = ap (λ (h : Heard). h .number) (e .answers)
+
+  place-said : answer .place ≡ named
+  place-said = ap (λ (h : Heard). h .place) (e .answers)
 
   -- a number that reaches the row: none, or a fault that is set
   data Reaches : Type 0 where
@@ -157,23 +169,24 @@ module _ (rows : List Row) (address minute count : ℕ) (reply : List ℕ) (answ
   sets : (row : Row) → place < length (boardOf rows) → after ≡ set (boardOf rows) place row ++ beyond rows → after ≡ set rows place row
   sets row l is = is ∙ set-rows rows place row l
 
-  pub hear-done : Heard rows address minute count reply answer after
+  pub hear-done : HearDone rows minute address count reply answer after
   hear-done = go (eqb number 0) refl (setsFault number) refl
     where
-      go : (t : Bool) → eqb number 0 ≡ t → (u : Bool) → setsFault number ≡ u → Heard rows address minute count reply answer after
+      go : (t : Bool) → eqb number 0 ≡ t → (u : Bool) → setsFault number ≡ u → HearDone rows minute address count reply answer after
       go true t u w =
           let z : number ≡ 0 = eqb-true number 0 t in
           let small = by-none z in
           let l = read-on small .0 in
-          good (e .answers ∙ z) (read-on small .2) (place-row rows address l) (ap (λ (r : Row). replyFault (r .settings) address count reply) (sym (same small)) ∙ sym (read-on small .1) ∙ z)
-          (sets _ l (e .leaves ∙ ap (λ (b : List Row). b ++ beyond rows) (hear-sets (boardOf rows) address minute count reply z)
+          good (number-said ∙ z) (read-on small .2) (place-row rows address l) (ap (λ (r : Row). replyFault (r .settings) address count reply) (sym (same small)) ∙ sym (read-on small .1) ∙ z)
+          (sets _ l (e .leaves ∙ ap (λ (b : List Row). b ++ beyond rows) (hear-sets (boardOf rows) minute address count reply z)
           ∙ ap (λ (r : Row). set (boardOf rows) place (withReading r (readingAt (r .settings) count (line reply)) minute) ++ beyond rows) (same small)))
       go false t true w =
           let small = by-fault w in
           let l = read-on small .0 in
-          faulty (ap (λ (n : ℕ). setsFault n) (e .answers) ∙ w) (read-on small .2) (place-row rows address l)
-          (sets _ l (e .leaves ∙ ap (λ (b : List Row). b ++ beyond rows) (hear-faults (boardOf rows) address minute count reply t w)
-          ∙ ap (λ (r : Row). set (boardOf rows) place (withFault r number) ++ beyond rows) (same small)
-          ∙ ap (λ (n : ℕ). set (boardOf rows) place (withFault (rowAt rows place) n) ++ beyond rows) (sym (e .answers))))
+          faulty (ap setsFault number-said ∙ w) (read-on small .2) (place-row rows address l)
+          (sets _ l (e .leaves ∙ ap (λ (b : List Row). b ++ beyond rows) (hear-faults (boardOf rows) minute address count reply t w)
+          ∙ ap (λ (r : Row). set (boardOf rows) place (withFault r number named) ++ beyond rows) (same small)
+          ∙ ap (λ (h : Heard). set (boardOf rows) place (withFault (rowAt rows place) (h .number) (h .place)) ++ beyond rows) (sym (e .answers))))
+          (λ v. place-said ∙ no-place (boardOf rows) minute address count reply (ap (λ (n : ℕ). eqb n 7) (sym number-said) ∙ v))
       go false t false w =
-          not-heard (ap (λ (n : ℕ). eqb n 0) (e .answers) ∙ t) (ap (λ (n : ℕ). setsFault n) (e .answers) ∙ w) (unchanged rows after (e .leaves ∙ ap (λ (b : List Row). b ++ beyond rows) (hear-keeps (boardOf rows) address minute count reply t w)))
+          not-heard (ap (λ (n : ℕ). eqb n 0) number-said ∙ t) (ap setsFault number-said ∙ w) (unchanged rows after (e .leaves ∙ ap (λ (b : List Row). b ++ beyond rows) (hear-keeps (boardOf rows) minute address count reply t w)))

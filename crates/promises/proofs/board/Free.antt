@@ -13,11 +13,12 @@ use Rattle.frame.specs.Faults.{_gives_, firstOf}
 use Rattle.frame.proofs.Both.{both-left}
 use Rattle.frame.specs.Line.{line, formed}
 use Rattle.frame.specs.Pick.{pick}
-use Rattle.frame.specs.Reply.{replyFault, readingAt}
+use Rattle.frame.specs.Level.{levelOf, placeLost}
+use Rattle.frame.specs.Reply.{modeIn, replyFault, readingAt}
 use Rattle.board.specs.declared.Row.{Row}
 use Rattle.board.specs.Row.{isFree, inUse, freeRow, newRow, withReading, withFault, setsFault}
 use Rattle.board.specs.Rows.{boardOf, beyond, holds, placeBy, placeOf, placeFree, rowOf, onBoard, hasFree}
-use Rattle.board.specs.Calls.{enrolNumber, enrolRows, hearNumber, hearRows, findNumber, removeRows, lookedAt, told, refusedLook}
+use Rattle.board.specs.Calls.{enrolNumber, enrolRows, hearNumber, hearPlace, hearRows, heardAs, findNumber, removeRows, lookedAt, told, refusedLook}
 use Rattle.board.proofs.Places.{place-at}
 use Rattle.promises.specs.board.Free.{cleared, Alike, BoardFree}
 
@@ -130,20 +131,28 @@ module _ (x y : List Row) (alike : map cleared x ≡ map cleared y) where
           ap (λ (t : Bool). firstOf (ltb 999 address gives 11 ∷ not (formed count reply) gives 14 ∷ not t gives 17 ∷ true gives replyFault (rowOf address x .settings) address count reply ∷ [])) same-on
           ∙ ap (λ (r : Row). firstOf (ltb 999 address gives 11 ∷ not (formed count reply) gives 14 ∷ not (onBoard address y) gives 17 ∷ true gives replyFault (r .settings) address count reply ∷ [])) same-row
 
+      -- the place that a number names
+      abbrev named : Row → ℕ → ℕ
+      named row n = pick (eqb n 7) (placeLost (levelOf (modeIn (row .settings)) (line reply))) 0
+
+      same-named : hearPlace x address count reply ≡ hearPlace y address count reply
+      unfolding hearPlace
+      same-named = ap (λ (n : ℕ). named (rowOf address x) n) same-hear ∙ ap (λ (r : Row). named r (hearNumber y address count reply)) same-row
+
       -- what a hearing leaves, by its number
       abbrev left : List Row → Row → ℕ → ℕ → List Row
-      left zs row i n = pick (eqb n 0) (set zs i (withReading row (readingAt (row .settings) count (line reply)) minute)) (pick (setsFault n) (set zs i (withFault row n)) zs)
+      left zs row i n = pick (eqb n 0) (set zs i (withReading row (readingAt (row .settings) count (line reply)) minute)) (pick (setsFault n) (set zs i (withFault row n (named row n))) zs)
 
       left-alike : (row : Row) (i j n : ℕ) → i ≡ j → map cleared (left x row i n) ≡ map cleared (left y row j n)
       left-alike row i j n e = go (eqb n 0) (setsFault n)
         where
-          go : (s t : Bool) → map cleared (pick s (set x i (withReading row (readingAt (row .settings) count (line reply)) minute)) (pick t (set x i (withFault row n)) x)) ≡ map cleared (pick s (set y j (withReading row (readingAt (row .settings) count (line reply)) minute)) (pick t (set y j (withFault row n)) y))
+          go : (s t : Bool) → map cleared (pick s (set x i (withReading row (readingAt (row .settings) count (line reply)) minute)) (pick t (set x i (withFault row n (named row n))) x)) ≡ map cleared (pick s (set y j (withReading row (readingAt (row .settings) count (line reply)) minute)) (pick t (set y j (withFault row n (named row n))) y))
           go true t = set-alike i j (withReading row (readingAt (row .settings) count (line reply)) minute) e
-          go false true = set-alike i j (withFault row n) e
+          go false true = set-alike i j (withFault row n (named row n)) e
           go false false = alike
 
-      hear-alike : map cleared (hearRows x address minute count reply) ≡ map cleared (hearRows y address minute count reply)
-      unfolding hearRows
+      hear-alike : map cleared (hearRows x minute address count reply) ≡ map cleared (hearRows y minute address count reply)
+      unfolding hearRows hearPlace
       hear-alike =
           left-alike (rowOf address x) (placeOf address x) (placeOf address y) (hearNumber x address count reply) same-place
           ∙ ap (λ (r : Row). map cleared (left y r (placeOf address y) (hearNumber x address count reply))) same-row
@@ -183,11 +192,11 @@ remove-length : (address : ℕ) (board : List Row) → length (removeRows board 
 unfolding removeRows
 remove-length address board = pick-length (eqb (findNumber board address) 0) (set board (placeOf address board) freeRow) board (length-set board (placeOf address board) freeRow)
 
-hear-length : (address minute count : ℕ) (reply : List ℕ) (board : List Row) → length (hearRows board address minute count reply) ≡ length board
+hear-length : (minute address count : ℕ) (reply : List ℕ) (board : List Row) → length (hearRows board minute address count reply) ≡ length board
 unfolding hearRows
-hear-length address minute count reply board = go (eqb (hearNumber board address count reply) 0) (setsFault (hearNumber board address count reply))
+hear-length minute address count reply board = go (eqb (hearNumber board address count reply) 0) (setsFault (hearNumber board address count reply))
   where
-    go : (s t : Bool) → length (pick s (set board (placeOf address board) (withReading (rowOf address board) (readingAt (rowOf address board .settings) count (line reply)) minute)) (pick t (set board (placeOf address board) (withFault (rowOf address board) (hearNumber board address count reply))) board)) ≡ length board
+    go : (s t : Bool) → length (pick s (set board (placeOf address board) (withReading (rowOf address board) (readingAt (rowOf address board .settings) count (line reply)) minute)) (pick t (set board (placeOf address board) (withFault (rowOf address board) (hearNumber board address count reply) (hearPlace board address count reply))) board)) ≡ length board
     go true t = length-set board _ _
     go false true = length-set board _ _
     go false false = refl
@@ -199,9 +208,12 @@ board-free =
         e .answers ∙ same-enrol (boardOf rows) (boardOf others) same address settings ∙ sym (f .answers),
         after-alike (λ board. enrolRows board settings address) (enrol-length settings address) rows others after later (e .leaves) (f .leaves) (enrol-alike (boardOf rows) (boardOf others) same address settings),
       );
-      hear = λ rows others after later address minute count reply a b same e f. (
-        e .answers ∙ same-hear (boardOf rows) (boardOf others) same address minute count reply ∙ sym (f .answers),
-        after-alike (λ board. hearRows board address minute count reply) (hear-length address minute count reply) rows others after later (e .leaves) (f .leaves) (hear-alike (boardOf rows) (boardOf others) same address minute count reply),
+      hear = λ rows others after later minute address count reply a b same e f. (
+        e .answers
+            ∙ ap (λ (n : ℕ). heardAs n (hearPlace (boardOf rows) address count reply)) (same-hear (boardOf rows) (boardOf others) same address minute count reply)
+            ∙ ap (heardAs (hearNumber (boardOf others) address count reply)) (same-named (boardOf rows) (boardOf others) same address minute count reply)
+            ∙ sym (f .answers),
+        after-alike (λ board. hearRows board minute address count reply) (hear-length minute address count reply) rows others after later (e .leaves) (f .leaves) (hear-alike (boardOf rows) (boardOf others) same address minute count reply),
       );
       remove = λ rows others after later address a b same e f. (
         e .answers ∙ same-find (boardOf rows) (boardOf others) same address ∙ sym (f .answers),

@@ -10,6 +10,7 @@ use lib.ListN.{length, set, take, getD, length-take, length-set}
 use lib.Seq.{take-set-lt}
 use borrow.Author.Tests.{eqb-true, eqb-false}
 use Rattle.frame.specs.Pick.{pick}
+use Rattle.board.specs.declared.Heard.{Heard}
 use Rattle.board.specs.declared.Row.{Row}
 use Rattle.board.specs.Row.{isFree, inUse, freeRow, newRow}
 use Rattle.board.specs.Rows.{boardOf, placeOf, placeFree}
@@ -20,7 +21,7 @@ use Rattle.promises.specs.board.History.{History, begun, enrolled, heard
 use Rattle.promises.proofs.board.Places.{on-board, board-on, same-row, unknown-off}
 use Rattle.promises.proofs.board.Count.{used, used-set, used-none, used-full, used-room}
 use Rattle.promises.proofs.Cases.{by-lt}
-use Rattle.promises.proofs.board.Done.{set-only, Enrolled, not-enrolled, took, enrol-done, Removed, not-removed, gave, remove-done, Heard, not-heard, faulty, good, hear-done}
+use Rattle.promises.proofs.board.Done.{set-only, Enrolled, not-enrolled, took, enrol-done, Removed, not-removed, gave, remove-done, HearDone, not-heard, faulty, good, hear-done}
 
 in-use-free : (row : Row) → isFree row ≡ true → inUse row ≡ true → ⊥
 in-use-free row f u = let z : _≡_ {A = Bool} false true = sym (ap not f) ∙ u in let bad : _≡_ {A = ℕ} 0 1 = cc in omega arith
@@ -38,9 +39,9 @@ data Step (rows : List Row) : List Row → Type 0 where
   nothing : {after : List Row} → after ≡ rows → Step rows after
   sets : {after : List Row} (i : ℕ) (row : Row) → OnBoard rows i → after ≡ set rows i row → Step rows after
 
-hear-step : {rows after : List Row} {address minute count answer : ℕ} {reply : List ℕ} → Heard rows address minute count reply answer after → Step rows after
+hear-step : {rows after : List Row} {minute address count : ℕ} {answer : Heard} {reply : List ℕ} → HearDone rows minute address count reply answer after → Step rows after
 hear-step (not-heard z l e) = nothing e
-hear-step (faulty l a p e) = sets _ _ (p .place) e
+hear-step (faulty l a p e n) = sets _ _ (p .place) e
 hear-step (good z a p f e) = sets _ _ (p .place) e
 
 enrol-step : {rows after : List Row} {settings address answer : ℕ} → Enrolled rows settings address answer after → Step rows after
@@ -63,14 +64,14 @@ module _ (start : List Row) where
   as-many : (now : List Row) → History start now → length now ≡ length start
   as-many now begun = refl
   as-many now (enrolled {rows} settings address answer h e) = step-many (enrol-step (enrol-done rows settings address answer now e)) ∙ as-many rows h
-  as-many now (heard {rows} address minute count reply answer h e) = step-many (hear-step (hear-done rows address minute count reply answer now e)) ∙ as-many rows h
+  as-many now (heard {rows} minute address count reply answer h e) = step-many (hear-step (hear-done rows minute address count reply answer now e)) ∙ as-many rows h
   as-many now (removed {rows} address answer h e) = step-many (remove-step (remove-done rows address answer now e)) ∙ as-many rows h
   as-many now (looked address answer h e) = as-many now h
 
   beyond-stays : (now : List Row) → History start now → (i : ℕ) → 30 ≤ i → rowAt now i ≡ rowAt start i
   beyond-stays now begun i l = refl
   beyond-stays now (enrolled {rows} settings address answer h e) i l = step-beyond (enrol-step (enrol-done rows settings address answer now e)) i l ∙ beyond-stays rows h i l
-  beyond-stays now (heard {rows} address minute count reply answer h e) i l = step-beyond (hear-step (hear-done rows address minute count reply answer now e)) i l ∙ beyond-stays rows h i l
+  beyond-stays now (heard {rows} minute address count reply answer h e) i l = step-beyond (hear-step (hear-done rows minute address count reply answer now e)) i l ∙ beyond-stays rows h i l
   beyond-stays now (removed {rows} address answer h e) i l = step-beyond (remove-step (remove-done rows address answer now e)) i l ∙ beyond-stays rows h i l
   beyond-stays now (looked address answer h e) i l = beyond-stays now h i l
 
@@ -119,11 +120,11 @@ enrol-twice : (rows after : List Row) (settings address answer : ℕ) → Enroll
 enrol-twice rows after settings address answer (not-enrolled z e) once = same-twice rows after e once
 enrol-twice rows after settings address answer (took z a u p e) once = one-new rows after (placeFree (boardOf rows)) (newRow settings address) (set-only rows after (placeFree (boardOf rows)) (newRow settings address) (p .place) e) address refl u once
 
-hear-twice : (rows after : List Row) (address minute count : ℕ) (reply : List ℕ) (answer : ℕ) → Heard rows address minute count reply answer after → NoneTwice rows → NoneTwice after
-hear-twice rows after address minute count reply answer (not-heard z l e) once = same-twice rows after e once
-hear-twice rows after address minute count reply answer (faulty l a p e) once =
+hear-twice : (rows after : List Row) (minute address count : ℕ) (reply : List ℕ) (answer : Heard) → HearDone rows minute address count reply answer after → NoneTwice rows → NoneTwice after
+hear-twice rows after minute address count reply answer (not-heard z l e) once = same-twice rows after e once
+hear-twice rows after minute address count reply answer (faulty l a p e n) once =
     fewer-set rows after _ _ (set-only rows after _ _ (p .place) e) (λ b h. record { used = h .used; same = h .same }) once
-hear-twice rows after address minute count reply answer (good z a p f e) once =
+hear-twice rows after minute address count reply answer (good z a p f e) once =
     fewer-set rows after _ _ (set-only rows after _ _ (p .place) e) (λ b h. record { used = h .used; same = h .same }) once
 
 remove-twice : (rows after : List Row) (address answer : ℕ) → Removed rows address answer after → NoneTwice rows → NoneTwice after
@@ -136,7 +137,7 @@ empty-twice start empty i j address p q h k = absurd (in-use-free (rowAt start i
 none-twice : (start now : List Row) → Empty start → History start now → NoneTwice now
 none-twice start now empty begun = empty-twice start empty
 none-twice start now empty (enrolled {rows} settings address answer h e) = enrol-twice rows now settings address answer (enrol-done rows settings address answer now e) (none-twice start rows empty h)
-none-twice start now empty (heard {rows} address minute count reply answer h e) = hear-twice rows now address minute count reply answer (hear-done rows address minute count reply answer now e) (none-twice start rows empty h)
+none-twice start now empty (heard {rows} minute address count reply answer h e) = hear-twice rows now minute address count reply answer (hear-done rows minute address count reply answer now e) (none-twice start rows empty h)
 none-twice start now empty (removed {rows} address answer h e) = remove-twice rows now address answer (remove-done rows address answer now e) (none-twice start rows empty h)
 none-twice start now empty (looked address answer h e) = none-twice start now empty h
 
@@ -160,13 +161,13 @@ enrol-used rows after settings address answer (not-enrolled z e) = ap (λ (zs : 
 enrol-used rows after settings address answer (took z a u p e) =
     counts rows after (placeFree (boardOf rows)) (newRow settings address) (p .place) e true false (p .free) refl ∙ sym (ap (λ (n : ℕ). more n (used (boardOf rows))) z)
 
-hear-used : (rows after : List Row) (address minute count : ℕ) (reply : List ℕ) (answer : ℕ) → Heard rows address minute count reply answer after → used (boardOf after) ≡ used (boardOf rows)
-hear-used rows after address minute count reply answer (not-heard z l e) = ap (λ (zs : List Row). used (boardOf zs)) e
-hear-used rows after address minute count reply answer (faulty l a p e) =
+hear-used : (rows after : List Row) (minute address count : ℕ) (reply : List ℕ) (answer : Heard) → HearDone rows minute address count reply answer after → used (boardOf after) ≡ used (boardOf rows)
+hear-used rows after minute address count reply answer (not-heard z l e) = ap (λ (zs : List Row). used (boardOf zs)) e
+hear-used rows after minute address count reply answer (faulty l a p e n) =
     let f = used-not-free (isFree (rowAt rows (placeOf address (boardOf rows)))) (p .here .used) in
     let s = counts rows after _ _ (p .place) e false false f f in
     omega arith
-hear-used rows after address minute count reply answer (good z a p g e) =
+hear-used rows after minute address count reply answer (good z a p g e) =
     let f = used-not-free (isFree (rowAt rows (placeOf address (boardOf rows)))) (p .here .used) in
     let s = counts rows after _ _ (p .place) e false false f f in
     omega arith
@@ -190,8 +191,8 @@ unfolding taken given
 balance start now empty begun = let z = used-none (boardOf start) (λ i l. ap isFree (same-row start i l) ∙ empty i (board-on start i l)) in omega arith
 balance start now empty (enrolled {rows} settings address answer h e) =
     ap (λ (n : ℕ). n + given h) (enrol-used rows now settings address answer (enrol-done rows settings address answer now e)) ∙ more-by (eqb answer 0) (used (boardOf rows)) (given h) (taken h) (balance start rows empty h)
-balance start now empty (heard {rows} address minute count reply answer h e) =
-    ap (λ (n : ℕ). n + given h) (hear-used rows now address minute count reply answer (hear-done rows address minute count reply answer now e)) ∙ balance start rows empty h
+balance start now empty (heard {rows} minute address count reply answer h e) =
+    ap (λ (n : ℕ). n + given h) (hear-used rows now minute address count reply answer (hear-done rows minute address count reply answer now e)) ∙ balance start rows empty h
 balance start now empty (removed {rows} address answer h e) =
     fewer-by (eqb answer 0) (used (boardOf now)) (used (boardOf rows)) (given h) (taken h) (remove-used rows now address answer (remove-done rows address answer now e)) (balance start rows empty h)
 balance start now empty (looked address answer h e) = balance start now empty h

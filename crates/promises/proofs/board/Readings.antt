@@ -11,11 +11,13 @@ use borrow.Author.Tests.{eqb-false}
 use Rattle.frame.specs.declared.Reading.{Reading}
 use Rattle.frame.specs.Line.{line}
 use Rattle.frame.specs.Reply.{replyFault, readingAt}
+use Rattle.board.specs.declared.Heard.{Heard}
 use Rattle.board.specs.declared.Looked.{Looked}
 use Rattle.board.specs.declared.Row.{Row}
-use Rattle.board.specs.Row.{none, good, isFree, lastOf, freeRow, newRow, withReading, withFault}
+use Rattle.board.specs.Row.{none, good, isFree, lastOf, freeRow, newRow, withReading, withFault, placeTold}
 use Rattle.board.specs.Rows.{boardOf, placeOf, placeFree}
-use Rattle.board.specs.Calls.{Hears, LooksUp, told, refusedLook, lastTold}
+use Rattle.frame.specs.Pick.{pick}
+use Rattle.board.specs.Calls.{Hears, LooksUp, heardAs, told, refusedLook, lastTold}
 use Rattle.board.proofs.Faults.{sets-by, not-0}
 use Rattle.board.proofs.Numbers.{find-11, find-17, find-0}
 use Rattle.promises.specs.board.Calls.{rowAt, OnBoard, Holds, IsRowOf, Unknown, OnlyRow, Tells}
@@ -24,7 +26,7 @@ use Rattle.promises.proofs.board.Places.{row-on, row-is, place-row, unk
 use Rattle.promises.proofs.board.After.{look-refused, look-told, read-is, reads}
 use Rattle.promises.proofs.board.Told.{tells, reading-held, fault-keeps}
 use Rattle.promises.proofs.Cases.{by-lt}
-use Rattle.promises.proofs.board.Done.{set-only, off-unknown, Enrolled, not-enrolled, took, enrol-done, Removed, not-removed, gave, remove-done, Heard, not-heard, faulty, good as well-heard, hear-done}
+use Rattle.promises.proofs.board.Done.{set-only, off-unknown, Enrolled, not-enrolled, took, enrol-done, Removed, not-removed, gave, remove-done, HearDone, not-heard, faulty, good as well-heard, hear-done}
 
 never : {A : Type 0} → (n : ℕ) → eqb n 0 ≡ false → n ≡ 0 → A
 never n e z = absurd (eqb-false n 0 e z)
@@ -99,13 +101,13 @@ module _ (rows after : List Row) (address : ℕ) where
 -- What a look tells after the row of the address alone was set to one that holds it.
 module _ (rows after : List Row) (address i : ℕ) (row : Row) (answer : Looked) where
   told-set : OnlyRow rows i row after → address ≤ 999 → OnBoard rows i → Holds row address → ((j : ℕ) → j < i → Holds (rowAt rows j) address → ⊥) → LooksUp after address answer
-      → (answer .number ≡ 0) × (answer .fault ≡ row .fault) × (answer .settings ≡ row .settings) × (lastTold answer ≡ lastOf row)
+      → (answer .number ≡ 0) × (answer .fault ≡ row .fault) × (answer .settings ≡ row .settings) × (lastTold answer ≡ lastOf row) × (answer .place ≡ placeTold row)
   told-set only a p h first e =
       let t : Tells (rowAt after i) answer = tells (rowAt after i) answer (looked-row after address answer e a i (still rows after address i row only p h first)) in
-      (t .number, t .fault ∙ ap (λ (r : Row). r .fault) (only .own), t .settings ∙ ap (λ (r : Row). r .settings) (only .own), t .reading ∙ ap lastOf (only .own))
+      (t .number, t .fault ∙ ap (λ (r : Row). r .fault) (only .own), t .settings ∙ ap (λ (r : Row). r .settings) (only .own), t .reading ∙ ap lastOf (only .own), t .place ∙ ap placeTold (only .own))
 
 -- A hearing that answered 0.
-module _ (rows after : List Row) (address minute count : ℕ) (reply : List ℕ) (answer : Looked) (looks : LooksUp after address answer) where
+module _ (rows after : List Row) (minute address count : ℕ) (reply : List ℕ) (answer : Looked) (looks : LooksUp after address answer) where
   abbrev place : ℕ
   place = placeOf address (boardOf rows)
 
@@ -118,26 +120,28 @@ module _ (rows after : List Row) (address minute count : ℕ) (reply : List ℕ)
   record GoodLook : Type 0 where
     number : answer .number ≡ 0
     fault : answer .fault ≡ 0
+    none-named : answer .place ≡ 0
     settings : answer .settings ≡ row .settings
     last : lastTold answer ≡ good reading minute
     frame : replyFault (row .settings) address count reply ≡ 0
 
-  good-by : Heard rows address minute count reply 0 after → GoodLook
+  good-by : HearDone rows minute address count reply (heardAs 0 0) after → GoodLook
   good-by (not-heard z l e) = never 0 z refl
-  good-by (faulty l a p e) = absurd (differs l not-0)
+  good-by (faulty l a p e n) = absurd (differs l not-0)
   good-by (well-heard z a p f e) =
       let only : OnlyRow rows place (withReading row reading minute) after = set-only rows after place (withReading row reading minute) (p .place) e in
       let t = told-set rows after address place (withReading row reading minute) answer only a (p .place) (record { used = p .here .used; same = p .here .same }) (p .first) looks in
-      record { number = t .0; fault = t .1; settings = t .2; last = t .3 ∙ reading-held row reading minute; frame = f }
+      record { number = t .0; fault = t .1; none-named = t .4; settings = t .2; last = t .3 ∙ reading-held row reading minute; frame = f }
 
-  module _ (hears : Hears rows address minute count reply 0 after) where
+  module _ (hears : Hears rows minute address count reply (heardAs 0 0) after) where
     good-look : GoodLook
-    good-look = good-by (hear-done rows address minute count reply 0 after hears)
+    good-look = good-by (hear-done rows minute address count reply (heardAs 0 0) after hears)
 
-    heard-then-looked : (answer .number ≡ 0) × (answer .fault ≡ 0) × ((read : Reads (answer .settings) address count reply) → lastTold answer ≡ good (read .reading) minute)
+    heard-then-looked : (answer .number ≡ 0) × (answer .fault ≡ 0) × (answer .place ≡ 0) × ((read : Reads (answer .settings) address count reply) → lastTold answer ≡ good (read .reading) minute)
     heard-then-looked = (
       good-look .number,
       good-look .fault,
+      good-look .none-named,
       λ read. good-look .last
           ∙ ap (λ (r : Reading). good r minute) (ap (λ (s : ℕ). readingAt s count (line reply)) (sym (good-look .settings)) ∙ sym (read-is (answer .settings) address count reply (read .reading) (read .accepted) .1)),
     )
@@ -147,19 +151,24 @@ module _ (rows after : List Row) (address minute count : ℕ) (reply : List ℕ)
         record { reading = readingAt (answer .settings) count (line reply); accepted = reads (answer .settings) address count reply (ap (λ (s : ℕ). replyFault s address count reply) (good-look .settings) ∙ good-look .frame) }
 
 -- A hearing that answered 1 to 9.
-module _ (rows after : List Row) (address minute count fault : ℕ) (reply : List ℕ) (before answer : Looked) (some : 1 ≤ fault) (most : fault ≤ 9) (looked : LooksUp rows address before) (looks : LooksUp after address answer) where
-  kept-by : Heard rows address minute count reply fault after → (answer .number ≡ 0) × (answer .fault ≡ fault) × (answer .settings ≡ before .settings) × (lastTold answer ≡ lastTold before)
+module _ (rows after : List Row) (minute address count fault place : ℕ) (reply : List ℕ) (before answer : Looked) (some : 1 ≤ fault) (most : fault ≤ 9) (looked : LooksUp rows address before) (looks : LooksUp after address answer) where
+  -- what a row tells of the place that was answered
+  told-place : (t : Bool) → eqb fault 7 ≡ t → (eqb fault 7 ≡ false → place ≡ 0) → pick t place 0 ≡ place
+  told-place true v n = refl
+  told-place false v n = sym (n v)
+
+  kept-by : HearDone rows minute address count reply (heardAs fault place) after → (answer .number ≡ 0) × (answer .fault ≡ fault) × (answer .place ≡ place) × (answer .settings ≡ before .settings) × (lastTold answer ≡ lastTold before)
   kept-by (not-heard z l e) = absurd (differs (sets-by fault some most) l)
   kept-by (well-heard z a p f e) = absurd (omega arith)
-  kept-by (faulty l a p e) =
+  kept-by (faulty l a p e n) =
       let i : ℕ = placeOf address (boardOf rows) in
-      let only : OnlyRow rows i (withFault (rowAt rows i) fault) after = set-only rows after i (withFault (rowAt rows i) fault) (p .place) e in
-      let t = told-set rows after address i (withFault (rowAt rows i) fault) answer only a (p .place) (record { used = p .here .used; same = p .here .same }) (p .first) looks in
+      let only : OnlyRow rows i (withFault (rowAt rows i) fault place) after = set-only rows after i (withFault (rowAt rows i) fault place) (p .place) e in
+      let t = told-set rows after address i (withFault (rowAt rows i) fault place) answer only a (p .place) (record { used = p .here .used; same = p .here .same }) (p .first) looks in
       let b : Tells (rowAt rows i) before = tells (rowAt rows i) before (looked-row rows address before looked a i p) in
-      (t .0, t .1, t .2 ∙ sym (b .settings), t .3 ∙ fault-keeps (rowAt rows i) fault ∙ sym (b .reading))
+      (t .0, t .1, t .4 ∙ told-place (eqb fault 7) refl n, t .2 ∙ sym (b .settings), t .3 ∙ fault-keeps (rowAt rows i) fault place ∙ sym (b .reading))
 
 -- An enrolment that answered 0.
-started-by : (rows after : List Row) (settings address : ℕ) (answer : Looked) → LooksUp after address answer → Enrolled rows settings address 0 after → (answer .number ≡ 0) × (answer .fault ≡ 0) × (answer .settings ≡ settings) × (lastTold answer ≡ none)
+started-by : (rows after : List Row) (settings address : ℕ) (answer : Looked) → LooksUp after address answer → Enrolled rows settings address 0 after → (answer .number ≡ 0) × (answer .fault ≡ 0) × (answer .settings ≡ settings) × (lastTold answer ≡ none) × (answer .place ≡ 0)
 started-by rows after settings address answer looks (not-enrolled z e) = never 0 z refl
 started-by rows after settings address answer looks (took z a u p e) =
     let i : ℕ = placeFree (boardOf rows) in
@@ -175,10 +184,10 @@ module _ (rows after : List Row) (address other : ℕ) (ne : other ≡ address �
   free-holds-none : (row : Row) → isFree row ≡ true → Holds row address → ⊥
   free-holds-none row f h = let u : not (isFree row) ≡ true = h .used in let z : _≡_ {A = Bool} false true = sym (ap not f) ∙ u in let bad : _≡_ {A = ℕ} 0 1 = cc in omega arith
 
-  hear-by : (minute count : ℕ) (reply : List ℕ) (answer : ℕ) → Heard rows other minute count reply answer after → Apart rows after address
+  hear-by : (minute count : ℕ) (reply : List ℕ) (answer : Heard) → HearDone rows minute other count reply answer after → Apart rows after address
   hear-by minute count reply answer (not-heard z l e) = apart-same rows after address e
-  hear-by minute count reply answer (faulty l a p e) =
-      apart-set rows after address _ _ (set-only rows after _ _ (p .place) e) (not-both (rowAt rows (placeOf other (boardOf rows))) (p .here .same)) (not-both (withFault (rowAt rows (placeOf other (boardOf rows))) answer) (p .here .same))
+  hear-by minute count reply answer (faulty l a p e n) =
+      apart-set rows after address _ _ (set-only rows after _ _ (p .place) e) (not-both (rowAt rows (placeOf other (boardOf rows))) (p .here .same)) (not-both (withFault (rowAt rows (placeOf other (boardOf rows))) (answer .number) (answer .place)) (p .here .same))
   hear-by minute count reply answer (well-heard z a p f e) =
       apart-set rows after address _ _ (set-only rows after _ _ (p .place) e) (not-both (rowAt rows (placeOf other (boardOf rows))) (p .here .same)) (not-both _ (p .here .same))
 
@@ -195,11 +204,11 @@ module _ (rows after : List Row) (address other : ℕ) (ne : other ≡ address �
 pub board-readings : BoardReadings
 board-readings =
     record {
-      heard = λ rows after address minute count reply told hears looks. heard-then-looked rows after address minute count reply told looks hears;
-      accepted = λ rows after address minute count reply told hears looks. was-accepted rows after address minute count reply told looks hears;
-      kept = λ rows after address minute count fault reply before told some most looked hears looks. kept-by rows after address minute count fault reply before told some most looked looks (hear-done rows address minute count reply fault after hears);
+      heard = λ rows after minute address count reply told hears looks. heard-then-looked rows after minute address count reply told looks hears;
+      accepted = λ rows after minute address count reply told hears looks. was-accepted rows after minute address count reply told looks hears;
+      kept = λ rows after minute address count fault place reply before told some most looked hears looks. kept-by rows after minute address count fault place reply before told some most looked looks (hear-done rows minute address count reply (heardAs fault place) after hears);
       started = λ rows after settings address told enrols looks. started-by rows after settings address told looks (enrol-done rows settings address 0 after enrols);
-      hear-apart = λ rows after address other minute count answer reply before told ne looked hears looks. apart-look rows after address (hear-by rows after address other ne minute count reply answer (hear-done rows other minute count reply answer after hears)) before told looked looks;
+      hear-apart = λ rows after minute address other count reply answer before told ne looked hears looks. apart-look rows after address (hear-by rows after address other ne minute count reply answer (hear-done rows minute other count reply answer after hears)) before told looked looks;
       enrol-apart = λ rows after settings address other answer before told ne looked enrols looks. apart-look rows after address (enrol-by rows after address other ne settings answer (enrol-done rows settings other answer after enrols)) before told looked looks;
       remove-apart = λ rows after address other answer before told ne looked removes looks. apart-look rows after address (remove-by rows after address other ne answer (remove-done rows other answer after removes)) before told looked looks;
     }

@@ -37,6 +37,7 @@ tells row answer e =
       address = ap (λ (a : Looked). a .address) e;
       settings = ap (λ (a : Looked). a .settings) e;
       fault = ap (λ (a : Looked). a .fault) e;
+      place = ap (λ (a : Looked). a .place) e;
       reading = ap lastTold e ∙ last-back (lastOf row);
     }
 
@@ -44,5 +45,5 @@ tells row answer e =
 pub reading-held : (row : Row) (r : Reading) (minute : ℕ) → lastOf (withReading row r minute) ≡ good r minute
 reading-held row r minute = some-back r minute
 
-pub fault-keeps : (row : Row) (fault : ℕ) → lastOf (withFault row fault) ≡ lastOf row
-fault-keeps row fault = refl
+pub fault-keeps : (row : Row) (fault place : ℕ) → lastOf (withFault row fault place) ≡ lastOf row
+fault-keeps row fault place = refl

@@ -8,6 +8,7 @@ use Rattle.promises.proofs.frame.WrittenThenRead.{written-then-read, ou
 use Rattle.promises.proofs.frame.WrittenAgain.{written-again}
 use Rattle.promises.proofs.frame.Parity.{parity-kept}
 use Rattle.promises.proofs.frame.FirstFault.{first-fault}
+use Rattle.promises.proofs.frame.Unreadable.{unreadable-digit}
 use Rattle.promises.proofs.frame.OneOutcome.{one-outcome}
 use Rattle.promises.proofs.frame.OnlyItsBytes.{only-its-bytes}
 use Rattle.promises.proofs.frame.Bench.{bench-checks}
@@ -24,6 +25,7 @@ demand-two =
       written-again = written-again;
       parity = parity-kept;
       first-fault = first-fault;
+      unreadable-digit = unreadable-digit;
       one-outcome = one-outcome;
       only-its-bytes = only-its-bytes;
       bench = bench-checks;

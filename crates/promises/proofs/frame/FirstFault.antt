@@ -6,8 +6,9 @@ use mathlib.Core.List.{List, [], _∷_}
 use Prim.Native.Nat.{ℕ, zero, suc, _<_}
 use native.Mathlib.Omega.{arith}
 use lib.Dec.{eqb}
+use borrow.Author.Tests.{eqb-true}
 use lib.ListN.{length, getD}
-use Rattle.frame.specs.declared.Reply.the-variants.{Read, Refused}
+use Rattle.frame.specs.declared.Reply.the-variants.{Read, Refused, Unreadable}
 use Rattle.frame.specs.declared.Reading.{Reading}
 use Rattle.frame.specs.declared.PollAnswer.the-variants.{Asked}
 use Rattle.frame.specs.declared.PollAnswer.the-variants as polled
@@ -17,7 +18,8 @@ use Rattle.frame.specs.Pick.{pick}
 use Rattle.frame.specs.Line.{line, bit, threeDecimal}
 use Rattle.frame.specs.Faults.{Test, _gives_, firstOf}
 use Rattle.frame.specs.Poll.{pollFault, pollAt, pollOf, writePollFault, pollNumber, writtenNumber}
-use Rattle.frame.specs.Reply.{replyFault, readingAt, replyOf, writeReplyFault, sizeFor, replyNumber}
+use Rattle.frame.specs.Level.{Level, levelOf, placeLost}
+use Rattle.frame.specs.Reply.{modeIn, refusedBy, replyFault, readingAt, replyOf, writeReplyFault, sizeFor, replyNumber}
 use Rattle.frame.proofs.Answers.{number-is}
 use Rattle.promises.specs.frame.FirstFault.{applies, FirstThatApplies, replyTable, replyOrder, writeTable, pollTable, FirstFault}
 
@@ -118,12 +120,20 @@ poll-asks s = go (not (eqb (length s) 2)) (eqb (bit (line s) 1) 0) (not (threeDe
 pub given : (table : List Test) (order : List ℕ) (number : ℕ) → number ≡ firstOf (asked table order) → FirstThatApplies table order number
 given table order number e = subst (FirstThatApplies table order) (sym e) (is-first table order)
 
+-- a refusal of a reply has its number, with a place or without
+refusal-number : (l : Level) (f : ℕ) → replyNumber (refusedBy l f) ≡ f
+refusal-number l f = go (eqb f 7) refl
+  where
+    go : (t : Bool) → eqb f 7 ≡ t → replyNumber (pick t (Unreadable (placeLost l)) (Refused f)) ≡ f
+    go true e = sym (eqb-true f 7 e)
+    go false e = refl
+
 pub first-fault : FirstFault
 unfolding replyOf pollOf
 first-fault =
     record {
       read-reply = λ settings address count s got h. given (replyTable settings address count s) replyOrder (replyNumber got)
-          (ap replyNumber (h .answers) ∙ number-is (Read (readingAt settings count (line s))) Refused replyNumber refl (λ f. refl) (replyFault settings address count s) ∙ reply-asks settings address count s);
+          (ap replyNumber (h .answers) ∙ number-is (Read (readingAt settings count (line s))) (refusedBy (levelOf (modeIn settings) (line s))) replyNumber refl (refusal-number (levelOf (modeIn settings) (line s))) (replyFault settings address count s) ∙ reply-asks settings address count s);
       write-reply = λ settings address r out after said h. given (writeTable settings address (sizeFor r) out) (10 ∷ 11 ∷ 15 ∷ []) (writtenNumber said)
           (ap writtenNumber (h .answers) ∙ number-is (Bytes (sizeFor r)) written.Refused writtenNumber refl (λ f. refl) (writeReplyFault settings address r out) ∙ write-asks settings address r out);
       read-poll = λ s got h. given (pollTable s) (16 ∷ []) (pollNumber got)

@@ -11,7 +11,8 @@ use Rattle.frame.specs.declared.Reply.the-variants.{Read}
 use Rattle.frame.specs.Pick.{pick}
 use Rattle.frame.specs.Line.{line, marks, firstBytes}
 use Rattle.frame.specs.Temperature.{isAbsent}
-use Rattle.frame.specs.Reply.{ReadsReply, oddParity, countFor, sizeFor, readingAt, replyFault, replyOf, replyLine}
+use Rattle.frame.specs.Level.{levelOf}
+use Rattle.frame.specs.Reply.{modeIn, ReadsReply, oddParity, countFor, sizeFor, readingAt, replyFault, replyOf, replyLine}
 use Rattle.promises.specs.frame.Bits.{AreBytes, bitAt}
 use Rattle.promises.specs.frame.Calls.{ReplyLeft}
 use Rattle.promises.specs.frame.Parity.{marksAmong, OneWrong, ParityKept}
@@ -44,7 +45,7 @@ right : (settings address count : ℕ) (s : List ℕ) → AreBytes s → (r : Re
     → marksAmong s count % 2 ≡ oddParity settings
 unfolding replyOf
 right settings address count s ok r reads =
-    let is = read-if (replyFault settings address count s) (readingAt settings count (line s)) r (reads .answers) in
+    let is = read-if (levelOf (modeIn settings) (line s)) (replyFault settings address count s) (readingAt settings count (line s)) r (reads .answers) in
     let a = accepted settings address count s (is .0) in
     let size : length s ≡ pick (eqb count 40) 5 7 = a .1 .size in
     let all : marks s ≡ marksAmong s count

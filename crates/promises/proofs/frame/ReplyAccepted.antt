@@ -8,14 +8,14 @@ use lib.Dec.{eqb, leb}
 use lib.ListN.{length}
 use borrow.Author.Tests.{ltb-false, eqb-true, not-false}
 use Rattle.frame.specs.declared.Reading.{Reading}
-use Rattle.frame.specs.declared.Reply.the-variants.{Read, Refused}
+use Rattle.frame.specs.declared.Reply.the-variants.{Read, Refused, Unreadable}
 use Rattle.frame.specs.declared.Temperature.{Temperature}
 use Rattle.frame.specs.declared.Temperature.the-variants.{Absent}
 use Rattle.frame.specs.Pick.{pick}
 use Rattle.frame.specs.Line.{line, bit, marks, formed, bytesFor, padClear, threeDecimal, threeDigits}
-use Rattle.frame.specs.Level.{Level, Mode, known, lost, levelOf, fillClear, noChart, valueOf, aboveLargest}
+use Rattle.frame.specs.Level.{Level, Mode, known, lost, levelOf, fillClear, noChart, valueOf, placeLost, aboveLargest}
 use Rattle.frame.specs.Temperature.{Heat, told, bad, isBad, temperatureOf, heatOf}
-use Rattle.frame.specs.Reply.{modeIn, is1800, oddParity, heatIn, parityRight, replyFault}
+use Rattle.frame.specs.Reply.{modeIn, is1800, oddParity, heatIn, parityRight, replyFault, refusedBy}
 use Rattle.promises.specs.frame.FirstFault.{replyTable, replyOrder}
 use Rattle.promises.proofs.Cases.{both, not-0}
 use Rattle.promises.proofs.frame.Digits.{bit-lt}
@@ -91,9 +91,10 @@ accepted settings address count s e =
     )
 
 -- An answer that is a reading: no fault, and the reading at the line.
-pub read-if : (f : ℕ) (q r : Reading) → Read r ≡ pick (eqb f 0) (Read q) (Refused f) → (f ≡ 0) × (q ≡ r)
-read-if f q r = go (eqb f 0) refl
+pub read-if : (l : Level) (f : ℕ) (q r : Reading) → Read r ≡ pick (eqb f 0) (Read q) (refusedBy l f) → (f ≡ 0) × (q ≡ r)
+read-if l f q r = go (eqb f 0) (eqb f 7) refl
   where
-    go : (b : Bool) → eqb f 0 ≡ b → Read r ≡ pick b (Read q) (Refused f) → (f ≡ 0) × (q ≡ r)
-    go true k e = (eqb-true f 0 k, cc)
-    go false k e = let z : _≡_ {A = ℕ} 0 1 = cc in absurd (omega arith)
+    go : (b s : Bool) → eqb f 0 ≡ b → Read r ≡ pick b (Read q) (pick s (Unreadable (placeLost l)) (Refused f)) → (f ≡ 0) × (q ≡ r)
+    go true s k e = (eqb-true f 0 k, cc)
+    go false true k e = let z : _≡_ {A = ℕ} 0 1 = cc in absurd (omega arith)
+    go false false k e = let z : _≡_ {A = ℕ} 0 1 = cc in absurd (omega arith)

@@ -17,7 +17,7 @@ use Rattle.frame.proofs.Digits.{turned-lt}
 use Rattle.promises.specs.frame.Rows.{Sound, SoundRow, RowBothWays}
 
 -- A code of a chart stands at the place where it is found.
-at-place : (x : ℕ) (cs : List ℕ) → placeIn x cs < length cs → getD cs (placeIn x cs) 0 ≡ x
+pub at-place : (x : ℕ) (cs : List ℕ) → placeIn x cs < length cs → getD cs (placeIn x cs) 0 ≡ x
 unfolding placeIn
 at-place x [] h = omega arith
 at-place x (c ∷ cs) h = go (at-place x cs) (eqb x c) refl h

@@ -12,7 +12,7 @@ use Rattle.frame.specs.declared.Temperature.{Temperature}
 use Rattle.frame.specs.declared.Temperature.the-variants.{Absent}
 use Rattle.frame.specs.Pick.{pick}
 use Rattle.frame.specs.Line.{line, field, bit, mark, marks, firstBytes}
-use Rattle.frame.specs.Level.{lastBit}
+use Rattle.frame.specs.Level.{levelOf, lastBit}
 use Rattle.frame.specs.Temperature.{told, isAbsent, heatOf, putHeat}
 use Rattle.frame.specs.Reply.{modeIn, is1800, oddParity, countFor, replyFault, readingAt, replyOf, replyLine, ReadsReply}
 use Rattle.promises.specs.frame.Bits.{AreBytes, bitAt}
@@ -160,7 +160,7 @@ reply-again : (settings address count : ℕ) (s : List ℕ) → AreBytes s → (
 unfolding replyOf
 reply-again settings address count s ok r reads bytes left =
     let short : Bool = eqb count 40 in
-    let is = read-if (replyFault settings address count s) (readingAt settings count (line s)) r (reads .answers) in
+    let is = read-if (levelOf (modeIn settings) (line s)) (replyFault settings address count s) (readingAt settings count (line s)) r (reads .answers) in
     let a = accepted settings address count s (is .0) in
     let acc : Accepted settings address s (line s) short (r .level) (r .temperature)
     = subst (λ (q : Reading). Accepted settings address s (line s) short (q .level) (q .temperature)) (is .1) (a .1) in

@@ -8,7 +8,7 @@ use lib.ListN.{length, take, drop}
 use lib.Seq.{take-at}
 use borrow.Author.Tests.{le-ltb}
 use Rattle.frame.specs.declared.Reading.{Reading}
-use Rattle.frame.specs.declared.Reply.the-variants.{Read, Refused}
+use Rattle.frame.specs.declared.Reply.the-variants.{Read, Unreadable}
 use Rattle.frame.specs.declared.Temperature.{Temperature}
 use Rattle.frame.specs.declared.Written.the-variants.{Bytes}
 use Rattle.frame.specs.Line.{line, firstBytes}
@@ -75,9 +75,9 @@ module _ (settings address : ℕ) (r : Reading) (hs : settings ≤ 15) (ha : add
   unfolding firstOf
   fault-out hl = left-to-ask settings address (countFor r) (firstBytes (sizeFor r) n) n (heard settings address r n of hs ha) ∙ rw (level-gone hl)
 
-  refused-as : modeIn settings .largest < r .level → replyOf settings address (countFor r) (firstBytes (sizeFor r) n) ≡ Refused 7
+  refused-as : modeIn settings .largest < r .level → replyOf settings address (countFor r) (firstBytes (sizeFor r) n) ≡ Unreadable 1
   unfolding replyOf
-  refused-as hl = rw (fault-out hl)
+  refused-as hl = rw (fault-out hl, line-sent settings address r n of, level-gone hl)
 
 -- In range, the temperature that is read back is the one that was written.
 same-reading : (settings : ℕ) (r : Reading) (t : Temperature) → t ≡ r .temperature
@@ -102,12 +102,7 @@ pub outside-its-range : OutsideItsRange
 outside-its-range =
     record {
       level = λ settings address r hs ha hl bytes left got h.
-          let l = left-first settings address r hs ha bytes left in (
-            h .answers ∙ ap (replyOf settings address (countFor r)) (l .1) ∙ refused-as settings address r hs ha hl,
-            ap (λ (s : List ℕ). levelOf (modeIn settings) (line s)) (l .1)
-                ∙ ap (levelOf (modeIn settings)) (line-sent settings address r (replyLine settings address r) (sent settings address r ha))
-                ∙ level-gone settings address r hs ha hl,
-          );
+          h .answers ∙ ap (replyOf settings address (countFor r)) (left-first settings address r hs ha bytes left .1) ∙ refused-as settings address r hs ha hl;
       temperature = λ settings address r hs ha hl bytes left got h.
           h .answers ∙ ap (replyOf settings address (countFor r)) (left-first settings address r hs ha bytes left .1) ∙ read-as settings address r hs ha hl;
     }

@@ -5,6 +5,7 @@ use Rattle.promises.proofs.listing.Records.{listing-records}
 use Rattle.promises.proofs.listing.Decimals.{listing-decimals}
 use Rattle.promises.proofs.listing.Bench.{listing-bench}
 use Rattle.promises.proofs.listing.Room.{listing-room}
+use Rattle.promises.proofs.listing.Faults.{listing-faults}
 use Rattle.promises.proofs.listing.OneOutcome.{listing-outcome}
 use Rattle.promises.proofs.sheet.View.{sheet-view}
 
@@ -16,6 +17,7 @@ the-listing =
       decimals = listing-decimals;
       bench = listing-bench;
       room = listing-room;
+      faults = listing-faults;
       one-outcome = listing-outcome;
       view = sheet-view;
     }

@@ -9,16 +9,17 @@ use borrow.Author.Tests.{eqb-true, ltb-false}
 use lib.Dec.{T, eqb, ltb, leb, ltb→lt, leb→le}
 use lib.ListN.{length, getD, length-append}
 use Rattle.frame.specs.declared.Reading.{Reading}
-use Rattle.frame.specs.declared.Reply.the-variants.{Read, Refused}
+use Rattle.frame.specs.declared.Reply.the-variants.{Read, Refused, Unreadable}
 use Rattle.frame.specs.declared.Temperature.the-variants.{Degrees}
 use Rattle.frame.specs.Pick.{pick}
 use Rattle.frame.specs.Line.{line, bit, threeDigits, threeDecimal}
 use Rattle.frame.specs.Faults.{Test, firstOf}
-use Rattle.frame.specs.Level.{Mode, Level, known, lost, levelOf, valueOf, aboveLargest}
+use Rattle.frame.specs.Level.{Mode, Level, known, lost, levelOf, valueOf, placeLost, aboveLargest}
 use Rattle.frame.specs.Temperature.{Heat, isPlus, signed, magnitude, degreesAt, hundreds1900, heat1900, heat1800, temperatureOf}
-use Rattle.frame.specs.Reply.{replyTests, replyFault, replyOf, readingAt, modeIn, heatIn, is1800}
+use Rattle.frame.specs.Reply.{replyTests, replyFault, refusedBy, replyOf, readingAt, modeIn, heatIn, is1800}
 use Rattle.frame.proofs.Tables.{pick-case}
 use Rattle.frame.proofs.EachMode.{small-levels}
+use Rattle.frame.proofs.Verdict.{place-small}
 use Rattle.listing.specs.Text.{ascii, decimal, digitsUpTo}
 use Rattle.listing.specs.Lines.{temperatureText, alarmText, readingText, replyText}
 use Rattle.listing.proofs.Numbers.{few-digits}
@@ -110,6 +111,11 @@ fault-few n few =
     let digits = few-digits 1 n (omega arith) in
     simp length-append (omega arith)
 
+place-few : (p : ℕ) → p < 5 → length (replyText (Unreadable p)) ≤ 16
+place-few p few =
+    let digits = few-digits 0 p (omega arith) in
+    simp length-append (omega arith)
+
 fault-lt : (settings address count : ℕ) (s : List ℕ) → replyFault settings address count s ≤ 99
 unfolding replyFault
 fault-lt settings address count s = few-faults (replyTests settings address count s) tt
@@ -118,9 +124,13 @@ pub reply-few : (settings address count : ℕ) (s : List ℕ) → length (replyT
 unfolding replyOf
 reply-few settings address count s = go (eqb (replyFault settings address count s) 0) refl
   where
+    refused : (t : Bool) → length (replyText (pick t (Unreadable (placeLost (levelOf (modeIn settings) (line s)))) (Refused (replyFault settings address count s)))) ≤ 16
+    refused true = place-few (placeLost (levelOf (modeIn settings) (line s))) (place-small settings (line s))
+    refused false = fault-few (replyFault settings address count s) (fault-lt settings address count s)
+
     go : (t : Bool) → eqb (replyFault settings address count s) 0 ≡ t
-        → length (replyText (pick t (Read (readingAt settings count (line s))) (Refused (replyFault settings address count s)))) ≤ 16
+        → length (replyText (pick t (Read (readingAt settings count (line s))) (refusedBy (levelOf (modeIn settings) (line s)) (replyFault settings address count s)))) ≤ 16
     go true e =
         reading-few (readingAt settings count (line s)) (level-lt settings address count s (eqb-true (replyFault settings address count s) 0 e))
         (heat-few settings count (line s))
-    go false e = fault-few (replyFault settings address count s) (fault-lt settings address count s)
+    go false e = refused (eqb (replyFault settings address count s) 7)

@@ -6,13 +6,14 @@ use mathlib.Core.List.{List}
 use Prim.Native.Nat.{ℕ, _<_, _≤_}
 use lib.ListN.{length, getD}
 use Rattle.frame.specs.declared.Reading.{Reading}
-use Rattle.frame.specs.declared.Reply.the-variants.{Read, Refused}
+use Rattle.frame.specs.declared.Reply.the-variants.{Read, Refused, Unreadable}
 use Rattle.frame.specs.Line.{formed}
 use Rattle.frame.specs.Reply.{ReadsReply}
+use Rattle.board.specs.declared.Heard.{Heard}
 use Rattle.board.specs.declared.Looked.{Looked}
 use Rattle.board.specs.declared.Row.{Row}
-use Rattle.board.specs.Row.{isFree, inUse, lastOf, freeRow, newRow, withReading, withFault}
-use Rattle.board.specs.Calls.{Enrols, Hears, Removes, LooksUp, refusedLook, lastTold}
+use Rattle.board.specs.Row.{isFree, inUse, lastOf, freeRow, newRow, withReading, withFault, placeTold}
+use Rattle.board.specs.Calls.{Enrols, Hears, Removes, LooksUp, heardAs, refusedLook, lastTold}
 
 -- The row at a place, counted from 0; a free row past the last.
 abbrev pub rowAt : List Row → ℕ → Row
@@ -74,19 +75,22 @@ pub record EnrolPromise (rows : List Row) (settings address answer : ℕ) (after
   pub no-row : settings ≤ 15 → address ≤ 999 → Unknown rows address → NoFree rows → (answer ≡ 19) × (after ≡ rows)
   pub enrolled : settings ≤ 15 → address ≤ 999 → Unknown rows address → (i : ℕ) → IsFirstFree rows i → (answer ≡ 0) × OnlyRow rows i (newRow settings address) after
 
--- Hearing: 11, 14, 17, 10 by the row's own settings, and no row changes; 1 to 9, and of the row only the fault is set; or 0, and its reading, minute
--- and fault 0 are set.
-pub record HearPromise (rows : List Row) (address minute count : ℕ) (reply : List ℕ) (answer : ℕ) (after : List Row) : Type 0 where
-  pub bad-address : 999 < address → (answer ≡ 11) × (after ≡ rows)
-  pub bad-form : address ≤ 999 → formed count reply ≡ false → (answer ≡ 14) × (after ≡ rows)
-  pub unknown : address ≤ 999 → formed count reply ≡ true → Unknown rows address → (answer ≡ 17) × (after ≡ rows)
-  pub bad-settings : address ≤ 999 → formed count reply ≡ true → (i : ℕ) → IsRowOf rows address i → 15 < rowAt rows i .settings → (answer ≡ 10) × (after ≡ rows)
+-- Hearing: 11, 14, 17, 10 by the row's own settings, and no row changes; 1 to 9, and of the row only the fault is set, 7 with the place of the
+-- unreadable digit, which is answered too; or 0, and its reading, minute and fault 0 are set.
+pub record HearPromise (rows : List Row) (minute address count : ℕ) (reply : List ℕ) (answer : Heard) (after : List Row) : Type 0 where
+  pub bad-address : 999 < address → (answer ≡ heardAs 11 0) × (after ≡ rows)
+  pub bad-form : address ≤ 999 → formed count reply ≡ false → (answer ≡ heardAs 14 0) × (after ≡ rows)
+  pub unknown : address ≤ 999 → formed count reply ≡ true → Unknown rows address → (answer ≡ heardAs 17 0) × (after ≡ rows)
+  pub bad-settings : address ≤ 999 → formed count reply ≡ true → (i : ℕ) → IsRowOf rows address i → 15 < rowAt rows i .settings → (answer ≡ heardAs 10 0) × (after ≡ rows)
   pub faulty : address ≤ 999 → formed count reply ≡ true → (i : ℕ) → IsRowOf rows address i → rowAt rows i .settings ≤ 15
       → (fault : ℕ) → ReadsReply (rowAt rows i .settings) address count reply (Refused fault)
-      → (answer ≡ fault) × (1 ≤ fault) × (fault ≤ 9) × OnlyRow rows i (withFault (rowAt rows i) fault) after
+      → (answer ≡ heardAs fault 0) × (1 ≤ fault) × (fault ≤ 9) × OnlyRow rows i (withFault (rowAt rows i) fault 0) after
+  pub unreadable : address ≤ 999 → formed count reply ≡ true → (i : ℕ) → IsRowOf rows address i
+      → (place : ℕ) → ReadsReply (rowAt rows i .settings) address count reply (Unreadable place)
+      → (answer ≡ heardAs 7 place) × OnlyRow rows i (withFault (rowAt rows i) 7 place) after
   pub heard : address ≤ 999 → formed count reply ≡ true → (i : ℕ) → IsRowOf rows address i
       → (r : Reading) → ReadsReply (rowAt rows i .settings) address count reply (Read r)
-      → (answer ≡ 0) × OnlyRow rows i (withReading (rowAt rows i) r minute) after
+      → (answer ≡ heardAs 0 0) × OnlyRow rows i (withReading (rowAt rows i) r minute) after
 
 -- Removing: 11, 17, and no row changes; or 0, and the row is free, all zeros.
 pub record RemovePromise (rows : List Row) (address answer : ℕ) (after : List Row) : Type 0 where
@@ -100,6 +104,8 @@ pub record Tells (row : Row) (answer : Looked) : Type 0 where
   pub address : answer .address ≡ row .address
   pub settings : answer .settings ≡ row .settings
   pub fault : answer .fault ≡ row .fault
+  -- Beside fault 7 the row's place, and none beside any other fault, whatever stands in the row.
+  pub place : answer .place ≡ placeTold row
   pub reading : lastTold answer ≡ lastOf row
 
 -- Looking: 11, 17, and the number alone is answered; or what stands in the row.
@@ -111,12 +117,12 @@ pub record LookPromise (rows : List Row) (address : ℕ) (answer : Looked) : Typ
 -- Whatever a contract allows keeps these promises, and it allows one outcome.
 pub record BoardCalls : Type 0 where
   pub enrol : (rows : List Row) (settings address answer : ℕ) (after : List Row) → Enrols rows settings address answer after → EnrolPromise rows settings address answer after
-  pub hear : (rows : List Row) (address minute count : ℕ) (reply : List ℕ) (answer : ℕ) (after : List Row) → Hears rows address minute count reply answer after → HearPromise rows address minute count reply answer after
+  pub hear : (rows : List Row) (minute address count : ℕ) (reply : List ℕ) (answer : Heard) (after : List Row) → Hears rows minute address count reply answer after → HearPromise rows minute address count reply answer after
   pub remove : (rows : List Row) (address answer : ℕ) (after : List Row) → Removes rows address answer after → RemovePromise rows address answer after
   pub look-up : (rows : List Row) (address : ℕ) (answer : Looked) → LooksUp rows address answer → LookPromise rows address answer
 
 pub record BoardOneOutcome : Type 0 where
   pub enrol : (rows : List Row) (settings address a b : ℕ) (after later : List Row) → Enrols rows settings address a after → Enrols rows settings address b later → (a ≡ b) × (after ≡ later)
-  pub hear : (rows : List Row) (address minute count : ℕ) (reply : List ℕ) (a b : ℕ) (after later : List Row) → Hears rows address minute count reply a after → Hears rows address minute count reply b later → (a ≡ b) × (after ≡ later)
+  pub hear : (rows : List Row) (minute address count : ℕ) (reply : List ℕ) (a b : Heard) (after later : List Row) → Hears rows minute address count reply a after → Hears rows minute address count reply b later → (a ≡ b) × (after ≡ later)
   pub remove : (rows : List Row) (address a b : ℕ) (after later : List Row) → Removes rows address a after → Removes rows address b later → (a ≡ b) × (after ≡ later)
   pub look-up : (rows : List Row) (address : ℕ) (a b : Looked) → LooksUp rows address a → LooksUp rows address b → a ≡ b

@@ -7,6 +7,7 @@ use Prim.Native.Nat.{ℕ, suc, _+_, _<_, _≤_, min}
 use lib.Dec.{eqb}
 use lib.ListN.{length}
 use Rattle.frame.specs.Pick.{pick}
+use Rattle.board.specs.declared.Heard.{Heard}
 use Rattle.board.specs.declared.Looked.{Looked}
 use Rattle.board.specs.declared.Row.{Row}
 use Rattle.board.specs.Row.{isFree}
@@ -17,7 +18,7 @@ use Rattle.promises.specs.board.Calls.{rowAt, OnBoard, Holds, Unknown}
 pub data History (start : List Row) : List Row → Type 0 where
   begun : History start start
   enrolled : {rows after : List Row} (settings address answer : ℕ) → History start rows → Enrols rows settings address answer after → History start after
-  heard : {rows after : List Row} (address minute count : ℕ) (reply : List ℕ) (answer : ℕ) → History start rows → Hears rows address minute count reply answer after → History start after
+  heard : {rows after : List Row} (minute address count : ℕ) (reply : List ℕ) (answer : Heard) → History start rows → Hears rows minute address count reply answer after → History start after
   removed : {rows after : List Row} (address answer : ℕ) → History start rows → Removes rows address answer after → History start after
   looked : {rows : List Row} (address : ℕ) (answer : Looked) → History start rows → LooksUp rows address answer → History start rows
 
@@ -33,14 +34,14 @@ NoneTwice rows = (i j address : ℕ) → OnBoard rows i → OnBoard rows j → H
 unfoldable pub taken : {start rows : List Row} → History start rows → ℕ
 taken begun = 0
 taken (enrolled settings address answer h e) = pick (eqb answer 0) (suc (taken h)) (taken h)
-taken (heard address minute count reply answer h e) = taken h
+taken (heard minute address count reply answer h e) = taken h
 taken (removed address answer h e) = taken h
 taken (looked address answer h e) = taken h
 
 unfoldable pub given : {start rows : List Row} → History start rows → ℕ
 given begun = 0
 given (enrolled settings address answer h e) = given h
-given (heard address minute count reply answer h e) = given h
+given (heard minute address count reply answer h e) = given h
 given (removed address answer h e) = pick (eqb answer 0) (suc (given h)) (given h)
 given (looked address answer h e) = given h
 

@@ -8,6 +8,7 @@ use Rattle.promises.specs.frame.OutsideItsRange.{OutsideItsRange}
 use Rattle.promises.specs.frame.WrittenAgain.{WrittenAgain}
 use Rattle.promises.specs.frame.Parity.{ParityKept}
 use Rattle.promises.specs.frame.FirstFault.{FirstFault}
+use Rattle.promises.specs.frame.Unreadable.{UnreadableDigit}
 use Rattle.promises.specs.frame.OneOutcome.{OneOutcome}
 use Rattle.promises.specs.frame.OnlyItsBytes.{OnlyItsBytes}
 use Rattle.promises.specs.frame.Bench.{BenchChecks}
@@ -22,6 +23,7 @@ pub record DemandTwo : Type 0 where
   pub written-again : WrittenAgain
   pub parity : ParityKept
   pub first-fault : FirstFault
+  pub unreadable-digit : UnreadableDigit
   pub one-outcome : OneOutcome
   pub only-its-bytes : OnlyItsBytes
   pub bench : BenchChecks

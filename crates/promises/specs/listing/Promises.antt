@@ -4,6 +4,7 @@ use Rattle.promises.specs.listing.Records.{ListingRecords}
 use Rattle.promises.specs.listing.Decimals.{ListingDecimals}
 use Rattle.promises.specs.listing.Bench.{ListingBench}
 use Rattle.promises.specs.listing.Room.{ListingRoom}
+use Rattle.promises.specs.listing.Faults.{ListingFaults}
 use Rattle.promises.specs.listing.OneOutcome.{ListingOutcome}
 use Rattle.promises.specs.sheet.View.{SheetView}
 
@@ -13,5 +14,6 @@ pub record Listing : Type 0 where
   pub decimals : ListingDecimals
   pub bench : ListingBench
   pub room : ListingRoom
+  pub faults : ListingFaults
   pub one-outcome : ListingOutcome
   pub view : SheetView

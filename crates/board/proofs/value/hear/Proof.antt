@@ -1,5 +1,5 @@
 -- `board::value::hear` meets its contract, on whatever board the row was found: refused before the reply is read, or as the frame answers for the row.
-use Rattle.board.proofs.Hearing.{hear-refuses, hear-changes}
+use Rattle.board.proofs.Hearing.{hear-refuses, hear-changes, hears-on}
 use Rattle.board.proofs.Faults.{not-11, not-14, not-17}
 use Rattle.board.proofs.Numbers.{hear-11, hear-14, hear-17}
 use borrow.Author.Tests.{not-true, not-false}
@@ -13,7 +13,7 @@ refused-requires : tie.Need-refused-requires
 refused-requires c κs = search needs
 
 returns : tie.Need-returns
-returns c = record { on = λ board few finds. hear-refuses board few _ _ _ _ _ 11 refl not-11 (c .refused .ensures) (hear-11 board _ _ _ (c .before .if1 .taken)) }
+returns c = hears-on _ _ _ _ _ _ (λ board few finds. hear-refuses board few _ _ _ _ _ 11 refl refl not-11 (c .refused .ensures) (hear-11 board _ _ _ (c .before .if1 .taken)))
 
 formed-requires : tie.Need-formed-requires
 formed-requires c κs = search needs
@@ -24,7 +24,7 @@ refused-requires-2 c κs = search needs
 returns-2 : tie.Need-returns-2
 returns-2 c =
     let f = c .before .before in
-    record { on = λ board few finds. hear-refuses board few _ _ _ _ _ 14 refl not-14 (c .refused2 .ensures) (hear-14 board _ _ _ (f .before .if1 .left) (sym (f .formed .ensures) ∙ not-true _ (c .before .if2 .taken))) }
+    hears-on _ _ _ _ _ _ (λ board few finds. hear-refuses board few _ _ _ _ _ 14 refl refl not-14 (c .refused2 .ensures) (hear-14 board _ _ _ (f .before .if1 .left) (sym (f .formed .ensures) ∙ not-true _ (c .before .if2 .taken))))
 
 refused-requires-3 : tie.Need-refused-requires-3
 refused-requires-3 c κs = search needs
@@ -33,7 +33,7 @@ returns-3 : tie.Need-returns-3
 returns-3 c =
     let t = c .before .before .before in
     let f = t .before in
-    record { on = λ board few finds. hear-refuses board few _ _ _ _ _ 17 refl not-17 (c .refused3 .ensures) (hear-17 board _ _ _ (f .before .if1 .left) (sym (f .formed .ensures) ∙ not-false _ (t .if2 .left)) (omega (arith, finds .count, finds .place, c .before .if3 .taken))) }
+    hears-on _ _ _ _ _ _ (λ board few finds. hear-refuses board few _ _ _ _ _ 17 refl refl not-17 (c .refused3 .ensures) (hear-17 board _ _ _ (f .before .if1 .left) (sym (f .formed .ensures) ∙ not-false _ (t .if2 .left)) (omega (arith, finds .count, finds .place, c .before .if3 .taken))))
 
 read-reply-requires : tie.Need-read-reply-requires
 read-reply-requires c κs = search needs
@@ -48,7 +48,7 @@ returns-4 c =
     let t = x .before .before in
     let f = t .before in
     let s = f .before .before .before in
-    record { on = λ board few finds. hear-changes board few _ _ _ _ _ (s .args .f) (a .read-reply .result) finds (f .before .if1 .left) (sym (f .formed .ensures) ∙ not-false _ (t .if2 .left)) (x .if3 .left) (a .read-reply .ensures .answers) (c .heard .ensures) }
+    hears-on _ _ _ _ _ _ (λ board few finds. hear-changes board few _ _ _ _ _ (s .args .f) (a .read-reply .result) finds (f .before .if1 .left) (sym (f .formed .ensures) ∙ not-false _ (t .if2 .left)) (x .if3 .left) (a .read-reply .ensures .answers) (c .heard .ensures))
 
 pub hear-spec : {M : Type 1} → statement M
 hear-spec =

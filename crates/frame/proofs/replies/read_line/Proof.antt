@@ -9,7 +9,7 @@ use Rattle.frame.specs.Line.{line, bit, field}
 use Rattle.frame.specs.Reply.{modeIn, parityRight}
 use Rattle.frame.specs.inside.Packed.{threeBy, levelCode}
 use Rattle.frame.proofs.Three.{matches, differs}
-use Rattle.frame.proofs.Verdict.{right4, level-lt, line-3, line-4, line-5, line-level, line-read}
+use Rattle.frame.proofs.Verdict.{right4, level-lt, level-rest, line-3, line-4, line-5, line-level, line-read}
 use Rattle.frame.proofs.Shifts.{start-clear}
 use borrow.Author.Needs.{needs}
 use Rattle.frame.proofs.replies.read_line.Statement.{statement}
@@ -75,17 +75,20 @@ cast-read-level c = search needs
 read-level-requires : tie.Need-read-level-requires
 read-level-requires c κs = search needs
 
-cast-t13 : tie.Need-cast-t13
-cast-t13 c =
+by-level-requires : tie.Need-by-level-requires
+by-level-requires c κs =
     let a = c .before .before .before .before .before .before .before .before .before .args in
-    omega (arith, level-is (c .before), level-lt (a .settings) (line (a .reply .now)))
+    let high : 65536 ≤ levelCode (modeIn (a .settings)) (line (a .reply .now)) = omega (arith, level-is (c .before), c .if4 .taken) in
+    rw (level-is (c .before)) (omega (arith, level-lt (a .settings) (line (a .reply .now))), level-rest (a .settings) (line (a .reply .now)) high .0)
 
 returns-4 : tie.Need-returns-4
 returns-4 c =
-    let a = c .before .before .before .before .before .before .before .before .before .args in
-    let high : 65536 ≤ levelCode (modeIn (a .settings)) (line (a .reply .now)) = omega (arith, level-is (c .before), c .if4 .taken) in
-    rw (level-is (c .before))
-    (sym (line-level (a .settings) (a .address) (a .count) (a .reply .now) (started (c .before .before .before .before .before .before)) (addressed (c .before .before .before .before)) (even-or-odd (c .before .before)) high))
+    let d = c .before .before in
+    let a = d .before .before .before .before .before .before .before .before .args in
+    let high : 65536 ≤ levelCode (modeIn (a .settings)) (line (a .reply .now)) = omega (arith, level-is d, c .before .if4 .taken) in
+    c .by-level .ensures
+    ∙ rw (level-is d)
+    (sym (line-level (a .settings) (a .address) (a .count) (a .reply .now) (started (d .before .before .before .before .before)) (addressed (d .before .before .before)) (even-or-odd (d .before)) high))
 
 with-level-requires : tie.Need-with-level-requires
 with-level-requires c κs = search needs
@@ -111,7 +114,7 @@ read-line-spec =
     returns-3
     cast-read-level
     read-level-requires
-    cast-t13
+    by-level-requires
     returns-4
     with-level-requires
     returns-5)
