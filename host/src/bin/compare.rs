@@ -20,13 +20,12 @@ fn main() -> ExitCode {
     println!("the proved library (left) and the independent reading (right), seed {seed:#x}");
     let only = std::env::args().skip(1).collect::<Vec<_>>().join(" ");
     let plan = Plan::full(seed);
-    let verdicts = [run(
-        compare::checks(),
-        &Library,
-        &IndependentReading,
-        &plan,
-        &only,
-    )];
+    let (left, right) = (&Library, &IndependentReading);
+    // Each line is one set of calls; a rustfmt that joins them would hide which are there.
+    #[rustfmt::skip]
+    let verdicts = [
+        run(compare::checks(), left, right, &plan, &only),
+    ];
     let passed: usize = verdicts.iter().map(|(passed, _)| passed).sum();
     let failed: usize = verdicts.iter().map(|(_, failed)| failed).sum();
     println!("{passed} passed, {failed} failed");
