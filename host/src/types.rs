@@ -279,7 +279,9 @@ mod tests {
         }
         assert!(
             // Fault 7 stands there once for each place.
-            numbers.windows(2).all(|pair| pair[0] < pair[1] || pair == [7, 7]),
+            numbers
+                .windows(2)
+                .all(|pair| pair[0] < pair[1] || pair == [7, 7]),
             "{numbers:?}"
         );
     }

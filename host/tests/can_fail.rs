@@ -25,7 +25,7 @@ const CHANGED: &str = "records with one byte changed";
 const BOARDS: &str = "boards";
 
 /// Each mistake with the comparisons that must find it.
-const FOUND_BY: [(Damage, &[&str]); 43] = [
+const FOUND_BY: &[(Damage, &[&str])] = &[
     (UnusedBitOfPollRead, &[POLLS]),
     (RaiseAndResetSwapped, &[POLLS]),
     (PollWritesThreeBytes, &[POLLS]),
@@ -158,7 +158,7 @@ fn document_01() {
         checks,
         mirrored: checks,
         core: |mistake| Damaged(mistake.unwrap_or(Nothing)),
-        found_by: &FOUND_BY,
+        found_by: FOUND_BY,
     }
     .settle();
 }

@@ -421,6 +421,10 @@ fn the_unreadable_digit_is_named() {
         (1, [0x80, 0x0E, 0x51, 0xE0, 0x01], Fault::Parity),
     ];
     for (settings, reply, fault) in named {
-        assert_eq!(read_reply(settings, 7, 40, &reply), Err(fault), "{reply:02x?}");
+        assert_eq!(
+            read_reply(settings, 7, 40, &reply),
+            Err(fault),
+            "{reply:02x?}"
+        );
     }
 }

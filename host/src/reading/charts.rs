@@ -52,8 +52,14 @@ impl Part {
     /// Which of the two digits, 0 or 1, is the first whose code is in no place of its chart.
     pub fn unreadable(&self, code: u8) -> Option<u8> {
         let digits = [code >> self.bits, code & !(0xFF << self.bits)];
-        let known = [self.upper.contains(&digits[0]), self.lower.contains(&digits[1])];
-        known.iter().position(|known| !known).map(|digit| digit as u8)
+        let known = [
+            self.upper.contains(&digits[0]),
+            self.lower.contains(&digits[1]),
+        ];
+        known
+            .iter()
+            .position(|known| !known)
+            .map(|digit| digit as u8)
     }
 }
 
