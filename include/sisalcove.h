@@ -52,7 +52,7 @@ extern "C" {
 /* ---- the version ----------------------------------------------------------------------------------------------------------------- */
 
 /* It goes up with every change of a struct, of a call's arguments or of a number's meaning. */
-#define SISAL_VERSION 1u
+#define SISAL_VERSION 2u
 
 /* The version of the archive. Refuses nothing. */
 SISAL_ANSWER uint32_t sisal_version(void);
