@@ -189,10 +189,10 @@ struct sisal_row {
     uint8_t kind;     /* enum sisal_kind; 0 while there is no reading, and a number above 4 reads as absent */
     uint8_t alarm1;   /* set by any number but 0 */
     uint8_t alarm0;
-    uint32_t heard;   /* 0 in a new and in a free row, kept by a hearing, not read; so are `faulty` and `gauge` */
-    uint16_t faulty;
+    uint32_t heard;   /* minute of the latest hearing, good or faulty; it means nothing while kind and fault are both 0 */
+    uint16_t faulty;  /* faulty replies since the last good one or since enrolment; it stays at 65,535 */
     uint8_t place;    /* beside fault 7 the first digit in no chart, counted from 0 at the top; not read beside another fault */
-    uint8_t gauge;
+    uint8_t gauge;    /* 0 in a new and in a free row, kept by a hearing, not read */
 };
 
 /* A reply that was heard on the board. */
@@ -213,10 +213,10 @@ struct sisal_standing {
     uint8_t kind; /* 0 while there is no reading; minute, level, tenths and alarms are then 0 */
     uint8_t alarm1;
     uint8_t alarm0;
-    uint32_t heard; /* 0; so are `faulty` and `gauge` */
-    uint16_t faulty;
+    uint32_t heard; /* minute of the latest hearing, good or faulty; 0 where there is none, which kind 0 and fault 0 together say */
+    uint16_t faulty; /* faulty replies since the last good one or since enrolment, at most 65,535 */
     uint8_t place;  /* beside fault 7 the first digit in no chart, counted from 0 at the top; 0 beside another fault */
-    uint8_t gauge;
+    uint8_t gauge;  /* 0 */
 };
 
 static_assert(sizeof(struct sisal_poll) == 6, "struct sisal_poll");
@@ -308,7 +308,8 @@ SISAL_ANSWER uint8_t sisal_board_enrol(struct sisal_row *rows, size_t row_count,
 /*
  * Hears a reply to a poll of `address`: 0, and the row's reading, minute and fault 0 are set. Or 11, 14, 17, 10 (the row's own settings),
  * and no row is changed; or, asked last, 1 to 9, and only the row's fault is set, 7 with its place, which is answered too. Beside every
- * other number `place` is 0.
+ * other number `place` is 0. A hearing that answers 0 to 9 sets the minute of the latest hearing; 0 sets the count of faulty replies to 0,
+ * and 1 to 9 add one to it.
  */
 SISAL_ANSWER struct sisal_heard sisal_board_hear(struct sisal_row *rows, size_t row_count, uint32_t minute, uint16_t address,
                                                  size_t count, const uint8_t *reply, size_t reply_bytes);

@@ -51,6 +51,17 @@ fn standing(settings: u8, last: Option<Last>, fault: u8) -> Standing {
         last,
         fault,
         place: 0,
+        faulty: 0,
+        heard: last.map(|last| last.minute),
+    }
+}
+
+/// The same after so many faulty replies since the last good one, the latest at this minute.
+fn bad(standing: Standing, faulty: u16, minute: u32) -> Standing {
+    Standing {
+        faulty,
+        heard: Some(minute),
+        ..standing
     }
 }
 
@@ -93,11 +104,12 @@ fn noon<C: Core>(desk: &mut Desk<C>) {
         (40, b"\x00\x0e\x50\x00\x01", Fault::Start),
         (40, b"\x80\x25\x00\x00\x03", Fault::Address),
     ];
-    for (minute, (count, bytes, fault)) in (601..).zip(faulty) {
-        let row = standing(1, kept, fault.number());
+    for (nth, (count, bytes, fault)) in (1..).zip(faulty) {
+        let minute = 600 + u32::from(nth);
+        let row = bad(standing(1, kept, fault.number()), nth, minute);
         desk.hear((7, minute), (count, bytes), Err(fault), row);
     }
-    let as_before = standing(1, kept, Fault::Address.number());
+    let as_before = bad(standing(1, kept, Fault::Address.number()), 5, 605);
     let long = (40, &b"\x80\x0e\x50\x00\x00\x00"[..]);
     desk.hear((7, 606), long, Err(Fault::Form), as_before);
     let next = last(2_999, Temperature::Degrees(-123), [true, false], 607);
@@ -137,6 +149,7 @@ pub fn day(core: &impl Core) {
         address: 7,
         settings: 1,
         last: last(2_999, Temperature::Degrees(-123), [true, false], 607),
+        heard: 607,
         ..Row::default()
     };
     let second = Row {

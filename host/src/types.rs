@@ -250,6 +250,10 @@ pub struct Row {
     pub fault: u8,
     /// Place of the unreadable digit beside fault 7.
     pub place: u8,
+    /// Faulty replies since the last good one or since enrolment, at most 65,535.
+    pub faulty: u16,
+    /// Minute of the latest hearing. A row with neither a reading nor a fault was never heard.
+    pub heard: u32,
 }
 
 /// How a transmitter stands on the board, as looking it up answers it.
@@ -261,6 +265,10 @@ pub struct Standing {
     pub fault: u8,
     /// Place of the unreadable digit beside fault 7, 0 beside any other.
     pub place: u8,
+    /// Faulty replies since the last good one or since enrolment, at most 65,535.
+    pub faulty: u16,
+    /// Minute of the latest hearing, good or faulty; none since enrolment.
+    pub heard: Option<u32>,
 }
 
 #[cfg(test)]

@@ -16,7 +16,7 @@ use Rattle.frame.specs.Reply.{modeIn, refusedBy, replyOf, readingAt}
 use Rattle.board.specs.declared.Row.{Row}
 use Rattle.board.specs.declared.value.Change.{Change}
 use Rattle.board.specs.declared.value.Found.{Found}
-use Rattle.board.specs.Row.{setsFault}
+use Rattle.board.specs.Row.{heardAt, setsFault}
 use Rattle.board.specs.Rows.{placeOf, rowOf}
 use Rattle.board.specs.Calls.{hearNumber, hearPlace, hearRows}
 use Rattle.board.specs.inside.ByValue.{Finds, Changes, HearsOn, refusal, heardChange}
@@ -27,8 +27,9 @@ module _ (board : List Row) (few : length board ≤ 30) (minute address count : 
   abbrev number : ℕ
   number = hearNumber board address count reply
 
+  -- the row of the address, heard at this minute
   abbrev row : Row
-  row = rowOf address board
+  row = heardAt (rowOf address board) minute
 
   abbrev level : Level
   level = levelOf (modeIn (row .settings)) (line reply)
@@ -50,13 +51,13 @@ module _ (board : List Row) (few : length board ≤ 30) (minute address count : 
       hears board few (placeOf address board) row minute (readingAt (row .settings) count (line reply)) level number c (replyOf (row .settings) address count reply) is (ap by-number (sym (hear-read board address count reply a f l))) l
 
   -- the same, of what a search found, and of an answer that was given
-  pub hear-changes : (f : Found) (answer : Reply) → Finds board address f → address ≤ 999 → formed count reply ≡ true → f .at < f .n → answer ≡ replyOf (f .row .settings) address count reply → c ≡ heardChange (f .at) (f .row) minute answer → HearsAt
+  pub hear-changes : (f : Found) (answer : Reply) → Finds board address f → address ≤ 999 → formed count reply ≡ true → f .at < f .n → answer ≡ replyOf (f .row .settings) address count reply → c ≡ heardChange (f .at) (heardAt (f .row) minute) minute answer → HearsAt
   hear-changes f answer finds a form l w is =
-      let same : f .row ≡ row = finds .there l in
+      let same : f .row ≡ rowOf address board = finds .there l in
       here a form (omega (arith, finds .count, finds .place))
       (is
-      ∙ ap (λ (i : ℕ). heardChange i (f .row) minute answer) (finds .place)
-      ∙ ap (λ (y : Row). heardChange (placeOf address board) y minute answer) same
+      ∙ ap (λ (i : ℕ). heardChange i (heardAt (f .row) minute) minute answer) (finds .place)
+      ∙ ap (λ (y : Row). heardChange (placeOf address board) (heardAt y minute) minute answer) same
       ∙ ap (λ (x : Reply). heardChange (placeOf address board) row minute x) (w ∙ ap (λ (y : Row). replyOf (y .settings) address count reply) same))
 
 -- so on every board on which the search finds the same

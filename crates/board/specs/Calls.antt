@@ -14,7 +14,7 @@ use Rattle.frame.specs.Reply.{modeIn, replyFault, readingAt}
 use Rattle.board.specs.declared.Heard.{Heard}
 use Rattle.board.specs.declared.Looked.{Looked}
 use Rattle.board.specs.declared.Row.{Row}
-use Rattle.board.specs.Row.{Last, lastBy, lastOf, rowBy, keptAs, unheard, faultOf, placeTold, freeRow, newRow, withReading, withFault, setsFault}
+use Rattle.board.specs.Row.{Last, lastBy, lastOf, rowBy, keptAs, placeTold, heardAt, heardTold, Minute, minuteBy, freeRow, newRow, withReading, withFault, setsFault}
 use Rattle.board.specs.Rows.{boardOf, beyond, placeOf, onBoard, rowOf, placeFree, hasFree}
 
 -- Enrolling: 10, 11, 18, 19. It takes the first free row; a refused enrolment changes no row.
@@ -48,11 +48,12 @@ unfoldable pub hearPlace : List Row → ℕ → ℕ → List ℕ → ℕ
 hearPlace board address count reply =
     pick (eqb (hearNumber board address count reply) 7) (placeLost (levelOf (modeIn (rowOf address board .settings)) (line reply))) 0
 
--- A good reply sets reading, minute and fault 0. Faults 1 to 9 set only the fault, 7 with its place. 10, 11, 14 and 17 change nothing.
+-- A good reply sets reading, minute and fault 0. Faults 1 to 9 set only the fault, 7 with its place, and are counted. Both set the minute
+-- that the row was last heard. 10, 11, 14 and 17 change nothing.
 unfoldable pub hearRows : List Row → (minute address count : ℕ) → List ℕ → List Row
 hearRows board minute address count reply =
     let number = hearNumber board address count reply in
-    let row = rowOf address board in
+    let row = heardAt (rowOf address board) minute in
     pick (eqb number 0) (set board (placeOf address board) (withReading row (readingAt (row .settings) count (line reply)) minute))
     (pick (setsFault number) (set board (placeOf address board) (withFault row number (hearPlace board address count reply))) board)
 
@@ -97,13 +98,13 @@ answerBy number row =
       gauge = row .gauge;
     }
 
--- What looking tells of a row: its address and settings, the last good reading with its minute, and the last fault with its
--- place. It tells what the row holds and not its bytes.
+-- What looking tells of a row: its address and settings, the last good reading with its minute, the last fault with its place,
+-- the count of faulty replies, and the minute it was last heard. It tells what the row holds and not its bytes.
 abbrev pub told : Row → Looked
 told row =
     answerBy 0
     (rowBy (record { used = 0; address = row .address; settings = row .settings; gauge = 0 }) (keptAs (lastOf row))
-    (faultOf unheard (row .fault) (placeTold row)))
+    (record { fault = row .fault; place = placeTold row; faulty = row .faulty; heard = heardTold row }))
 
 -- A refusal answers its number alone.
 abbrev pub refusedLook : ℕ → Looked
@@ -119,3 +120,7 @@ pub record LooksUp (rows : List Row) (address : ℕ) (answer : Looked) : Type 0 
 -- The last good reading that an answer tells of.
 abbrev pub lastTold : Looked → Last
 lastTold a = lastBy (a .kind) (a .tenths) (a .level) (a .alarm1) (a .alarm0) (a .minute)
+
+-- And the minute it was last heard, or none.
+abbrev pub minuteTold : Looked → Minute
+minuteTold a = minuteBy (a .kind) (a .fault) (a .heard)

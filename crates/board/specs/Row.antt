@@ -1,7 +1,7 @@
 -- Document 01, "The board": one row. It holds an address, settings, the last good reading with its minute, and the last fault.
 use mathlib.Core.Bool.{Bool, not, _&&_}
-use Prim.Native.Nat.{ℕ}
-use lib.Dec.{eqb, leb}
+use Prim.Native.Nat.{ℕ, _+_}
+use lib.Dec.{eqb, leb, ltb}
 use lib.IntN.{ℤ, pos}
 use Rattle.frame.specs.declared.Reading.{Reading}
 use Rattle.frame.specs.Kinds.{kindOf, tenthsOf, readingBy}
@@ -45,8 +45,8 @@ pub record Kept : Type 0 where
   pub alarm1 : ℕ
   pub alarm0 : ℕ
 
--- What came of the hearings since: the last fault, 0 for none, with the place of the unreadable digit beside fault 7. Faulty and heard are
--- kept as they stand.
+-- What came of the hearings since: the last fault, 0 for none, with the place of the unreadable digit beside fault 7; the number of faulty
+-- replies since the last good one or since enrolment; and the minute it was last heard.
 pub record Since : Type 0 where
   pub fault : ℕ
   pub place : ℕ
@@ -101,13 +101,17 @@ keptAs (good r minute) =
       alarm0 = mark (r .alarm0);
     }
 
--- Nothing heard yet: fault 0.
+-- Nothing heard yet: fault 0, count 0, and no minute.
 abbrev pub unheard : Since
 unheard = record { fault = 0; place = 0; faulty = 0; heard = 0 }
 
--- The same with this last fault and its place, 0 where it has none.
-abbrev pub faultOf : Since → ℕ → ℕ → Since
-faultOf s fault place = record { fault = fault; place = place; faulty = s .faulty; heard = s .heard }
+-- Document 02, request 09: the count stays at 65,535 when it gets there.
+abbrev pub more : ℕ → ℕ
+more faulty = pick (ltb faulty 65535) (faulty + 1) 65535
+
+-- The same with this last fault and its place, 0 where it has none, and this count.
+abbrev pub faultOf : Since → ℕ → ℕ → ℕ → Since
+faultOf s fault place faulty = record { fault = fault; place = place; faulty = faulty; heard = s .heard }
 
 -- The place that a row tells of: that of the unreadable digit beside fault 7, 0 beside any other, whatever stands in the row.
 abbrev pub placeTold : Row → ℕ
@@ -121,13 +125,33 @@ freeRow = rowBy nobody (keptAs none) unheard
 abbrev pub newRow : ℕ → ℕ → Row
 newRow settings address = rowBy (enrolled settings address) (keptAs none) unheard
 
--- Hearing a good reply sets reading, minute and fault 0, and no place.
-abbrev pub withReading : Row → Reading → ℕ → Row
-withReading row r minute = rowBy (ownerOf row) (keptAs (good r minute)) (faultOf (sinceOf row) 0 0)
+-- The row, heard at a minute: that of the latest hearing, good or faulty, even if the clock went back.
+abbrev pub heardAt : Row → ℕ → Row
+heardAt row minute =
+    rowBy (ownerOf row) (keptOf row) (record { fault = row .fault; place = row .place; faulty = row .faulty; heard = minute })
 
--- A faulty reply sets only that row's fault, with its place.
+-- The minute a row was last heard, or none: enrolling and removing leave neither a reading nor a fault, and every hearing leaves one of them.
+pub data Minute : Type 0 where
+  never : Minute
+  at : ℕ → Minute
+
+abbrev pub minuteBy : (kind fault heard : ℕ) → Minute
+minuteBy kind fault heard = pick (eqb kind 0 && eqb fault 0) never (at heard)
+
+abbrev pub heardOf : Row → Minute
+heardOf row = minuteBy (row .kind) (row .fault) (row .heard)
+
+-- The minute as it is told: 0 where there is none.
+abbrev pub heardTold : Row → ℕ
+heardTold row = pick (eqb (row .kind) 0 && eqb (row .fault) 0) 0 (row .heard)
+
+-- Hearing a good reply sets reading, minute and fault 0, no place, and count 0.
+abbrev pub withReading : Row → Reading → ℕ → Row
+withReading row r minute = rowBy (ownerOf row) (keptAs (good r minute)) (faultOf (sinceOf row) 0 0 0)
+
+-- A faulty reply sets only that row's fault, with its place, and is counted.
 abbrev pub withFault : Row → ℕ → ℕ → Row
-withFault row fault place = rowBy (ownerOf row) (keptOf row) (faultOf (sinceOf row) fault place)
+withFault row fault place = rowBy (ownerOf row) (keptOf row) (faultOf (sinceOf row) fault place (more (row .faulty)))
 
 -- Faults 1 to 9 are those that a row's fault is set to.
 unfoldable pub setsFault : ℕ → Bool

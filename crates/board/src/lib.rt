@@ -23,12 +23,13 @@ pub struct Row {
     // 0 for no alarm, any other number for an alarm
     pub alarm1: u8,
     pub alarm0: u8,
-    // These two are 0 in a new and in a free row, kept by a hearing, and not read.
+    // The minute of the latest hearing; none while kind and fault are both 0.
     pub heard: u32,
+    // Faulty replies since the last good one or since enrolment; it stays at 65,535.
     pub faulty: u16,
     // Beside fault 7 the place of the unreadable digit, counted from 0 at the top; it means nothing beside another fault.
     pub place: u8,
-    // As `heard` and `faulty`.
+    // 0 in a new and in a free row, kept by a hearing, and not read.
     pub gauge: u8,
 }
 
@@ -69,8 +70,9 @@ pub extern "C" fn sisal_board_enrol(rows: &mut [Row], settings: u8, address: u16
     lent::put(rows, f.n, c)
 }
 
-// Hears a reply: 0, reading, minute and fault 0 are set; 1 to 9, the row's fault is set, 7 with its place, and its reading stays; or 11
-// asked address, 14 form, 17 unknown, 10 the row's own settings, and nothing changes.
+// Hears a reply: 0, reading, minute and fault 0 are set; 1 to 9, the row's fault is set, 7 with its place, and counted, and its reading
+// stays; in both cases the row was last heard at this minute; or 11 asked address, 14 form, 17 unknown, 10 the row's own settings, and
+// nothing changes.
 #[no_mangle]
 pub extern "C" fn sisal_board_hear<'r, 'b>(
     rows: &'r mut [Row],

@@ -1,7 +1,7 @@
 // One row by value: what it holds, and what becomes of it.
 ghost use mathlib.Core.Path.{_≡_};
 ghost use lib.ListN.{replicate};
-ghost use Rattle.board.specs.Row.{freeRow, newRow, isFree, withReading, withFault, placeTold, setsFault};
+ghost use Rattle.board.specs.Row.{freeRow, newRow, isFree, withReading, withFault, placeTold, heardAt, heardTold, more, setsFault};
 ghost use Rattle.board.specs.Rows.{holds};
 ghost use Rattle.board.specs.Calls.{told, refusedLook};
 use crate::Looked;
@@ -75,6 +75,23 @@ pub(crate) fn with_reading(row: Row, reading: Reading, minute: u32) -> Row
     next.alarm0 = kinds::marked(reading.alarm0);
     next.fault = 0;
     next.place = 0;
+    next.faulty = 0;
+    next
+}
+
+// One faulty reply more; the count stays at its end.
+fn more(faulty: u16) -> u16
+    ensures { λ r. ⌜ r ≡ more faulty ⌝ }
+{
+    if faulty < 0xFFFF { faulty + 1 } else { 0xFFFF }
+}
+
+// The row with the minute of a hearing that reached it.
+pub(crate) fn heard_at(row: Row, minute: u32) -> Row
+    ensures { λ r. ⌜ r ≡ heardAt row minute ⌝ }
+{
+    let mut next = row;
+    next.heard = minute;
     next
 }
 
@@ -84,6 +101,7 @@ pub(crate) fn with_fault(row: Row, fault: u8, place: u8) -> Row
     let mut next = row;
     next.fault = fault;
     next.place = place;
+    next.faulty = more(row.faulty);
     next
 }
 
@@ -122,6 +140,19 @@ fn place_told(row: Row) -> u8
     if row.fault == 7 { row.place } else { 0 }
 }
 
+// The minute that is told of a row: none, which is 0, where it has neither a reading nor a fault.
+fn heard_told(row: Row) -> u32
+    ensures { λ r. ⌜ r ≡ heardTold row ⌝ }
+{
+    if row.kind != 0 {
+        return row.heard;
+    }
+    if row.fault != 0 {
+        return row.heard;
+    }
+    0
+}
+
 // What looking at a row answers.
 pub(crate) fn tell(row: Row) -> Looked
     ensures { λ r. ⌜ r ≡ told row ⌝ }
@@ -131,6 +162,8 @@ pub(crate) fn tell(row: Row) -> Looked
     answer.settings = row.settings;
     answer.fault = row.fault;
     answer.place = place_told(row);
+    answer.faulty = row.faulty;
+    answer.heard = heard_told(row);
     if row.kind == 0 {
         return answer;
     }

@@ -176,7 +176,7 @@ pub(crate) fn hear(f: Found, minute: u32, address: u16, count: usize, reply: &[u
     }
     let row = f.row;
     let answer = frame::read_reply(row.settings, address, count, reply);
-    heard(f.at, row, minute, answer)
+    heard(f.at, rows::heard_at(row, minute), minute, answer)
 }
 
 // Removing: 11, 17.

@@ -9,4 +9,6 @@ pub mod Done
 pub mod Readings
 pub mod History
 pub mod Free
+pub mod EitherOrder
+pub mod Since
 pub mod Promises

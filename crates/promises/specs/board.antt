@@ -2,5 +2,6 @@
 pub mod Calls
 pub mod Readings
 pub mod History
+pub mod Since
 pub mod Free
 pub mod Promises

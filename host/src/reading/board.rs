@@ -40,6 +40,8 @@ pub fn enrol(rows: &mut [Row], settings: u8, address: u16) -> Answer<()> {
         last: None,
         fault: 0,
         place: 0,
+        faulty: 0,
+        heard: 0,
     };
     Ok(())
 }
@@ -47,7 +49,8 @@ pub fn enrol(rows: &mut [Row], settings: u8, address: u16) -> Answer<()> {
 /// Hears a reply to a poll of `address`. Refusals: 11, 14, 17, 10, then 1 to 9.
 ///
 /// A good reply sets reading, minute and fault 0; the faults 1 to 9 set the row's fault, 7 with the
-/// place of the unreadable digit, and leave its last good reading as it is.
+/// place of the unreadable digit, and leave its last good reading as it is. Both are heard: the row
+/// has this minute, and its count of faulty replies starts again or grows by one, up to 65,535.
 pub fn hear(rows: &mut [Row], minute: u32, address: u16, count: usize, reply: &[u8]) -> Answer<()> {
     if address > LARGEST_ADDRESS {
         return Err(Fault::AskedAddress);
@@ -57,16 +60,20 @@ pub fn hear(rows: &mut [Row], minute: u32, address: u16, count: usize, reply: &[
     if row.settings > LARGEST_SETTINGS {
         return Err(Fault::Settings);
     }
-    match read_word(row.settings, address, count, word) {
+    let answer = read_word(row.settings, address, count, word);
+    row.heard = minute;
+    match answer {
         Ok(reading) => {
             row.last = Some(Last { reading, minute });
             row.fault = 0;
             row.place = 0;
+            row.faulty = 0;
             Ok(())
         }
         Err(fault) => {
             row.fault = fault.number();
             row.place = fault.place();
+            row.faulty = row.faulty.saturating_add(1);
             Err(fault)
         }
     }
@@ -93,5 +100,7 @@ pub fn look_up(rows: &[Row], address: u16) -> Answer<Standing> {
         last: row.last,
         fault: row.fault,
         place: if row.fault == 7 { row.place } else { 0 },
+        faulty: row.faulty,
+        heard: (row.last.is_some() || row.fault != 0).then_some(row.heard),
     })
 }

@@ -53,6 +53,10 @@ pub enum Damage {
     FaultKeptByGoodReply,
     PlaceKeptBesideOtherFault,
     PlaceNotInRow,
+    CountWraps,
+    CountKeptByGoodReply,
+    HeardKeptByFault,
+    LatestMinuteIsLargest,
     RowPastThirtiethUsed,
     LastRowCounts,
     RemovalKeepsAddress,
@@ -384,6 +388,16 @@ impl Core for Damaged {
             }
             (PlaceNotInRow, Err(fault), Some(mine)) if fault.number() == 7 => {
                 rows[mine].place = 0;
+            }
+            (CountWraps, Err(fault), Some(mine)) if fault.number() <= 9 => {
+                rows[mine].faulty = before[mine].faulty.wrapping_add(1);
+            }
+            (CountKeptByGoodReply, Ok(()), Some(mine)) => rows[mine].faulty = before[mine].faulty,
+            (HeardKeptByFault, Err(fault), Some(mine)) if fault.number() <= 9 => {
+                rows[mine].heard = before[mine].heard;
+            }
+            (LatestMinuteIsLargest, _, Some(mine)) => {
+                rows[mine].heard = rows[mine].heard.max(before[mine].heard);
             }
             (UnknownBeforeForm, Err(Fault::Form), None) => return Err(Fault::Unknown),
             (SettingsOfRowNotAsked, Err(Fault::Settings), Some(mine)) => {

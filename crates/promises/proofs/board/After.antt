@@ -17,7 +17,7 @@ use Rattle.frame.specs.Level.{Level, levelOf, placeLost}
 use Rattle.frame.specs.declared.Reply.{Reply}
 use Rattle.frame.specs.Reply.{ReadsReply, modeIn, replyTests, replyFault, refusedBy, replyOf, readingAt}
 use Rattle.board.specs.declared.Row.{Row}
-use Rattle.board.specs.Row.{freeRow, newRow, withReading, withFault, setsFault}
+use Rattle.board.specs.Row.{freeRow, newRow, withReading, withFault, setsFault, heardAt}
 use Rattle.board.specs.Rows.{placeOf, placeFree, rowOf}
 use Rattle.board.specs.Calls.{enrolNumber, enrolRows, hearNumber, hearPlace, hearRows, findNumber, removeRows, lookedAt, told, refusedLook}
 
@@ -55,10 +55,10 @@ module _ (board : List Row) (minute address count : ℕ) (reply : List ℕ) wher
   row = rowOf address board
 
   abbrev good-rows : List Row
-  good-rows = set board (placeOf address board) (withReading row (readingAt (row .settings) count (line reply)) minute)
+  good-rows = set board (placeOf address board) (withReading (heardAt row minute) (readingAt (row .settings) count (line reply)) minute)
 
   abbrev fault-rows : ℕ → List Row
-  fault-rows n = set board (placeOf address board) (withFault row n (hearPlace board address count reply))
+  fault-rows n = set board (placeOf address board) (withFault (heardAt row minute) n (hearPlace board address count reply))
 
   pub hear-keeps : eqb number 0 ≡ false → setsFault number ≡ false → hearRows board minute address count reply ≡ board
   unfolding hearRows

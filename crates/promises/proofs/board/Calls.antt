@@ -16,7 +16,7 @@ use Rattle.frame.specs.Reply.{ReadsReply, modeIn, replyFault, readingAt}
 use Rattle.board.specs.declared.Heard.{Heard}
 use Rattle.board.specs.declared.Looked.{Looked}
 use Rattle.board.specs.declared.Row.{Row}
-use Rattle.board.specs.Row.{freeRow, newRow, withReading, withFault, setsFault}
+use Rattle.board.specs.Row.{freeRow, newRow, withReading, withFault, setsFault, heardAt}
 use Rattle.board.specs.Rows.{boardOf, beyond, placeOf, placeFree, rowOf}
 use Rattle.board.specs.Calls.{Enrols, Hears, Removes, LooksUp, heardAs, enrolNumber, hearNumber, hearPlace, findNumber, told}
 use Rattle.board.proofs.Faults.{sets-by, sets-7, not-10, not-11, not-14, not-17}
@@ -105,14 +105,14 @@ module _ (rows : List Row) (minute address count : ℕ) (reply : List ℕ) (answ
   by-frame a f i p = hear-read (boardOf rows) address count reply a f (row-on rows address i p) ∙ ap (λ (r : Row). replyFault (r .settings) address count reply) (row-is rows address i p)
 
   -- a fault that is set, with the place that is answered
-  fault-set : (i : ℕ) → IsRowOf rows address i → (n p : ℕ) → number ≡ n → hearPlace board address count reply ≡ p → eqb n 0 ≡ false → setsFault n ≡ true → OnlyRow rows i (withFault (rowAt rows i) n p) after
+  fault-set : (i : ℕ) → IsRowOf rows address i → (n p : ℕ) → number ≡ n → hearPlace board address count reply ≡ p → eqb n 0 ≡ false → setsFault n ≡ true → OnlyRow rows i (withFault (heardAt (rowAt rows i) minute) n p) after
   fault-set i w n p is named z f =
-      placed rows after (placeOf address (boardOf rows)) i (withFault (rowOf address (boardOf rows)) number (hearPlace board address count reply)) (withFault (rowAt rows i) n p) (sym (row-place rows address i w))
-      (ap (λ (r : Row). withFault r number (hearPlace board address count reply)) (row-is rows address i w) ∙ ap (λ (m : ℕ). withFault (rowAt rows i) m (hearPlace board address count reply)) is ∙ ap (withFault (rowAt rows i) n) named) (row-on rows address i w)
+      placed rows after (placeOf address (boardOf rows)) i (withFault (heardAt (rowOf address (boardOf rows)) minute) number (hearPlace board address count reply)) (withFault (heardAt (rowAt rows i) minute) n p) (sym (row-place rows address i w))
+      (ap (λ (r : Row). withFault (heardAt r minute) number (hearPlace board address count reply)) (row-is rows address i w) ∙ ap (λ (m : ℕ). withFault (heardAt (rowAt rows i) minute) m (hearPlace board address count reply)) is ∙ ap (withFault (heardAt (rowAt rows i) minute) n) named) (row-on rows address i w)
       (e .leaves ∙ ap (λ (b : List Row). b ++ beyond rows) (hear-faults (boardOf rows) minute address count reply (ap (λ (m : ℕ). eqb m 0) is ∙ z) (ap (λ (m : ℕ). setsFault m) is ∙ f)))
 
   hear-faulty : address ≤ 999 → formed count reply ≡ true → (i : ℕ) → IsRowOf rows address i → rowAt rows i .settings ≤ 15 → (fault : ℕ) → ReadsReply (rowAt rows i .settings) address count reply (Refused fault)
-      → (answer ≡ heardAs fault 0) × (1 ≤ fault) × (fault ≤ 9) × OnlyRow rows i (withFault (rowAt rows i) fault 0) after
+      → (answer ≡ heardAs fault 0) × (1 ≤ fault) × (fault ≤ 9) × OnlyRow rows i (withFault (heardAt (rowAt rows i) minute) fault 0) after
   hear-faulty a f i p s fault read =
       let is = refused-is (rowAt rows i .settings) address count reply fault read in
       let same : number ≡ fault = by-frame a f i p ∙ is .0 in
@@ -124,7 +124,7 @@ module _ (rows : List Row) (minute address count : ℕ) (reply : List ℕ) (answ
       positive n z = let ne : n ≡ 0 → ⊥ = eqb-false n 0 z in omega arith
 
   hear-unreadable : address ≤ 999 → formed count reply ≡ true → (i : ℕ) → IsRowOf rows address i → (place : ℕ) → ReadsReply (rowAt rows i .settings) address count reply (Unreadable place)
-      → (answer ≡ heardAs 7 place) × OnlyRow rows i (withFault (rowAt rows i) 7 place) after
+      → (answer ≡ heardAs 7 place) × OnlyRow rows i (withFault (heardAt (rowAt rows i) minute) 7 place) after
   hear-unreadable a f i p place read =
       let is = lost-is (rowAt rows i .settings) address count reply place read in
       let same : number ≡ 7 = by-frame a f i p ∙ is .0 in
@@ -132,13 +132,13 @@ module _ (rows : List Row) (minute address count : ℕ) (reply : List ℕ) (answ
       = its-place board minute address count reply same ∙ ap (λ (r : Row). placeLost (levelOf (modeIn (r .settings)) (line reply))) (row-is rows address i p) ∙ sym (is .1) in
       (said 7 place same named, fault-set i p 7 place same named refl sets-7)
 
-  hear-heard : address ≤ 999 → formed count reply ≡ true → (i : ℕ) → IsRowOf rows address i → (r : Reading) → ReadsReply (rowAt rows i .settings) address count reply (Read r) → (answer ≡ heardAs 0 0) × OnlyRow rows i (withReading (rowAt rows i) r minute) after
+  hear-heard : address ≤ 999 → formed count reply ≡ true → (i : ℕ) → IsRowOf rows address i → (r : Reading) → ReadsReply (rowAt rows i .settings) address count reply (Read r) → (answer ≡ heardAs 0 0) × OnlyRow rows i (withReading (heardAt (rowAt rows i) minute) r minute) after
   hear-heard a f i p r read =
       let is = read-is (rowAt rows i .settings) address count reply r read in
       let zero : number ≡ 0 = by-frame a f i p ∙ is .0 in (
         plain 0 refl zero,
-        placed rows after (placeOf address (boardOf rows)) i (withReading (rowOf address (boardOf rows)) (readingAt (rowOf address (boardOf rows) .settings) count (line reply)) minute) (withReading (rowAt rows i) r minute) (sym (row-place rows address i p))
-            (ap (λ (x : Row). withReading x (readingAt (x .settings) count (line reply)) minute) (row-is rows address i p) ∙ ap (λ (x : Reading). withReading (rowAt rows i) x minute) (sym (is .1))) (row-on rows address i p)
+        placed rows after (placeOf address (boardOf rows)) i (withReading (heardAt (rowOf address (boardOf rows)) minute) (readingAt (rowOf address (boardOf rows) .settings) count (line reply)) minute) (withReading (heardAt (rowAt rows i) minute) r minute) (sym (row-place rows address i p))
+            (ap (λ (x : Row). withReading (heardAt x minute) (readingAt (x .settings) count (line reply)) minute) (row-is rows address i p) ∙ ap (λ (x : Reading). withReading (heardAt (rowAt rows i) minute) x minute) (sym (is .1))) (row-on rows address i p)
             (e .leaves ∙ ap (λ (b : List Row). b ++ beyond rows) (hear-sets (boardOf rows) minute address count reply zero)),
       )
 

@@ -12,7 +12,7 @@ use Rattle.frame.specs.Line.{line, formed}
 use Rattle.frame.specs.Reply.{replyFault, readingAt}
 use Rattle.board.specs.declared.Heard.{Heard}
 use Rattle.board.specs.declared.Row.{Row}
-use Rattle.board.specs.Row.{isFree, freeRow, newRow, withReading, withFault, setsFault}
+use Rattle.board.specs.Row.{isFree, freeRow, newRow, withReading, withFault, setsFault, heardAt}
 use Rattle.board.specs.Rows.{boardOf, beyond, holds, placeOf, placeFree, rowOf}
 use Rattle.board.specs.Calls.{Enrols, Hears, Removes, enrolNumber, hearNumber, hearPlace, findNumber}
 use Rattle.board.proofs.Faults.{not-11, not-14, not-17}
@@ -118,10 +118,10 @@ remove-done rows address answer after e = go (eqb (findNumber (boardOf rows) add
 pub data HearDone (rows : List Row) (minute address count : ℕ) (reply : List ℕ) (answer : Heard) (after : List Row) : Type 0 where
   not-heard : eqb (answer .number) 0 ≡ false → setsFault (answer .number) ≡ false → after ≡ rows → HearDone rows minute address count reply answer after
   faulty : setsFault (answer .number) ≡ true → address ≤ 999 → IsRowOf rows address (placeOf address (boardOf rows))
-      → after ≡ set rows (placeOf address (boardOf rows)) (withFault (rowAt rows (placeOf address (boardOf rows))) (answer .number) (answer .place))
+      → after ≡ set rows (placeOf address (boardOf rows)) (withFault (heardAt (rowAt rows (placeOf address (boardOf rows))) minute) (answer .number) (answer .place))
       → (eqb (answer .number) 7 ≡ false → answer .place ≡ 0) → HearDone rows minute address count reply answer after
   good : answer .number ≡ 0 → address ≤ 999 → IsRowOf rows address (placeOf address (boardOf rows)) → replyFault (rowAt rows (placeOf address (boardOf rows)) .settings) address count reply ≡ 0
-      → after ≡ set rows (placeOf address (boardOf rows)) (withReading (rowAt rows (placeOf address (boardOf rows))) (readingAt (rowAt rows (placeOf address (boardOf rows)) .settings) count (line reply)) minute) → HearDone rows minute address count reply answer after
+      → after ≡ set rows (placeOf address (boardOf rows)) (withReading (heardAt (rowAt rows (placeOf address (boardOf rows))) minute) (readingAt (rowAt rows (placeOf address (boardOf rows)) .settings) count (line reply)) minute) → HearDone rows minute address count reply answer after
 
 module _ (rows : List Row) (minute address count : ℕ) (reply : List ℕ) (answer : Heard) (after : List Row) (e : Hears rows minute address count reply answer after) where
   abbrev number : ℕ
@@ -179,14 +179,14 @@ module _ (rows : List Row) (minute address count : ℕ) (reply : List ℕ) (answ
           let l = read-on small .0 in
           good (number-said ∙ z) (read-on small .2) (place-row rows address l) (ap (λ (r : Row). replyFault (r .settings) address count reply) (sym (same small)) ∙ sym (read-on small .1) ∙ z)
           (sets _ l (e .leaves ∙ ap (λ (b : List Row). b ++ beyond rows) (hear-sets (boardOf rows) minute address count reply z)
-          ∙ ap (λ (r : Row). set (boardOf rows) place (withReading r (readingAt (r .settings) count (line reply)) minute) ++ beyond rows) (same small)))
+          ∙ ap (λ (r : Row). set (boardOf rows) place (withReading (heardAt r minute) (readingAt (r .settings) count (line reply)) minute) ++ beyond rows) (same small)))
       go false t true w =
           let small = by-fault w in
           let l = read-on small .0 in
           faulty (ap setsFault number-said ∙ w) (read-on small .2) (place-row rows address l)
           (sets _ l (e .leaves ∙ ap (λ (b : List Row). b ++ beyond rows) (hear-faults (boardOf rows) minute address count reply t w)
-          ∙ ap (λ (r : Row). set (boardOf rows) place (withFault r number named) ++ beyond rows) (same small)
-          ∙ ap (λ (h : Heard). set (boardOf rows) place (withFault (rowAt rows place) (h .number) (h .place)) ++ beyond rows) (sym (e .answers))))
+          ∙ ap (λ (r : Row). set (boardOf rows) place (withFault (heardAt r minute) number named) ++ beyond rows) (same small)
+          ∙ ap (λ (h : Heard). set (boardOf rows) place (withFault (heardAt (rowAt rows place) minute) (h .number) (h .place)) ++ beyond rows) (sym (e .answers))))
           (λ v. place-said ∙ no-place (boardOf rows) minute address count reply (ap (λ (n : ℕ). eqb n 7) (sym number-said) ∙ v))
       go false t false w =
           not-heard (ap (λ (n : ℕ). eqb n 0) number-said ∙ t) (ap setsFault number-said ∙ w) (unchanged rows after (e .leaves ∙ ap (λ (b : List Row). b ++ beyond rows) (hear-keeps (boardOf rows) minute address count reply t w)))

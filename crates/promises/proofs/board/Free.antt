@@ -16,7 +16,7 @@ use Rattle.frame.specs.Pick.{pick}
 use Rattle.frame.specs.Level.{levelOf, placeLost}
 use Rattle.frame.specs.Reply.{modeIn, replyFault, readingAt}
 use Rattle.board.specs.declared.Row.{Row}
-use Rattle.board.specs.Row.{isFree, inUse, freeRow, newRow, withReading, withFault, setsFault}
+use Rattle.board.specs.Row.{isFree, inUse, freeRow, newRow, withReading, withFault, setsFault, heardAt}
 use Rattle.board.specs.Rows.{boardOf, beyond, holds, placeBy, placeOf, placeFree, rowOf, onBoard, hasFree}
 use Rattle.board.specs.Calls.{enrolNumber, enrolRows, hearNumber, hearPlace, hearRows, heardAs, findNumber, removeRows, lookedAt, told, refusedLook}
 use Rattle.board.proofs.Places.{place-at}
@@ -141,14 +141,14 @@ module _ (x y : List Row) (alike : map cleared x ≡ map cleared y) where
 
       -- what a hearing leaves, by its number
       abbrev left : List Row → Row → ℕ → ℕ → List Row
-      left zs row i n = pick (eqb n 0) (set zs i (withReading row (readingAt (row .settings) count (line reply)) minute)) (pick (setsFault n) (set zs i (withFault row n (named row n))) zs)
+      left zs row i n = pick (eqb n 0) (set zs i (withReading (heardAt row minute) (readingAt (row .settings) count (line reply)) minute)) (pick (setsFault n) (set zs i (withFault (heardAt row minute) n (named row n))) zs)
 
       left-alike : (row : Row) (i j n : ℕ) → i ≡ j → map cleared (left x row i n) ≡ map cleared (left y row j n)
       left-alike row i j n e = go (eqb n 0) (setsFault n)
         where
-          go : (s t : Bool) → map cleared (pick s (set x i (withReading row (readingAt (row .settings) count (line reply)) minute)) (pick t (set x i (withFault row n (named row n))) x)) ≡ map cleared (pick s (set y j (withReading row (readingAt (row .settings) count (line reply)) minute)) (pick t (set y j (withFault row n (named row n))) y))
-          go true t = set-alike i j (withReading row (readingAt (row .settings) count (line reply)) minute) e
-          go false true = set-alike i j (withFault row n (named row n)) e
+          go : (s t : Bool) → map cleared (pick s (set x i (withReading (heardAt row minute) (readingAt (row .settings) count (line reply)) minute)) (pick t (set x i (withFault (heardAt row minute) n (named row n))) x)) ≡ map cleared (pick s (set y j (withReading (heardAt row minute) (readingAt (row .settings) count (line reply)) minute)) (pick t (set y j (withFault (heardAt row minute) n (named row n))) y))
+          go true t = set-alike i j (withReading (heardAt row minute) (readingAt (row .settings) count (line reply)) minute) e
+          go false true = set-alike i j (withFault (heardAt row minute) n (named row n)) e
           go false false = alike
 
       hear-alike : map cleared (hearRows x minute address count reply) ≡ map cleared (hearRows y minute address count reply)
@@ -159,7 +159,7 @@ module _ (x y : List Row) (alike : map cleared x ≡ map cleared y) where
           ∙ ap (λ (n : ℕ). map cleared (left y (rowOf address y) (placeOf address y) n)) same-hear
 
 -- The board after a call is what the call left of the board.
-board-of : (rows now : List Row) → length now ≡ length (boardOf rows) → boardOf (now ++ beyond rows) ≡ now
+pub board-of : (rows now : List Row) → length now ≡ length (boardOf rows) → boardOf (now ++ beyond rows) ≡ now
 board-of rows now e = go (ltb (length rows) 30) refl
   where
     few : length now ≡ min 30 (length rows)
@@ -192,11 +192,11 @@ remove-length : (address : ℕ) (board : List Row) → length (removeRows board 
 unfolding removeRows
 remove-length address board = pick-length (eqb (findNumber board address) 0) (set board (placeOf address board) freeRow) board (length-set board (placeOf address board) freeRow)
 
-hear-length : (minute address count : ℕ) (reply : List ℕ) (board : List Row) → length (hearRows board minute address count reply) ≡ length board
+pub hear-length : (minute address count : ℕ) (reply : List ℕ) (board : List Row) → length (hearRows board minute address count reply) ≡ length board
 unfolding hearRows
 hear-length minute address count reply board = go (eqb (hearNumber board address count reply) 0) (setsFault (hearNumber board address count reply))
   where
-    go : (s t : Bool) → length (pick s (set board (placeOf address board) (withReading (rowOf address board) (readingAt (rowOf address board .settings) count (line reply)) minute)) (pick t (set board (placeOf address board) (withFault (rowOf address board) (hearNumber board address count reply) (hearPlace board address count reply))) board)) ≡ length board
+    go : (s t : Bool) → length (pick s (set board (placeOf address board) (withReading (heardAt (rowOf address board) minute) (readingAt (rowOf address board .settings) count (line reply)) minute)) (pick t (set board (placeOf address board) (withFault (heardAt (rowOf address board) minute) (hearNumber board address count reply) (hearPlace board address count reply))) board)) ≡ length board
     go true t = length-set board _ _
     go false true = length-set board _ _
     go false false = refl

@@ -134,7 +134,7 @@ remove-twice rows after address answer (gave z a p e) once = fewer-set rows afte
 empty-twice : (start : List Row) → Empty start → NoneTwice start
 empty-twice start empty i j address p q h k = absurd (in-use-free (rowAt start i) (empty i p) (h .used))
 
-none-twice : (start now : List Row) → Empty start → History start now → NoneTwice now
+pub none-twice : (start now : List Row) → Empty start → History start now → NoneTwice now
 none-twice start now empty begun = empty-twice start empty
 none-twice start now empty (enrolled {rows} settings address answer h e) = enrol-twice rows now settings address answer (enrol-done rows settings address answer now e) (none-twice start rows empty h)
 none-twice start now empty (heard {rows} minute address count reply answer h e) = hear-twice rows now minute address count reply answer (hear-done rows minute address count reply answer now e) (none-twice start rows empty h)

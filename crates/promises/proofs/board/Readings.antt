@@ -14,22 +14,22 @@ use Rattle.frame.specs.Reply.{replyFault, readingAt}
 use Rattle.board.specs.declared.Heard.{Heard}
 use Rattle.board.specs.declared.Looked.{Looked}
 use Rattle.board.specs.declared.Row.{Row}
-use Rattle.board.specs.Row.{none, good, isFree, lastOf, freeRow, newRow, withReading, withFault, placeTold}
+use Rattle.board.specs.Row.{none, good, isFree, lastOf, never, at, more, heardAt, heardOf, freeRow, newRow, withReading, withFault, placeTold}
 use Rattle.board.specs.Rows.{boardOf, placeOf, placeFree}
 use Rattle.frame.specs.Pick.{pick}
-use Rattle.board.specs.Calls.{Hears, LooksUp, heardAs, told, refusedLook, lastTold}
+use Rattle.board.specs.Calls.{Hears, LooksUp, heardAs, told, refusedLook, lastTold, minuteTold}
 use Rattle.board.proofs.Faults.{sets-by, not-0}
 use Rattle.board.proofs.Numbers.{find-11, find-17, find-0}
 use Rattle.promises.specs.board.Calls.{rowAt, OnBoard, Holds, IsRowOf, Unknown, OnlyRow, Tells}
 use Rattle.promises.specs.board.Readings.{Reads, BoardReadings}
 use Rattle.promises.proofs.board.Places.{row-on, row-is, place-row, unknown-off}
 use Rattle.promises.proofs.board.After.{look-refused, look-told, read-is, reads}
-use Rattle.promises.proofs.board.Told.{tells, reading-held, fault-keeps}
+use Rattle.promises.proofs.board.Told.{tells, reading-held, good-minute, fault-keeps, fault-minute}
 use Rattle.promises.proofs.Cases.{by-lt}
 use Rattle.promises.proofs.board.Done.{set-only, off-unknown, Enrolled, not-enrolled, took, enrol-done, Removed, not-removed, gave, remove-done, HearDone, not-heard, faulty, good as well-heard, hear-done}
 
-never : {A : Type 0} → (n : ℕ) → eqb n 0 ≡ false → n ≡ 0 → A
-never n e z = absurd (eqb-false n 0 e z)
+not-zero : {A : Type 0} → (n : ℕ) → eqb n 0 ≡ false → n ≡ 0 → A
+not-zero n e z = absurd (eqb-false n 0 e z)
 
 differs : {b : Bool} → b ≡ true → b ≡ false → ⊥
 differs e f = let z : _≡_ {A = Bool} true false = sym e ∙ f in let bad : _≡_ {A = ℕ} 0 1 = cc in omega arith
@@ -46,13 +46,13 @@ module _ (rows after : List Row) (address i : ℕ) (row : Row) (only : OnlyRow r
 
 -- What a look at the row of an address answers.
 module _ (rows : List Row) (address : ℕ) (answer : Looked) (e : LooksUp rows address answer) where
-  looked-row : address ≤ 999 → (i : ℕ) → IsRowOf rows address i → answer ≡ told (rowAt rows i)
+  pub looked-row : address ≤ 999 → (i : ℕ) → IsRowOf rows address i → answer ≡ told (rowAt rows i)
   looked-row a i p = e .answers ∙ look-told (boardOf rows) address (find-0 (boardOf rows) address a (row-on rows address i p)) ∙ ap told (row-is rows address i p)
 
-  looked-unknown : address ≤ 999 → Unknown rows address → answer ≡ refusedLook 17
+  pub looked-unknown : address ≤ 999 → Unknown rows address → answer ≡ refusedLook 17
   looked-unknown a u = e .answers ∙ look-refused (boardOf rows) address 17 (find-17 (boardOf rows) address a (unknown-off rows address u)) refl
 
-  looked-bad : 999 < address → answer ≡ refusedLook 11
+  pub looked-bad : 999 < address → answer ≡ refusedLook 11
   looked-bad a = e .answers ∙ look-refused (boardOf rows) address 11 (find-11 (boardOf rows) address a) refl
 
 -- The row of an address, by the row that was set: it was that row, or it is another.
@@ -101,13 +101,13 @@ module _ (rows after : List Row) (address : ℕ) where
 -- What a look tells after the row of the address alone was set to one that holds it.
 module _ (rows after : List Row) (address i : ℕ) (row : Row) (answer : Looked) where
   told-set : OnlyRow rows i row after → address ≤ 999 → OnBoard rows i → Holds row address → ((j : ℕ) → j < i → Holds (rowAt rows j) address → ⊥) → LooksUp after address answer
-      → (answer .number ≡ 0) × (answer .fault ≡ row .fault) × (answer .settings ≡ row .settings) × (lastTold answer ≡ lastOf row) × (answer .place ≡ placeTold row)
+      → (answer .number ≡ 0) × (answer .fault ≡ row .fault) × (answer .settings ≡ row .settings) × (lastTold answer ≡ lastOf row) × (answer .place ≡ placeTold row) × (answer .faulty ≡ row .faulty) × (minuteTold answer ≡ heardOf row)
   told-set only a p h first e =
       let t : Tells (rowAt after i) answer = tells (rowAt after i) answer (looked-row after address answer e a i (still rows after address i row only p h first)) in
-      (t .number, t .fault ∙ ap (λ (r : Row). r .fault) (only .own), t .settings ∙ ap (λ (r : Row). r .settings) (only .own), t .reading ∙ ap lastOf (only .own), t .place ∙ ap placeTold (only .own))
+      (t .number, t .fault ∙ ap (λ (r : Row). r .fault) (only .own), t .settings ∙ ap (λ (r : Row). r .settings) (only .own), t .reading ∙ ap lastOf (only .own), t .place ∙ ap placeTold (only .own), t .faulty ∙ ap (λ (r : Row). r .faulty) (only .own), t .heard ∙ ap heardOf (only .own))
 
 -- A hearing that answered 0.
-module _ (rows after : List Row) (minute address count : ℕ) (reply : List ℕ) (answer : Looked) (looks : LooksUp after address answer) where
+module _ (rows after : List Row) (minute address count named : ℕ) (reply : List ℕ) (answer : Looked) (looks : LooksUp after address answer) where
   abbrev place : ℕ
   place = placeOf address (boardOf rows)
 
@@ -121,27 +121,32 @@ module _ (rows after : List Row) (minute address count : ℕ) (reply : List ℕ)
     number : answer .number ≡ 0
     fault : answer .fault ≡ 0
     none-named : answer .place ≡ 0
+    none-faulty : answer .faulty ≡ 0
+    now-heard : minuteTold answer ≡ at minute
     settings : answer .settings ≡ row .settings
     last : lastTold answer ≡ good reading minute
     frame : replyFault (row .settings) address count reply ≡ 0
 
-  good-by : HearDone rows minute address count reply (heardAs 0 0) after → GoodLook
-  good-by (not-heard z l e) = never 0 z refl
+  good-by : HearDone rows minute address count reply (heardAs 0 named) after → GoodLook
+  good-by (not-heard z l e) = not-zero 0 z refl
   good-by (faulty l a p e n) = absurd (differs l not-0)
   good-by (well-heard z a p f e) =
-      let only : OnlyRow rows place (withReading row reading minute) after = set-only rows after place (withReading row reading minute) (p .place) e in
-      let t = told-set rows after address place (withReading row reading minute) answer only a (p .place) (record { used = p .here .used; same = p .here .same }) (p .first) looks in
-      record { number = t .0; fault = t .1; none-named = t .4; settings = t .2; last = t .3 ∙ reading-held row reading minute; frame = f }
+      let next : Row = withReading (heardAt row minute) reading minute in
+      let only : OnlyRow rows place next after = set-only rows after place next (p .place) e in
+      let t = told-set rows after address place next answer only a (p .place) (record { used = p .here .used; same = p .here .same }) (p .first) looks in
+      record { number = t .0; fault = t .1; none-named = t .4; none-faulty = t .5; now-heard = t .6 ∙ good-minute row reading minute; settings = t .2; last = t .3 ∙ reading-held (heardAt row minute) reading minute; frame = f }
 
-  module _ (hears : Hears rows minute address count reply (heardAs 0 0) after) where
+  module _ (hears : Hears rows minute address count reply (heardAs 0 named) after) where
     good-look : GoodLook
-    good-look = good-by (hear-done rows minute address count reply (heardAs 0 0) after hears)
+    good-look = good-by (hear-done rows minute address count reply (heardAs 0 named) after hears)
 
-    heard-then-looked : (answer .number ≡ 0) × (answer .fault ≡ 0) × (answer .place ≡ 0) × ((read : Reads (answer .settings) address count reply) → lastTold answer ≡ good (read .reading) minute)
+    heard-then-looked : (answer .number ≡ 0) × (answer .fault ≡ 0) × (answer .place ≡ 0) × (answer .faulty ≡ 0) × (minuteTold answer ≡ at minute) × ((read : Reads (answer .settings) address count reply) → lastTold answer ≡ good (read .reading) minute)
     heard-then-looked = (
       good-look .number,
       good-look .fault,
       good-look .none-named,
+      good-look .none-faulty,
+      good-look .now-heard,
       λ read. good-look .last
           ∙ ap (λ (r : Reading). good r minute) (ap (λ (s : ℕ). readingAt s count (line reply)) (sym (good-look .settings)) ∙ sym (read-is (answer .settings) address count reply (read .reading) (read .accepted) .1)),
     )
@@ -157,19 +162,20 @@ module _ (rows after : List Row) (minute address count fault place : ℕ) (reply
   told-place true v n = refl
   told-place false v n = sym (n v)
 
-  kept-by : HearDone rows minute address count reply (heardAs fault place) after → (answer .number ≡ 0) × (answer .fault ≡ fault) × (answer .place ≡ place) × (answer .settings ≡ before .settings) × (lastTold answer ≡ lastTold before)
+  kept-by : HearDone rows minute address count reply (heardAs fault place) after → (answer .number ≡ 0) × (answer .fault ≡ fault) × (answer .place ≡ place) × (answer .faulty ≡ more (before .faulty)) × (minuteTold answer ≡ at minute) × (answer .settings ≡ before .settings) × (lastTold answer ≡ lastTold before)
   kept-by (not-heard z l e) = absurd (differs (sets-by fault some most) l)
   kept-by (well-heard z a p f e) = absurd (omega arith)
   kept-by (faulty l a p e n) =
       let i : ℕ = placeOf address (boardOf rows) in
-      let only : OnlyRow rows i (withFault (rowAt rows i) fault place) after = set-only rows after i (withFault (rowAt rows i) fault place) (p .place) e in
-      let t = told-set rows after address i (withFault (rowAt rows i) fault place) answer only a (p .place) (record { used = p .here .used; same = p .here .same }) (p .first) looks in
+      let next : Row = withFault (heardAt (rowAt rows i) minute) fault place in
+      let only : OnlyRow rows i next after = set-only rows after i next (p .place) e in
+      let t = told-set rows after address i next answer only a (p .place) (record { used = p .here .used; same = p .here .same }) (p .first) looks in
       let b : Tells (rowAt rows i) before = tells (rowAt rows i) before (looked-row rows address before looked a i p) in
-      (t .0, t .1, t .4 ∙ told-place (eqb fault 7) refl n, t .2 ∙ sym (b .settings), t .3 ∙ fault-keeps (rowAt rows i) fault place ∙ sym (b .reading))
+      (t .0, t .1, t .4 ∙ told-place (eqb fault 7) refl n, t .5 ∙ ap more (sym (b .faulty)), t .6 ∙ fault-minute (rowAt rows i) minute fault place some, t .2 ∙ sym (b .settings), t .3 ∙ fault-keeps (heardAt (rowAt rows i) minute) fault place ∙ sym (b .reading))
 
 -- An enrolment that answered 0.
-started-by : (rows after : List Row) (settings address : ℕ) (answer : Looked) → LooksUp after address answer → Enrolled rows settings address 0 after → (answer .number ≡ 0) × (answer .fault ≡ 0) × (answer .settings ≡ settings) × (lastTold answer ≡ none) × (answer .place ≡ 0)
-started-by rows after settings address answer looks (not-enrolled z e) = never 0 z refl
+started-by : (rows after : List Row) (settings address : ℕ) (answer : Looked) → LooksUp after address answer → Enrolled rows settings address 0 after → (answer .number ≡ 0) × (answer .fault ≡ 0) × (answer .settings ≡ settings) × (lastTold answer ≡ none) × (answer .place ≡ 0) × (answer .faulty ≡ 0) × (minuteTold answer ≡ never)
+started-by rows after settings address answer looks (not-enrolled z e) = not-zero 0 z refl
 started-by rows after settings address answer looks (took z a u p e) =
     let i : ℕ = placeFree (boardOf rows) in
     let only : OnlyRow rows i (newRow settings address) after = set-only rows after i (newRow settings address) (p .place) e in
@@ -187,7 +193,7 @@ module _ (rows after : List Row) (address other : ℕ) (ne : other ≡ address �
   hear-by : (minute count : ℕ) (reply : List ℕ) (answer : Heard) → HearDone rows minute other count reply answer after → Apart rows after address
   hear-by minute count reply answer (not-heard z l e) = apart-same rows after address e
   hear-by minute count reply answer (faulty l a p e n) =
-      apart-set rows after address _ _ (set-only rows after _ _ (p .place) e) (not-both (rowAt rows (placeOf other (boardOf rows))) (p .here .same)) (not-both (withFault (rowAt rows (placeOf other (boardOf rows))) (answer .number) (answer .place)) (p .here .same))
+      apart-set rows after address _ _ (set-only rows after _ _ (p .place) e) (not-both (rowAt rows (placeOf other (boardOf rows))) (p .here .same)) (not-both (withFault (heardAt (rowAt rows (placeOf other (boardOf rows))) minute) (answer .number) (answer .place)) (p .here .same))
   hear-by minute count reply answer (well-heard z a p f e) =
       apart-set rows after address _ _ (set-only rows after _ _ (p .place) e) (not-both (rowAt rows (placeOf other (boardOf rows))) (p .here .same)) (not-both _ (p .here .same))
 
@@ -204,8 +210,8 @@ module _ (rows after : List Row) (address other : ℕ) (ne : other ≡ address �
 pub board-readings : BoardReadings
 board-readings =
     record {
-      heard = λ rows after minute address count reply told hears looks. heard-then-looked rows after minute address count reply told looks hears;
-      accepted = λ rows after minute address count reply told hears looks. was-accepted rows after minute address count reply told looks hears;
+      heard = λ rows after minute address count place reply told hears looks. heard-then-looked rows after minute address count place reply told looks hears;
+      accepted = λ rows after minute address count place reply told hears looks. was-accepted rows after minute address count place reply told looks hears;
       kept = λ rows after minute address count fault place reply before told some most looked hears looks. kept-by rows after minute address count fault place reply before told some most looked looks (hear-done rows minute address count reply (heardAs fault place) after hears);
       started = λ rows after settings address told enrols looks. started-by rows after settings address told looks (enrol-done rows settings address 0 after enrols);
       hear-apart = λ rows after minute address other count reply answer before told ne looked hears looks. apart-look rows after address (hear-by rows after address other ne minute count reply answer (hear-done rows minute other count reply answer after hears)) before told looked looks;

@@ -12,8 +12,8 @@ use Rattle.frame.specs.Reply.{ReadsReply}
 use Rattle.board.specs.declared.Heard.{Heard}
 use Rattle.board.specs.declared.Looked.{Looked}
 use Rattle.board.specs.declared.Row.{Row}
-use Rattle.board.specs.Row.{isFree, inUse, lastOf, freeRow, newRow, withReading, withFault, placeTold}
-use Rattle.board.specs.Calls.{Enrols, Hears, Removes, LooksUp, heardAs, refusedLook, lastTold}
+use Rattle.board.specs.Row.{isFree, inUse, lastOf, freeRow, newRow, withReading, withFault, placeTold, heardAt, heardOf}
+use Rattle.board.specs.Calls.{Enrols, Hears, Removes, LooksUp, heardAs, refusedLook, lastTold, minuteTold}
 
 -- The row at a place, counted from 0; a free row past the last.
 abbrev pub rowAt : List Row → ℕ → Row
@@ -76,7 +76,8 @@ pub record EnrolPromise (rows : List Row) (settings address answer : ℕ) (after
   pub enrolled : settings ≤ 15 → address ≤ 999 → Unknown rows address → (i : ℕ) → IsFirstFree rows i → (answer ≡ 0) × OnlyRow rows i (newRow settings address) after
 
 -- Hearing: 11, 14, 17, 10 by the row's own settings, and no row changes; 1 to 9, and of the row only the fault is set, 7 with the place of the
--- unreadable digit, which is answered too; or 0, and its reading, minute and fault 0 are set.
+-- unreadable digit, which is answered too, and one faulty reply more is counted; or 0, and its reading, minute and fault 0 are set, and the count is
+-- 0. In both cases the row was last heard at this minute.
 pub record HearPromise (rows : List Row) (minute address count : ℕ) (reply : List ℕ) (answer : Heard) (after : List Row) : Type 0 where
   pub bad-address : 999 < address → (answer ≡ heardAs 11 0) × (after ≡ rows)
   pub bad-form : address ≤ 999 → formed count reply ≡ false → (answer ≡ heardAs 14 0) × (after ≡ rows)
@@ -84,13 +85,13 @@ pub record HearPromise (rows : List Row) (minute address count : ℕ) (reply : L
   pub bad-settings : address ≤ 999 → formed count reply ≡ true → (i : ℕ) → IsRowOf rows address i → 15 < rowAt rows i .settings → (answer ≡ heardAs 10 0) × (after ≡ rows)
   pub faulty : address ≤ 999 → formed count reply ≡ true → (i : ℕ) → IsRowOf rows address i → rowAt rows i .settings ≤ 15
       → (fault : ℕ) → ReadsReply (rowAt rows i .settings) address count reply (Refused fault)
-      → (answer ≡ heardAs fault 0) × (1 ≤ fault) × (fault ≤ 9) × OnlyRow rows i (withFault (rowAt rows i) fault 0) after
+      → (answer ≡ heardAs fault 0) × (1 ≤ fault) × (fault ≤ 9) × OnlyRow rows i (withFault (heardAt (rowAt rows i) minute) fault 0) after
   pub unreadable : address ≤ 999 → formed count reply ≡ true → (i : ℕ) → IsRowOf rows address i
       → (place : ℕ) → ReadsReply (rowAt rows i .settings) address count reply (Unreadable place)
-      → (answer ≡ heardAs 7 place) × OnlyRow rows i (withFault (rowAt rows i) 7 place) after
+      → (answer ≡ heardAs 7 place) × OnlyRow rows i (withFault (heardAt (rowAt rows i) minute) 7 place) after
   pub heard : address ≤ 999 → formed count reply ≡ true → (i : ℕ) → IsRowOf rows address i
       → (r : Reading) → ReadsReply (rowAt rows i .settings) address count reply (Read r)
-      → (answer ≡ heardAs 0 0) × OnlyRow rows i (withReading (rowAt rows i) r minute) after
+      → (answer ≡ heardAs 0 0) × OnlyRow rows i (withReading (heardAt (rowAt rows i) minute) r minute) after
 
 -- Removing: 11, 17, and no row changes; or 0, and the row is free, all zeros.
 pub record RemovePromise (rows : List Row) (address answer : ℕ) (after : List Row) : Type 0 where
@@ -106,6 +107,8 @@ pub record Tells (row : Row) (answer : Looked) : Type 0 where
   pub fault : answer .fault ≡ row .fault
   -- Beside fault 7 the row's place, and none beside any other fault, whatever stands in the row.
   pub place : answer .place ≡ placeTold row
+  pub faulty : answer .faulty ≡ row .faulty
+  pub heard : minuteTold answer ≡ heardOf row
   pub reading : lastTold answer ≡ lastOf row
 
 -- Looking: 11, 17, and the number alone is answered; or what stands in the row.

@@ -2,6 +2,7 @@
 use Rattle.promises.specs.board.Calls.{BoardCalls, BoardCases, BoardOneOutcome}
 use Rattle.promises.specs.board.Readings.{BoardReadings}
 use Rattle.promises.specs.board.History.{BoardHistory}
+use Rattle.promises.specs.board.Since.{BoardSince}
 use Rattle.promises.specs.board.Free.{BoardFree}
 
 pub record BoardPromises : Type 0 where
@@ -10,4 +11,5 @@ pub record BoardPromises : Type 0 where
   pub one-outcome : BoardOneOutcome
   pub readings : BoardReadings
   pub history : BoardHistory
+  pub since : BoardSince
   pub free : BoardFree

@@ -8,8 +8,8 @@ use Rattle.frame.specs.Reply.{ReadsReply}
 use Rattle.board.specs.declared.Heard.{Heard}
 use Rattle.board.specs.declared.Looked.{Looked}
 use Rattle.board.specs.declared.Row.{Row}
-use Rattle.board.specs.Row.{none, good}
-use Rattle.board.specs.Calls.{Enrols, Hears, Removes, LooksUp, heardAs, lastTold}
+use Rattle.board.specs.Row.{none, good, never, at, more}
+use Rattle.board.specs.Calls.{Enrols, Hears, Removes, LooksUp, heardAs, lastTold, minuteTold}
 
 -- A reading that the frame makes of this reply, by these settings, for this address.
 pub record Reads (settings address count : ℕ) (reply : List ℕ) : Type 0 where
@@ -17,18 +17,19 @@ pub record Reads (settings address count : ℕ) (reply : List ℕ) : Type 0 wher
   pub accepted : ReadsReply settings address count reply (Read reading)
 
 pub record BoardReadings : Type 0 where
-  -- A hearing that answered 0, then a look: the reading of that reply, by the row's settings, with its minute, and fault 0.
-  pub heard : (rows after : List Row) (minute address count : ℕ) (reply : List ℕ) (told : Looked) → Hears rows minute address count reply (heardAs 0 0) after → LooksUp after address told
-      → (told .number ≡ 0) × (told .fault ≡ 0) × (told .place ≡ 0) × ((read : Reads (told .settings) address count reply) → lastTold told ≡ good (read .reading) minute)
+  -- A hearing that answered 0, then a look: the reading of that reply, by the row's settings, with its minute, fault 0, no faulty
+  -- reply counted, and this minute as the one it was last heard.
+  pub heard : (rows after : List Row) (minute address count place : ℕ) (reply : List ℕ) (told : Looked) → Hears rows minute address count reply (heardAs 0 place) after → LooksUp after address told
+      → (told .number ≡ 0) × (told .fault ≡ 0) × (told .place ≡ 0) × (told .faulty ≡ 0) × (minuteTold told ≡ at minute) × ((read : Reads (told .settings) address count reply) → lastTold told ≡ good (read .reading) minute)
   -- There is such a reading.
-  pub accepted : (rows after : List Row) (minute address count : ℕ) (reply : List ℕ) (told : Looked) → Hears rows minute address count reply (heardAs 0 0) after → LooksUp after address told → Reads (told .settings) address count reply
-  -- A look, a hearing that answered 1 to 9, and a look again: the same settings and the same last good reading, the fault, and the place
-  -- that was answered with it.
+  pub accepted : (rows after : List Row) (minute address count place : ℕ) (reply : List ℕ) (told : Looked) → Hears rows minute address count reply (heardAs 0 place) after → LooksUp after address told → Reads (told .settings) address count reply
+  -- A look, a hearing that answered 1 to 9, and a look again: the same settings and the same last good reading, the fault, the place that was
+  -- answered with it, one faulty reply more, and this minute as the one it was last heard.
   pub kept : (rows after : List Row) (minute address count fault place : ℕ) (reply : List ℕ) (before told : Looked) → 1 ≤ fault → fault ≤ 9 → LooksUp rows address before → Hears rows minute address count reply (heardAs fault place) after → LooksUp after address told
-      → (told .number ≡ 0) × (told .fault ≡ fault) × (told .place ≡ place) × (told .settings ≡ before .settings) × (lastTold told ≡ lastTold before)
+      → (told .number ≡ 0) × (told .fault ≡ fault) × (told .place ≡ place) × (told .faulty ≡ more (before .faulty)) × (minuteTold told ≡ at minute) × (told .settings ≡ before .settings) × (lastTold told ≡ lastTold before)
   -- A row that was enrolled has no reading and fault 0.
   pub started : (rows after : List Row) (settings address : ℕ) (told : Looked) → Enrols rows settings address 0 after → LooksUp after address told
-      → (told .number ≡ 0) × (told .fault ≡ 0) × (told .settings ≡ settings) × (lastTold told ≡ none) × (told .place ≡ 0)
+      → (told .number ≡ 0) × (told .fault ≡ 0) × (told .settings ≡ settings) × (lastTold told ≡ none) × (told .place ≡ 0) × (told .faulty ≡ 0) × (minuteTold told ≡ never)
   -- What the calls of another transmitter do leaves its look as it was.
   pub hear-apart : (rows after : List Row) (minute address other count : ℕ) (reply : List ℕ) (answer : Heard) (before told : Looked) → (other ≡ address → ⊥) → LooksUp rows address before → Hears rows minute other count reply answer after → LooksUp after address told → told ≡ before
   pub enrol-apart : (rows after : List Row) (settings address other answer : ℕ) (before told : Looked) → (other ≡ address → ⊥) → LooksUp rows address before → Enrols rows settings other answer after → LooksUp after address told → told ≡ before

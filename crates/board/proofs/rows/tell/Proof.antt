@@ -13,10 +13,14 @@ refused-look-requires c κs = search needs
 place-told-requires : tie.Need-place-told-requires
 place-told-requires c κs = search needs
 
+heard-told-requires : tie.Need-heard-told-requires
+heard-told-requires c κs = search needs
+
 returns : tie.Need-returns
 returns c =
-    let p = c .before .before in
-    simp (p .before .refused-look .ensures, p .place-told .ensures) (sym (told-none (p .before .before .args .row) (c .if1 .taken)))
+    let h = c .before .before in
+    let p = h .before in
+    simp (p .before .refused-look .ensures, p .place-told .ensures, h .heard-told .ensures) (sym (told-none (p .before .before .args .row) (c .if1 .taken)))
 
 temperature-by-requires : tie.Need-temperature-by-requires
 temperature-by-requires c κs = search needs
@@ -39,10 +43,11 @@ returns-2 c =
     let k = m .before .before in
     let d = k .before in
     let t = d .before in
-    let p = t .before .before .before .before in
+    let h = t .before .before .before .before in
+    let p = h .before in
     let n = p .before in
     let row = n .before .args .row in
-    simp (n .refused-look .ensures, p .place-told .ensures, t .temperature-by .ensures, toZ-ofZ {w = w16} {z = row .tenths} (record { sfits = t .before .struct-told .given .1 .1 .1 .0 .1 }), d .tenths-of .ensures, k .kind-of .ensures, m .marked .ensures, c .marked2 .ensures) (sym (told-some row (t .before .before .if1 .left)))
+    simp (n .refused-look .ensures, p .place-told .ensures, h .heard-told .ensures, t .temperature-by .ensures, toZ-ofZ {w = w16} {z = row .tenths} (record { sfits = t .before .struct-told .given .1 .1 .1 .0 .1 }), d .tenths-of .ensures, k .kind-of .ensures, m .marked .ensures, c .marked2 .ensures) (sym (told-some row (t .before .before .if1 .left)))
 
 pub tell-spec : {M : Type 1} → statement M
 tell-spec =
@@ -50,6 +55,7 @@ tell-spec =
     (tie.spec
     refused-look-requires
     place-told-requires
+    heard-told-requires
     returns
     temperature-by-requires
     tenths-of-requires

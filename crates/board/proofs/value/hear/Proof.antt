@@ -4,7 +4,9 @@ use Rattle.board.proofs.Faults.{not-11, not-14, not-17}
 use Rattle.board.proofs.Numbers.{hear-11, hear-14, hear-17}
 use borrow.Author.Tests.{not-true, not-false}
 use native.Mathlib.Omega.{arith}
-use mathlib.Core.Path.{refl, sym, _∙_}
+use Rattle.board.specs.declared.Row.{Row}
+use Rattle.board.specs.inside.ByValue.{heardChange}
+use mathlib.Core.Path.{refl, sym, _∙_, ap}
 use borrow.Author.Needs.{needs}
 use Rattle.board.proofs.value.hear.Statement.{statement}
 use Rattle.board.proofs.value.hear.Tie as tie
@@ -38,17 +40,21 @@ returns-3 c =
 read-reply-requires : tie.Need-read-reply-requires
 read-reply-requires c κs = search needs
 
+heard-at-requires : tie.Need-heard-at-requires
+heard-at-requires c κs = search needs
+
 heard-requires : tie.Need-heard-requires
 heard-requires c κs = search needs
 
 returns-4 : tie.Need-returns-4
 returns-4 c =
-    let a = c .before in
+    let h = c .before in
+    let a = h .before in
     let x = a .before .before in
     let t = x .before .before in
     let f = t .before in
     let s = f .before .before .before in
-    hears-on _ _ _ _ _ _ (λ board few finds. hear-changes board few _ _ _ _ _ (s .args .f) (a .read-reply .result) finds (f .before .if1 .left) (sym (f .formed .ensures) ∙ not-false _ (t .if2 .left)) (x .if3 .left) (a .read-reply .ensures .answers) (c .heard .ensures))
+    hears-on _ _ _ _ _ _ (λ board few finds. hear-changes board few _ _ _ _ _ (s .args .f) (a .read-reply .result) finds (f .before .if1 .left) (sym (f .formed .ensures) ∙ not-false _ (t .if2 .left)) (x .if3 .left) (a .read-reply .ensures .answers) (c .heard .ensures ∙ ap (λ (y : Row). heardChange (s .args .f .at) y (s .args .minute) (a .read-reply .result)) (h .heard-at .ensures)))
 
 pub hear-spec : {M : Type 1} → statement M
 hear-spec =
@@ -62,5 +68,6 @@ hear-spec =
     refused-requires-3
     returns-3
     read-reply-requires
+    heard-at-requires
     heard-requires
     returns-4)
