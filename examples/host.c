@@ -1,7 +1,7 @@
 /*
- * A small host over libsisalcove.a: a month at a depot with two made-up transmitters. Twice a day it polls both, saves each reply on the
- * card and lets the board hear it. One reply is damaged on the line, one does not come, once the power fails in the middle of a save,
- * and once right after its last store. At the end it prints the listing of the card and how the transmitters stand on the board.
+ * A small host over libsisalcove.a: a month at a depot with two made-up transmitters. Twice a day it polls both, hears each reply from
+ * samples of the two lines, saves it on the card and lets the board hear it. One reply is damaged on the line, one does not come, one is
+ * spoiled by a spike and asked for again, once the power fails in the middle of a save, and once right after its last store. At the end it prints the listing of the card and how the transmitters stand on the board.
  * examples/desk.c is a day of the board's own calls.
  *
  * ./build-library && examples/run
@@ -65,6 +65,60 @@ static struct line answer(const struct transmitter *t, const uint8_t poll[SISAL_
     return line;
 }
 
+/* ---- the two lines --------------------------------------------------------------------------------------------------------------- */
+
+/* In samples: a pulse is drawn 4 to 7 long, the idle after it 5 to 9, and a message ends in GAP of idle. */
+enum { LEAST = 3, MOST = 8, GAP = 40, SAMPLES = 2048 };
+
+struct sampled {
+    uint8_t samples[SAMPLES];
+    size_t count;
+};
+
+static void draw(struct sampled *lines, uint8_t sample, size_t times)
+{
+    for (size_t i = 0; i < times && lines->count < SAMPLES; i++)
+        lines->samples[lines->count++] = sample;
+}
+
+/* What a sampler sees of a reply: each bit a pulse on its line, none as long as the last. Where nothing comes there is idle alone. */
+static struct sampled sample(const struct line *line, int spike)
+{
+    struct sampled lines = {{0}, 0};
+    draw(&lines, SISAL_SAMPLE_IDLE, 25);
+    for (size_t i = 0; i < line->count; i++) {
+        int mark = line->bytes[i / 8] >> (7 - i % 8) & 1;
+        draw(&lines, mark ? SISAL_SAMPLE_MARK : SISAL_SAMPLE_SPACE, 4 + i % 4);
+        draw(&lines, SISAL_SAMPLE_IDLE, 5 + i % 5);
+    }
+    draw(&lines, SISAL_SAMPLE_IDLE, GAP);
+    if (spike)
+        lines.samples[90] = SISAL_SAMPLE_BOTH;
+    return lines;
+}
+
+/* Hears samples in uneven batches, as a driver might have them, up to the first message or report. Answers 0, or 21 or 22. */
+static uint8_t hear(const struct sampled *lines, struct line *line)
+{
+    struct sisal_lines_so_far so_far = {0, 0, 0, 0, 0};
+    size_t batch = 1;
+    memset(line, 0, sizeof *line);
+    for (size_t at = 0; at < lines->count;) {
+        size_t have = batch < lines->count - at ? batch : lines->count - at;
+        struct sisal_lines_told told = sisal_hear_lines(so_far, LEAST, MOST, GAP, lines->samples + at, have);
+        want(told.number != SISAL_FAULT_TIMING, "bad timing numbers");
+        if (told.number != SISAL_OK || told.count > 0) {
+            line->count = told.count;
+            memcpy(line->bytes, told.message, bytes_of(line));
+            return told.number;
+        }
+        so_far = told.so_far;
+        at += told.taken;
+        batch = batch * 5 % 97 + 1;
+    }
+    return SISAL_OK;
+}
+
 /* ---- the host -------------------------------------------------------------------------------------------------------------------- */
 
 static uint8_t card[SISAL_SHEET_BYTES];
@@ -78,6 +132,28 @@ static void power_on(void)
         want(sisal_board_enrol(board, SISAL_ROWS, site[i].settings, site[i].address) == SISAL_OK, "not enrolled");
 }
 
+/* Polls one transmitter and hears its reply; a reply that was spoiled on the lines is asked for once more. */
+static struct line ask(const struct transmitter *t, uint32_t minute, int day, int dusk)
+{
+    uint8_t poll[SISAL_POLL_BYTES];
+    want(sisal_write_poll(t->address, 0, 0, poll, sizeof poll).number == SISAL_OK, "no poll");
+    struct line sent = answer(t, poll, day, dusk);
+    if (t->address == 310 && day == 4 && dusk)
+        sent.bytes[2] ^= 0x10; /* a bit turned over by the transmitter */
+    if (t->address == 7 && day == 11 && !dusk)
+        sent.count = 0; /* nothing came */
+
+    struct line line;
+    struct sampled lines = sample(&sent, t->address == 310 && day == 20 && !dusk);
+    uint8_t number = hear(&lines, &line);
+    if (number != SISAL_OK) {
+        printf("minute %u: spoiled on the lines, number %u; asked again\n", minute, number);
+        lines = sample(&sent, 0);
+        want(hear(&lines, &line) == SISAL_OK, "spoiled again");
+    }
+    return line;
+}
+
 /*
  * Polls one transmitter and saves what came, with power for so many stores; then the board hears it, if the power held. A save is cut
  * where it made fewer stores than its record has: power for just so many is enough to close the record.
@@ -85,15 +161,7 @@ static void power_on(void)
 static void poll_one(const struct transmitter *t, int day, int dusk, size_t stores)
 {
     uint32_t minute = (uint32_t)(day * 1440 + (dusk ? 1080 : 360));
-    uint8_t poll[SISAL_POLL_BYTES];
-    want(sisal_write_poll(t->address, 0, 0, poll, sizeof poll).number == SISAL_OK, "no poll");
-
-    struct line line = answer(t, poll, day, dusk);
-    if (t->address == 310 && day == 4 && dusk)
-        line.bytes[2] ^= 0x10; /* a bit turned over on the line */
-    if (t->address == 7 && day == 11 && !dusk)
-        line.count = 0; /* nothing came */
-
+    struct line line = ask(t, minute, day, dusk);
     struct sisal_done saved = sisal_save(card, sizeof card, t->settings, minute, t->address, line.count, line.bytes, bytes_of(&line), stores);
     want(saved.number == SISAL_OK, "not saved");
     if (stores != SISAL_ALL_STORES) {

@@ -79,7 +79,10 @@ enum sisal_number {
     SISAL_FAULT_POLL = 16,          /* a poll is not 2 bytes, its start is 0, or a digit is above 9 */
     SISAL_FAULT_UNKNOWN = 17,       /* the address is not on the board */
     SISAL_FAULT_TWICE = 18,         /* the address is already on the board */
-    SISAL_FAULT_NO_ROW = 19         /* the board has no free row */
+    SISAL_FAULT_NO_ROW = 19,        /* the board has no free row */
+    SISAL_FAULT_TIMING = 20,        /* timing numbers: least above most, or one out of its range */
+    SISAL_FAULT_SPOILED = 21,       /* a spoiled message on the lines; it comes with the samples taken */
+    SISAL_FAULT_FOREIGN_SAMPLE = 22 /* a spoiled message in which a sample above 3 came; likewise */
 };
 
 /* ---- settings: one mode, with the two bits added where they apply ---------------------------------------------------------------- */
@@ -299,6 +302,51 @@ SISAL_ANSWER struct sisal_done sisal_last_line(const uint8_t *sheet, size_t shee
  * no byte changed.
  */
 SISAL_ANSWER struct sisal_done sisal_listing(const uint8_t *sheet, size_t sheet_bytes, uint8_t *out, size_t out_bytes);
+
+/* ---- the lines ------------------------------------------------------------------------------------------------------------------- */
+
+/* A sample of the two lines, one byte. Any byte above 3 counts as both low. */
+enum sisal_sample {
+    SISAL_SAMPLE_IDLE = 0,
+    SISAL_SAMPLE_MARK = 1,  /* the mark line is low */
+    SISAL_SAMPLE_SPACE = 2, /* the space line is low */
+    SISAL_SAMPLE_BOTH = 3
+};
+
+/*
+ * What was heard so far. All zeros is the beginning; from then on a host hands back what the last call left, and changes nothing in it.
+ * Whatever else is handed in is heard as a spoiled message. 16 bytes, no padding.
+ */
+struct sisal_lines_so_far {
+    uint64_t bits;  /* of the message so far, the first the highest; 0 after the count */
+    uint32_t run;   /* samples of the run that goes on: of the line that is low, up to 1,001, or of idle after what is open */
+    uint16_t count; /* bits of the message so far */
+    uint8_t line;   /* the line that is low: 0 none, 1 mark, 2 space */
+    uint8_t fault;  /* 0, or 21 or 22 where the message is spoiled */
+};
+
+/* What a call told. The six bytes at the end are padding and not to be read. */
+struct sisal_lines_told {
+    struct sisal_lines_so_far so_far; /* for the next call */
+    size_t taken;                     /* samples taken: the rest is for the next call */
+    uint8_t message[8];               /* the first bit the highest of the first byte; 0 after the count */
+    uint8_t count;                    /* bits of the message, 1 to 64; 0 where there is none */
+    uint8_t number;
+};
+static_assert(sizeof(struct sisal_lines_so_far) == 16, "struct sisal_lines_so_far");
+static_assert(sizeof(struct sisal_lines_told) == 40, "struct sisal_lines_told");
+
+/*
+ * Hears samples of the two lines, in whatever batches the host has. A pulse is `least` to `most` samples long, 1 to 1,000; `gap` idle
+ * samples, 1 to 10,000, close a message. The call stops after the sample that closes. It tells
+ *   a message:  number 0, count 1 to 64, its bits in message: (count + 7) / 8 bytes of it go into sisal_read_reply, sisal_save or
+ *               sisal_board_hear as they are; so_far all zeros;
+ *   nothing:    number 0, count 0: all samples are taken and so_far is what to hand back with the next ones;
+ *   20:         bad timing numbers, asked first: taken 0, count 0, so_far as it was handed in;
+ *   22 or 21:   a spoiled message, 22 where a sample above 3 came in it: taken up to the sample that closes, count 0, so_far all zeros.
+ */
+SISAL_ANSWER struct sisal_lines_told sisal_hear_lines(struct sisal_lines_so_far so_far, size_t least, size_t most, size_t gap,
+                                                      const uint8_t *samples, size_t sample_count);
 
 /* ---- the board: the first 30 of the rows lent count ------------------------------------------------------------------------------ */
 

@@ -5,6 +5,8 @@
 //! call of each side: the library's calls are in an archive, and those of the independent reading
 //! are never put in place. The library's side also turns C structs into the types of this package.
 
+pub mod lines;
+
 use crate::calls::Core;
 use crate::generate::{self, ReplyCase, SaveCase};
 use crate::random::Random;

@@ -1,7 +1,12 @@
-//! The calls of a recorder core, as one trait.
+//! The calls of a recorder core: document 01's as one trait, each request's of document 02 as one
+//! of its own.
 //!
-//! Comparisons and benchmarks are written once over this trait. Two sides implement it: the
+//! Comparisons and benchmarks are written once over these traits. Two sides implement them: the
 //! independent reading in this package, and the wrapper of the proved library.
+
+mod lines;
+
+pub use lines::Lines;
 
 use crate::types::{Answer, Entry, Poll, Reading, Row, Slot, Standing, LINE, SLOT};
 

@@ -1,10 +1,11 @@
 //! The host's side of the tank gauge recorder.
 //!
-//! * [`types`] and [`calls`]: the values of document 01 and [`Core`], the one trait through which
-//!   everything below reaches a recorder core.
+//! * [`types`] and [`calls`]: the values of documents 01 and 02 and the traits through which
+//!   everything below reaches a recorder core: [`Core`] for document 01, and one for each request
+//!   of document 02 that adds calls.
 //! * [`library`]: the proved library, wrapped so that it is called with these types. It is there
 //!   on x86-64 alone, which is all that the library is compiled for.
-//! * [`reading`]: an independent reading of document 01, written from the paper alone. It is the
+//! * [`reading`]: an independent reading of both documents, written from the paper alone. It is the
 //!   other opinion in the comparisons and the baseline of the benchmarks.
 //! * [`random`] and [`generate`]: repeatable inputs, good, damaged and hostile.
 //! * [`compare`]: the comparisons of two cores, and the sweep that cuts the power after every store.

@@ -1,4 +1,7 @@
-//! The values that document 01 speaks of, as ordinary Rust types shared by every core.
+//! The values that document 01 speaks of, as ordinary Rust types shared by every core; those of
+//! document 02's requests stand in files of their own.
+
+pub mod lines;
 
 use std::fmt;
 
@@ -54,6 +57,9 @@ pub enum Fault {
     Unknown = 17,
     Twice = 18,
     NoRow = 19,
+    Timing = 20,
+    Spoiled = 21,
+    ForeignSample = 22,
 }
 
 impl Fault {
@@ -81,6 +87,9 @@ impl Fault {
         Fault::Unknown,
         Fault::Twice,
         Fault::NoRow,
+        Fault::Timing,
+        Fault::Spoiled,
+        Fault::ForeignSample,
     ];
 
     /// The number the paper gives it.

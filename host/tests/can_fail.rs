@@ -2,9 +2,10 @@
 
 mod damaged;
 
+use damaged::lines::{Listener, Misheard};
 use damaged::Damage::{self, *};
 use damaged::Damaged;
-use sisalcove_host::compare::{checks, Check, Plan};
+use sisalcove_host::compare::{self, checks, Check, Plan};
 use sisalcove_host::reading::IndependentReading;
 use std::fmt::Debug;
 
@@ -163,6 +164,57 @@ fn document_01() {
         mirrored: checks,
         core: |mistake| Damaged(mistake.unwrap_or(Nothing)),
         found_by: FOUND_BY,
+    }
+    .settle();
+}
+
+#[test]
+fn lines() {
+    use Misheard::*;
+    const SHORT: &str = "lines, all short streams";
+    const TIMES: &str = "lines, timing numbers";
+    const STATES: &str = "lines, states of every kind";
+    const STREAMS: &str = "lines, streams in batches";
+    const DRAWN: &str = "lines, drawn then heard, right";
+    Account {
+        checks: compare::lines::checks,
+        mirrored: compare::lines::checks,
+        core: Listener,
+        found_by: &[
+            (MarkAndSpaceSwapped, &[SHORT, TIMES, STATES, STREAMS, DRAWN]),
+            (BitsFromTheLowest, &[SHORT, STREAMS, DRAWN]),
+            (RunStopsAtThousand, &[STREAMS, DRAWN]),
+            (RunComesRoundAgain, &[STREAMS, DRAWN]),
+            (ClosesOneSampleLate, &[SHORT, TIMES, STATES, STREAMS, DRAWN]),
+            (EndOfBadPulseNotIdle, &[SHORT, STATES, STREAMS, DRAWN]),
+            (ReportedTwice, &[SHORT, STATES, STREAMS, DRAWN]),
+            (ForeignKeptForTheNext, &[SHORT, STATES, STREAMS, DRAWN]),
+            (ForeignLikeBothLow, &[SHORT, STATES, STREAMS, DRAWN]),
+            (ForeignAfterDamageNotSeen, &[SHORT, STATES, STREAMS, DRAWN]),
+            (
+                IdleForgottenAtEntry,
+                &[SHORT, TIMES, STATES, STREAMS, DRAWN],
+            ),
+            (PulseEndsWithTheBatch, &[SHORT, STATES, STREAMS, DRAWN]),
+            (OneSampleMoreTaken, &[SHORT, TIMES, STATES, STREAMS, DRAWN]),
+            (TakenBesideBadTimes, &[TIMES, STATES]),
+            (StateMeantBesideBadTimes, &[TIMES, STATES]),
+            (TimesCutToTwoBytes, &[TIMES, STATES]),
+            (EqualLeastAndMostRefused, &[SHORT, TIMES, STATES, STREAMS]),
+            (StateNotJudged, &[TIMES, STATES, STREAMS]),
+            (PadBitsNotJudged, &[STATES, STREAMS]),
+            (StrangeStateKeptByEmptyBatch, &[TIMES, STATES]),
+            (SixtyFifthBitDropped, &[SHORT, STATES, STREAMS, DRAWN]),
+            (OneBothLowForgiven, &[SHORT, TIMES, STATES, STREAMS, DRAWN]),
+            (ChangeOfLineEndsPulse, &[SHORT, STREAMS, DRAWN]),
+            (GapOnlyWhenJustReached, &[TIMES, STATES]),
+            (
+                SpoiledWithoutBitsNotTold,
+                &[SHORT, TIMES, STATES, STREAMS, DRAWN],
+            ),
+            (BitsBesideSpoiled, &[SHORT, STATES, STREAMS]),
+            (LongestPulseRefused, &[SHORT, TIMES, STATES, STREAMS, DRAWN]),
+        ],
     }
     .settle();
 }

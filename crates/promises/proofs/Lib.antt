@@ -9,3 +9,5 @@ pub mod sheet
 pub mod board
 -- The listing of a sheet.
 pub mod listing
+-- The lines heard.
+pub mod lines

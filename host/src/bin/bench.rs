@@ -5,7 +5,7 @@ use std::process::ExitCode;
 
 #[cfg(target_arch = "x86_64")]
 fn main() -> ExitCode {
-    use sisalcove_host::benchmarks::Benchmarks;
+    use sisalcove_host::benchmarks::{lines, Benchmarks};
     use sisalcove_host::library::Library;
     use sisalcove_host::random;
     use sisalcove_host::reading::IndependentReading;
@@ -31,6 +31,12 @@ fn main() -> ExitCode {
     println!();
     println!("{}", Timing::heading("proved", "independent"));
     benchmarks.growth(|timing| println!("{timing}"));
+    println!();
+    println!("{}", Timing::heading("proved", "independent"));
+    benchmarks.lines(|timing| {
+        let (proved, independent) = lines::millions(timing);
+        println!("{timing}  {proved:.1} and {independent:.1} million samples a second");
+    });
     ExitCode::SUCCESS
 }
 

@@ -25,6 +25,7 @@ fn main() -> ExitCode {
     #[rustfmt::skip]
     let verdicts = [
         run(compare::checks(), left, right, &plan, &only),
+        run(compare::lines::checks(), left, right, &plan, &only),
     ];
     let passed: usize = verdicts.iter().map(|(passed, _)| passed).sum();
     let failed: usize = verdicts.iter().map(|(_, failed)| failed).sum();

@@ -8,6 +8,7 @@
 pub mod boards;
 pub mod cuts;
 pub mod frames;
+pub mod lines;
 pub mod sheets;
 
 use crate::calls::Core;
@@ -37,6 +38,10 @@ pub struct Plan {
     pub month_saves: usize,
     /// Sequences of saves, each cut anywhere, held to the list.
     pub cut_sequences: usize,
+    /// States of the lines, each handed in with a few samples.
+    pub line_states: usize,
+    /// Streams of samples, heard in several batchings.
+    pub streams: usize,
 }
 
 impl Plan {
@@ -51,6 +56,8 @@ impl Plan {
             boards: 8_000,
             month_saves: 1_860,
             cut_sequences: 15_000,
+            line_states: 1_000_000,
+            streams: 4_000,
         }
     }
 
@@ -65,6 +72,8 @@ impl Plan {
             boards: 400,
             month_saves: 60,
             cut_sequences: 400,
+            line_states: 100_000,
+            streams: 1_000,
         }
     }
 }

@@ -1,10 +1,12 @@
 //! Inputs for the comparisons: good, damaged and hostile.
 
 mod boards;
+mod lines;
 mod replies;
 mod sheets;
 
 pub use boards::{board_call, rows, BoardCall};
+pub use lines::{bad_times, batches, drawn, pulse_times, samples, so_far, Drawn, Saying};
 pub use replies::{damage, damaged_reply, good_reply, reading, with_parity, ReplyCase};
 pub use sheets::{
     allowance, hostile_sheet, hostile_slot, month, record_bytes, save_case, SaveCase,

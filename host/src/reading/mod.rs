@@ -1,4 +1,4 @@
-//! An independent reading of document 01, written from the paper alone.
+//! An independent reading of documents 01 and 02, written from the papers alone.
 //!
 //! It shares nothing with the proved sources but the paper. It is meant to be both plain and
 //! fast: replies and slots are packed into words, the charts are tables of whole digit pairs, and
@@ -11,6 +11,7 @@ mod bench_checks;
 pub mod board;
 mod charts;
 pub mod frame;
+pub mod lines;
 pub mod listing;
 mod modes;
 pub mod sheet;

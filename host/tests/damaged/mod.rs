@@ -1,4 +1,6 @@
-//! A core that is right but for one mistake, to see that a comparison can fail.
+//! Cores that are right but for one mistake, to see that a comparison can fail.
+
+pub mod lines;
 
 use sisalcove_host::reading::{board, IndependentReading};
 use sisalcove_host::types::{BLANK, SLOT};

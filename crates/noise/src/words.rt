@@ -1,0 +1,79 @@
+// What the program says.
+use lines::LinesTold;
+use lines::SoFar;
+
+const OUT: i32 = 1;
+
+pub(crate) fn title(text: &[u8]) {
+    io::write_all(OUT, text);
+}
+
+fn after(text: &[u8], n: u64) {
+    io::write_all(OUT, text);
+    io::print_decimal(OUT, n);
+}
+
+fn byte(b: u8) {
+    io::write_all(OUT, b" ");
+    io::print_hex(OUT, b as u64, 2);
+}
+
+// The bytes of a message.
+fn message(told: LinesTold) {
+    let bytes = told.message;
+    let bits = told.count as usize;
+    let mut i = 0;
+    while i < 8 {
+        if bits <= 8 * i {
+            return;
+        }
+        byte(bytes[i]);
+        i += 1;
+    }
+}
+
+// A message, a report, or nothing.
+pub(crate) fn told(told: LinesTold) {
+    if told.number != 0 {
+        after(b"number ", told.number as u64);
+        return;
+    }
+    if told.count == 0 {
+        io::write_all(OUT, b"nothing");
+        return;
+    }
+    after(b"", told.count as u64);
+    if told.count == 1 {
+        io::write_all(OUT, b" bit:");
+    } else {
+        io::write_all(OUT, b" bits:");
+    }
+    message(told);
+}
+
+pub(crate) fn state(s: SoFar) {
+    io::write_all(OUT, b"; ");
+    io::print_hex(OUT, s.bits, 16);
+    after(b" ", s.run as u64);
+    after(b" ", s.count as u64);
+    after(b" ", s.line as u64);
+    after(b" ", s.fault as u64);
+    io::write_all(OUT, b"\n");
+}
+
+pub(crate) fn taken(n: usize) {
+    after(b", after ", n as u64);
+    io::write_all(OUT, b" samples\n");
+}
+
+pub(crate) fn taken_of(n: usize, all: usize) {
+    after(b"; ", n as u64);
+    after(b" of ", all as u64);
+}
+
+pub(crate) fn numbers(least: usize, most: usize, gap: usize) {
+    after(b"", least as u64);
+    after(b" ", most as u64);
+    after(b" ", gap as u64);
+    io::write_all(OUT, b": ");
+}
