@@ -1,6 +1,6 @@
 /*
  * The core of a tank gauge recorder: polls and replies of the Mark/Space line (Model 1900 and Model 1800), the month sheet, the board
- * of last good readings, and the listing of a sheet.
+ * of last good readings, the listing of a sheet, the lines heard sample by sample, and item records of the 854 gauge.
  *
  * Link target/libsisalcove.a, which `./build-library` makes. This header wants C11 or C++11, and x86-64 with the System V calling
  * convention, which is all that the archive is compiled for. The archive keeps no state, allocates nothing, never fails otherwise than
@@ -15,8 +15,8 @@
  * Lent bytes and rows are a pointer and a length. A pointer is never null, also where the length is 0, and what it points to is not
  * written by anybody else while the call runs. Buffers lent to one call for writing overlap nothing else that is lent to it.
  *
- * Some answers have padding (struct sisal_poll one byte, sisal_done seven, sisal_slot two). It holds anything: compare answers field by
- * field. Rows have none.
+ * Some answers have padding (struct sisal_poll, sisal_reply and sisal_item one byte, sisal_slot two, sisal_lines_told six, sisal_done
+ * seven). It holds anything: compare answers field by field. Rows and what is handed back in have none.
  */
 #ifndef SISALCOVE_H
 #define SISALCOVE_H
@@ -82,7 +82,12 @@ enum sisal_number {
     SISAL_FAULT_NO_ROW = 19,        /* the board has no free row */
     SISAL_FAULT_TIMING = 20,        /* timing numbers: least above most, or one out of its range */
     SISAL_FAULT_SPOILED = 21,       /* a spoiled message on the lines; it comes with the samples taken */
-    SISAL_FAULT_FOREIGN_SAMPLE = 22 /* a spoiled message in which a sample above 3 came; likewise */
+    SISAL_FAULT_FOREIGN_SAMPLE = 22, /* a spoiled message in which a sample above 3 came; likewise */
+    SISAL_FAULT_FRAMING = 29,       /* an item record has under 10 bytes, or STX, B, Z or ETX is not in its place */
+    SISAL_FAULT_BLOCK_CHECK = 30,   /* its block check is wrong */
+    SISAL_FAULT_ADDRESSES = 31,     /* its CIU or transmission address is no plain number: wildcards too */
+    SISAL_FAULT_ITEM_TEXT = 32,     /* its item text has none of the six forms */
+    SISAL_FAULT_OUTPUT_SHORT = 33   /* the output has too few bytes for it */
 };
 
 /* ---- settings: one mode, with the two bits added where they apply ---------------------------------------------------------------- */
@@ -367,6 +372,49 @@ SISAL_ANSWER uint8_t sisal_board_remove(struct sisal_row *rows, size_t row_count
 
 /* Looks a transmitter up. Refuses 11, 17, with all else 0. */
 SISAL_ANSWER struct sisal_standing sisal_board_look_up(const struct sisal_row *rows, size_t row_count, uint16_t address);
+
+/* ---- item records of the 854 gauge on a CIU -------------------------------------------------------------------------------------- */
+
+enum sisal_item_kind {
+    SISAL_ITEM_NONE = 0,          /* beside a refusal */
+    SISAL_ITEM_ALONE = 1,         /* BL: a request or a command */
+    SISAL_ITEM_SETTING = 2,       /* DF=a */
+    SISAL_ITEM_TAKEN = 3,         /* BL& */
+    SISAL_ITEM_SETTING_TAKEN = 4, /* DF=A& */
+    SISAL_ITEM_VALUE = 5,         /* HA012.2345 */
+    SISAL_ITEM_ERROR = 6          /* QQ!051 */
+};
+
+enum sisal_item_size {
+    SISAL_ITEM_DATA_BYTES = 16,  /* characters of the longest data */
+    SISAL_ITEM_RECORD_BYTES = 28 /* bytes of the longest record */
+};
+
+/* An item record that was read. Beside a refusal all but `number` is 0. */
+struct sisal_item {
+    uint8_t data[16]; /* `length` characters, and 0 after them */
+    uint16_t error;   /* of an error, else 0 */
+    uint8_t ciu;      /* 0 to 9 */
+    uint8_t gauge;    /* transmission address, 0 to 99 */
+    uint8_t first;    /* the item's two capital letters */
+    uint8_t second;
+    uint8_t kind;   /* enum sisal_item_kind */
+    uint8_t length; /* of a setting's or a value's data, else 0 */
+    uint8_t number;
+};
+
+static_assert(sizeof(struct sisal_item) == 26, "struct sisal_item");
+
+/* Reads an item record. Refuses 29, 30, 31, 32, with all else 0. */
+SISAL_ANSWER struct sisal_item sisal_read_item(const uint8_t *record, size_t record_bytes);
+
+/*
+ * Writes an item record into the first bytes of the output, 10 to 28 of them, and answers how many. The addresses are wide so that a
+ * wildcard, which document 002 numbers from 100 on, is refused and not cut to a good one. A kind without data takes no data, and every
+ * kind but an error the error number 0. Refuses 31, 32, 33; beside a refusal `count` is 0 and no byte is changed.
+ */
+SISAL_ANSWER struct sisal_done sisal_write_item(uint16_t ciu, uint16_t gauge, uint8_t first, uint8_t second, uint8_t kind, uint16_t error,
+                                                const uint8_t *data, size_t data_bytes, uint8_t *out, size_t out_bytes);
 
 #ifdef __cplusplus
 }

@@ -4,8 +4,10 @@
 //! Comparisons and benchmarks are written once over these traits. Two sides implement them: the
 //! independent reading in this package, and the wrapper of the proved library.
 
+mod items;
 mod lines;
 
+pub use items::Items;
 pub use lines::Lines;
 
 use crate::types::{Answer, Entry, Poll, Reading, Row, Slot, Standing, LINE, SLOT};

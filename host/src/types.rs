@@ -1,6 +1,7 @@
 //! The values that document 01 speaks of, as ordinary Rust types shared by every core; those of
 //! document 02's requests stand in files of their own.
 
+pub mod items;
 pub mod lines;
 
 use std::fmt;
@@ -60,6 +61,11 @@ pub enum Fault {
     Timing = 20,
     Spoiled = 21,
     ForeignSample = 22,
+    Framing = 29,
+    BlockCheck = 30,
+    ItemAddress = 31,
+    ItemText = 32,
+    ItemShort = 33,
 }
 
 impl Fault {
@@ -90,6 +96,11 @@ impl Fault {
         Fault::Timing,
         Fault::Spoiled,
         Fault::ForeignSample,
+        Fault::Framing,
+        Fault::BlockCheck,
+        Fault::ItemAddress,
+        Fault::ItemText,
+        Fault::ItemShort,
     ];
 
     /// The number the paper gives it.

@@ -2,6 +2,7 @@
 
 mod damaged;
 
+use damaged::items::{Clerk, Mistold};
 use damaged::lines::{Listener, Misheard};
 use damaged::Damage::{self, *};
 use damaged::Damaged;
@@ -214,6 +215,59 @@ fn lines() {
             ),
             (BitsBesideSpoiled, &[SHORT, STATES, STREAMS]),
             (LongestPulseRefused, &[SHORT, TIMES, STATES, STREAMS, DRAWN]),
+        ],
+    }
+    .settle();
+}
+
+#[test]
+fn items() {
+    use Mistold::*;
+    const SHORT: &str = "items, all short texts";
+    const HEADS: &str = "items, all letters and addresses";
+    const KINDS: &str = "items, all kinds and errors written";
+    const ROOMS: &str = "items, all lengths and rooms";
+    const CHANGED: &str = "items, records with one byte changed";
+    const RANDOM: &str = "items, random and damaged";
+    Account {
+        checks: compare::items::checks,
+        mirrored: compare::items::checks,
+        core: Clerk,
+        found_by: &[
+            (
+                CheckWithCarry,
+                &[SHORT, HEADS, KINDS, ROOMS, CHANGED, RANDOM],
+            ),
+            (StxInCheck, &[SHORT, HEADS, KINDS, ROOMS, CHANGED, RANDOM]),
+            (
+                EtxNotInCheck,
+                &[SHORT, HEADS, KINDS, ROOMS, CHANGED, RANDOM],
+            ),
+            (CheckInSevenBits, &[CHANGED, RANDOM]),
+            (CheckInEightBits, &[SHORT, HEADS, CHANGED, RANDOM]),
+            (CheckBeforeFraming, &[CHANGED, RANDOM]),
+            (TextBeforeAddress, &[RANDOM]),
+            (WildcardsTaken, &[HEADS, CHANGED]),
+            (SmallLetterTaken, &[HEADS, CHANGED, RANDOM]),
+            (EqualsInData, &[SHORT, CHANGED, RANDOM]),
+            (TakenSettingAsSetting, &[SHORT, CHANGED, RANDOM]),
+            (TwoErrorDigits, &[SHORT, RANDOM]),
+            (ErrorReversed, &[SHORT, KINDS, CHANGED, RANDOM]),
+            (SeventeenthCharacterDropped, &[KINDS, ROOMS, RANDOM]),
+            (LongRecordIsFraming, &[CHANGED, RANDOM]),
+            (FirstEtxEnds, &[SHORT, CHANGED, RANDOM]),
+            (ShortBeforeText, &[ROOMS, RANDOM]),
+            (TextBeforeAddressWritten, &[RANDOM]),
+            (WritesOneMore, &[HEADS, KINDS, ROOMS, CHANGED, RANDOM]),
+            (RefusedWriteChanges, &[ROOMS, RANDOM]),
+            (DataIgnoredBesideAlone, &[KINDS, ROOMS, RANDOM]),
+            (ErrorIgnoredBesideValue, &[KINDS, RANDOM]),
+            (NumbersCutToByte, &[HEADS, RANDOM]),
+            (TildeRefused, &[SHORT, CHANGED, RANDOM]),
+            (DeleteTaken, &[SHORT, CHANGED, RANDOM]),
+            (ErrorOfFourDigits, &[KINDS, RANDOM]),
+            (SeventhKind, &[KINDS, ROOMS, RANDOM]),
+            (DataLeftBehindItsLength, &[SHORT, CHANGED, RANDOM]),
         ],
     }
     .settle();

@@ -11,3 +11,5 @@ pub mod board
 pub mod listing
 -- The lines heard.
 pub mod lines
+-- Item records.
+pub mod enraf

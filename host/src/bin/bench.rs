@@ -37,6 +37,7 @@ fn main() -> ExitCode {
         let (proved, independent) = lines::millions(timing);
         println!("{timing}  {proved:.1} and {independent:.1} million samples a second");
     });
+    benchmarks.items(|timing| println!("{timing}"));
     ExitCode::SUCCESS
 }
 

@@ -8,6 +8,7 @@
 pub mod boards;
 pub mod cuts;
 pub mod frames;
+pub mod items;
 pub mod lines;
 pub mod sheets;
 
@@ -42,6 +43,10 @@ pub struct Plan {
     pub line_states: usize,
     /// Streams of samples, heard in several batchings.
     pub streams: usize,
+    /// Enraf records, of which every byte is changed to every value.
+    pub changed_items: usize,
+    /// Random and damaged records to be read, with as many items to be written.
+    pub items: usize,
 }
 
 impl Plan {
@@ -58,6 +63,8 @@ impl Plan {
             cut_sequences: 15_000,
             line_states: 1_000_000,
             streams: 4_000,
+            changed_items: 400,
+            items: 2_000_000,
         }
     }
 
@@ -74,6 +81,8 @@ impl Plan {
             cut_sequences: 400,
             line_states: 100_000,
             streams: 1_000,
+            changed_items: 40,
+            items: 100_000,
         }
     }
 }

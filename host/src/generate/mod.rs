@@ -1,11 +1,13 @@
 //! Inputs for the comparisons: good, damaged and hostile.
 
 mod boards;
+mod items;
 mod lines;
 mod replies;
 mod sheets;
 
 pub use boards::{board_call, rows, BoardCall};
+pub use items::{framed, item, item_asked, mend, record, AskedCase};
 pub use lines::{bad_times, batches, drawn, pulse_times, samples, so_far, Drawn, Saying};
 pub use replies::{damage, damaged_reply, good_reply, reading, with_parity, ReplyCase};
 pub use sheets::{

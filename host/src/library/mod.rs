@@ -5,6 +5,7 @@
 //! to nobody else.
 
 mod ffi;
+mod items;
 mod lines;
 #[cfg(test)]
 mod tests;

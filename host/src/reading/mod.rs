@@ -11,6 +11,7 @@ mod bench_checks;
 pub mod board;
 mod charts;
 pub mod frame;
+pub mod items;
 pub mod lines;
 pub mod listing;
 mod modes;

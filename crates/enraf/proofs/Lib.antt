@@ -1,0 +1,10 @@
+-- Laws that the proofs of the functions cite.
+pub mod Tests
+pub mod ByTests
+pub mod Sums
+pub mod Characters
+pub mod SixKinds
+pub mod Tails
+pub mod Filling
+pub mod Putting
+pub mod Written

@@ -1,0 +1,53 @@
+-- Document 002's sample records, and the ends of each range, as one table, both ways: the record that an item is written as, and what the record tells.
+use mathlib.Core.Path.{_≡_}
+use mathlib.Core.List.{List, [], _∷_, map}
+use Prim.Native.Nat.{ℕ}
+use lib.Dec.{eqb}
+use lib.ListN.{replicate}
+use Rattle.frame.specs.Pick.{pick}
+use Rattle.enraf.specs.declared.ItemTold.{ItemTold}
+use Rattle.enraf.specs.Item.{Item, itemOf, alone, setting, taken, settingTaken, value, failed}
+use Rattle.enraf.specs.Record.{recordOf}
+use Rattle.enraf.specs.Reading.{readFault, itemIn, told, refused}
+
+pub record Sample : Type 0 where
+  pub item : Item
+  pub bytes : List ℕ
+
+pub record Seen : Type 0 where
+  pub written : List ℕ
+  pub read : ItemTold
+
+abbrev pub shows : Item → List ℕ → Sample
+shows i bytes = record { item = i; bytes = bytes }
+
+-- What the definitions say, and what the table says.
+abbrev pub found : Sample → Seen
+found s =
+    record {
+      written = recordOf (s .item);
+      read = pick (eqb (readFault (s .bytes)) 0) (told (itemIn (s .bytes))) (refused (readFault (s .bytes)));
+    }
+
+abbrev pub wanted : Sample → Seen
+wanted s = record { written = s .bytes; read = told (s .item) }
+
+-- CIU 5, transmission address 01: BL, BL&, DF=a, DF=A&, HA, HA012.2345, QQ, QQ!051.
+abbrev pub samples : List Sample
+samples =
+    shows (itemOf 5 1 0x42 0x4c alone 0 []) (0x02 ∷ 0x35 ∷ 0x30 ∷ 0x31 ∷ 0x42 ∷ 0x5a ∷ 0x42 ∷ 0x4c ∷ 0x03 ∷ 0x21 ∷ [])
+    ∷ shows (itemOf 5 1 0x42 0x4c taken 0 []) (0x02 ∷ 0x35 ∷ 0x30 ∷ 0x31 ∷ 0x42 ∷ 0x5a ∷ 0x42 ∷ 0x4c ∷ 0x26 ∷ 0x03 ∷ 0x07 ∷ [])
+    ∷ shows (itemOf 5 1 0x44 0x46 setting 0 (0x61 ∷ []))
+    (0x02 ∷ 0x35 ∷ 0x30 ∷ 0x31 ∷ 0x42 ∷ 0x5a ∷ 0x44 ∷ 0x46 ∷ 0x3d ∷ 0x61 ∷ 0x03 ∷ 0x71 ∷ [])
+    ∷ shows (itemOf 5 1 0x44 0x46 settingTaken 0 (0x41 ∷ []))
+    (0x02 ∷ 0x35 ∷ 0x30 ∷ 0x31 ∷ 0x42 ∷ 0x5a ∷ 0x44 ∷ 0x46 ∷ 0x3d ∷ 0x41 ∷ 0x26 ∷ 0x03 ∷ 0x77 ∷ [])
+    ∷ shows (itemOf 5 1 0x48 0x41 alone 0 []) (0x02 ∷ 0x35 ∷ 0x30 ∷ 0x31 ∷ 0x42 ∷ 0x5a ∷ 0x48 ∷ 0x41 ∷ 0x03 ∷ 0x26 ∷ [])
+    ∷ shows (itemOf 5 1 0x48 0x41 value 0 (0x30 ∷ 0x31 ∷ 0x32 ∷ 0x2e ∷ 0x32 ∷ 0x33 ∷ 0x34 ∷ 0x35 ∷ []))
+    (0x02 ∷ 0x35 ∷ 0x30 ∷ 0x31 ∷ 0x42 ∷ 0x5a ∷ 0x48 ∷ 0x41 ∷ 0x30 ∷ 0x31 ∷ 0x32 ∷ 0x2e ∷ 0x32 ∷ 0x33 ∷ 0x34 ∷ 0x35 ∷ 0x03 ∷ 0x3b ∷ [])
+    ∷ shows (itemOf 5 1 0x51 0x51 alone 0 []) (0x02 ∷ 0x35 ∷ 0x30 ∷ 0x31 ∷ 0x42 ∷ 0x5a ∷ 0x51 ∷ 0x51 ∷ 0x03 ∷ 0x2f ∷ [])
+    ∷ shows (itemOf 5 1 0x51 0x51 failed 51 []) (0x02 ∷ 0x35 ∷ 0x30 ∷ 0x31 ∷ 0x42 ∷ 0x5a ∷ 0x51 ∷ 0x51 ∷ 0x21 ∷ 0x30 ∷ 0x35 ∷ 0x31 ∷ 0x03 ∷ 0x3a ∷ [])
+    ∷ shows (itemOf 9 99 0x5a 0x5a failed 999 []) (0x02 ∷ 0x39 ∷ 0x39 ∷ 0x39 ∷ 0x42 ∷ 0x5a ∷ 0x5a ∷ 0x5a ∷ 0x21 ∷ 0x39 ∷ 0x39 ∷ 0x39 ∷ 0x03 ∷ 0x3a ∷ [])
+    ∷ []
+
+pub record ItemSamples : Type 0 where
+  pub every-one : map found samples ≡ map wanted samples
