@@ -1,6 +1,6 @@
 /*
  * The core of a tank gauge recorder: polls and replies of the Mark/Space line (Model 1900 and Model 1800), the month sheet, the board
- * of last good readings, the listing of a sheet, the lines heard sample by sample, and item records of the 854 gauge.
+ * of last good readings, the listing of a sheet, the lines heard sample by sample, item records of the 854 gauge, and areas.
  *
  * Link target/libsisalcove.a, which `./build-library` makes. This header wants C11 or C++11, and x86-64 with the System V calling
  * convention, which is all that the archive is compiled for. The archive keeps no state, allocates nothing, never fails otherwise than
@@ -87,7 +87,10 @@ enum sisal_number {
     SISAL_FAULT_BLOCK_CHECK = 30,   /* its block check is wrong */
     SISAL_FAULT_ADDRESSES = 31,     /* its CIU or transmission address is no plain number: wildcards too */
     SISAL_FAULT_ITEM_TEXT = 32,     /* its item text has none of the six forms */
-    SISAL_FAULT_OUTPUT_SHORT = 33   /* the output has too few bytes for it */
+    SISAL_FAULT_OUTPUT_SHORT = 33,  /* the output has too few bytes for it */
+    SISAL_FAULT_SITE = 34,          /* a site has more than 120 transmitters */
+    SISAL_FAULT_NO_PLAN = 35,       /* no plan of areas exists for it */
+    SISAL_FAULT_PLAN = 36           /* a plan of areas is not accepted */
 };
 
 /* ---- settings: one mode, with the two bits added where they apply ---------------------------------------------------------------- */
@@ -415,6 +418,44 @@ SISAL_ANSWER struct sisal_item sisal_read_item(const uint8_t *record, size_t rec
  */
 SISAL_ANSWER struct sisal_done sisal_write_item(uint16_t ciu, uint16_t gauge, uint8_t first, uint8_t second, uint8_t kind, uint16_t error,
                                                 const uint8_t *data, size_t data_bytes, uint8_t *out, size_t out_bytes);
+
+/* ---- areas: which transmitters of a site share one ------------------------------------------------------------------------------- */
+
+/*
+ * A transmitter as one number: the feet and the tenths of an ohm that it adds to its area. Each is stopped at 65,535, which is above
+ * every area's limit, so that a number too wide, or below 0, becomes no good one. The arguments are evaluated more than once.
+ */
+#define SISAL_UP_TO_65535(n) ((unsigned long long)(n) > 65535 ? UINT32_C(65535) : (uint32_t)(n))
+#define SISAL_TRANSMITTER(feet, tenths) (SISAL_UP_TO_65535(feet) << 16 | SISAL_UP_TO_65535(tenths))
+
+enum sisal_area_limit {
+    SISAL_SITE_MAX = 120,    /* transmitters of a site */
+    SISAL_AREAS_MAX = 8,     /* areas of a plan */
+    SISAL_AREA_MAX = 30,     /* transmitters of an area */
+    SISAL_AREA_FEET = 10000, /* feet of an area */
+    SISAL_AREA_TENTHS = 500  /* tenths of an ohm of an area: 50 ohms */
+};
+
+/* A plan that was proposed. Beside a refusal all but `number` is 0. */
+struct sisal_plan {
+    uint8_t sizes[8]; /* transmitters of each area, in cable order, and 0 after the last */
+    uint8_t areas;    /* how many areas there are; 0 for an empty site */
+    uint8_t number;
+};
+
+static_assert(sizeof(struct sisal_plan) == 10, "struct sisal_plan");
+
+/*
+ * Proposes areas for a site, its transmitters in cable order: each area takes as many as it may, which is also the fewest areas.
+ * Refuses 34, 35; 35 exactly where no plan exists.
+ */
+SISAL_ANSWER struct sisal_plan sisal_plan_areas(const uint32_t *site, size_t transmitters);
+
+/*
+ * Whether a plan, proposed or drawn by hand, is accepted: 0; or 34, 36. Hand over as many sizes as there are areas (`sizes` and `areas`
+ * of a proposed plan); a size of 0 is an empty area.
+ */
+SISAL_ANSWER uint8_t sisal_check_areas(const uint32_t *site, size_t transmitters, const uint8_t *sizes, size_t areas);
 
 #ifdef __cplusplus
 }

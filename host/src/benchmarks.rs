@@ -5,6 +5,7 @@
 //! call of each side: the library's calls are in an archive, and those of the independent reading
 //! are never put in place. The library's side also turns C structs into the types of this package.
 
+mod areas;
 mod items;
 pub mod lines;
 

@@ -4,9 +4,11 @@
 //! Comparisons and benchmarks are written once over these traits. Two sides implement them: the
 //! independent reading in this package, and the wrapper of the proved library.
 
+mod areas;
 mod items;
 mod lines;
 
+pub use areas::Areas;
 pub use items::Items;
 pub use lines::Lines;
 

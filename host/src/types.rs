@@ -1,6 +1,7 @@
 //! The values that document 01 speaks of, as ordinary Rust types shared by every core; those of
 //! document 02's requests stand in files of their own.
 
+pub mod areas;
 pub mod items;
 pub mod lines;
 
@@ -66,6 +67,9 @@ pub enum Fault {
     ItemAddress = 31,
     ItemText = 32,
     ItemShort = 33,
+    LargeSite = 34,
+    NoPlan = 35,
+    PlanRefused = 36,
 }
 
 impl Fault {
@@ -101,6 +105,9 @@ impl Fault {
         Fault::ItemAddress,
         Fault::ItemText,
         Fault::ItemShort,
+        Fault::LargeSite,
+        Fault::NoPlan,
+        Fault::PlanRefused,
     ];
 
     /// The number the paper gives it.

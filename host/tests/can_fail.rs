@@ -2,6 +2,7 @@
 
 mod damaged;
 
+use damaged::areas::{Fitter, Miswired};
 use damaged::items::{Clerk, Mistold};
 use damaged::lines::{Listener, Misheard};
 use damaged::Damage::{self, *};
@@ -268,6 +269,41 @@ fn items() {
             (ErrorOfFourDigits, &[KINDS, RANDOM]),
             (SeventhKind, &[KINDS, ROOMS, RANDOM]),
             (DataLeftBehindItsLength, &[SHORT, CHANGED, RANDOM]),
+        ],
+    }
+    .settle();
+}
+
+#[test]
+fn areas() {
+    use Miswired::*;
+    const SMALL: &str = "areas, all small sites and plans";
+    const EVEN: &str = "areas, one transmitter and even sites";
+    const SITES: &str = "areas, sites of any kind";
+    Account {
+        checks: compare::areas::checks,
+        mirrored: compare::areas::checks,
+        core: Fitter,
+        found_by: &[
+            (FeetBelowTheLimit, &[SMALL, EVEN, SITES]),
+            (FiftyTenths, &[SMALL, EVEN, SITES]),
+            (ThirtyFirstInArea, &[EVEN, SITES]),
+            (NinthArea, &[EVEN, SITES]),
+            (OneTransmitterEarly, &[SMALL, EVEN, SITES]),
+            (AlwaysRefused, &[SMALL, EVEN, SITES]),
+            (FirstAddsNoFeet, &[SMALL, EVEN, SITES]),
+            (FeetAndTenthsSwapped, &[SMALL, EVEN, SITES]),
+            (FeetComeRoundAgain, &[SITES]),
+            (EmptySiteRefused, &[SMALL, EVEN, SITES]),
+            (LastAreasEvened, &[SMALL, EVEN, SITES]),
+            (RubbishAfterLastSize, &[SMALL, EVEN, SITES]),
+            (LargeSitePlanned, &[EVEN, SITES]),
+            (LargeSiteChecked, &[EVEN, SITES]),
+            (LastLeftOut, &[SMALL, SITES]),
+            (EmptyAreaTaken, &[SMALL, EVEN, SITES]),
+            (PlanSumComesRoundAgain, &[SMALL]),
+            (NineAreasAccepted, &[SITES]),
+            (ReachesBeyondTheSite, &[SMALL, SITES]),
         ],
     }
     .settle();

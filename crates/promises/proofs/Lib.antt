@@ -13,3 +13,5 @@ pub mod listing
 pub mod lines
 -- Item records.
 pub mod enraf
+-- Areas.
+pub mod areas

@@ -38,6 +38,7 @@ fn main() -> ExitCode {
         println!("{timing}  {proved:.1} and {independent:.1} million samples a second");
     });
     benchmarks.items(|timing| println!("{timing}"));
+    benchmarks.areas(|timing| println!("{timing}"));
     ExitCode::SUCCESS
 }
 

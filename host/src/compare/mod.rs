@@ -5,6 +5,7 @@
 //! list instead. How much is asked stands in a [`Plan`]; what is asked depends on the seed alone,
 //! not on the number of threads.
 
+pub mod areas;
 pub mod boards;
 pub mod cuts;
 pub mod frames;
@@ -47,6 +48,8 @@ pub struct Plan {
     pub changed_items: usize,
     /// Random and damaged records to be read, with as many items to be written.
     pub items: usize,
+    /// Sites to be planned, with plans of a fitter for each.
+    pub sites: usize,
 }
 
 impl Plan {
@@ -65,6 +68,7 @@ impl Plan {
             streams: 4_000,
             changed_items: 400,
             items: 2_000_000,
+            sites: 30_000,
         }
     }
 
@@ -83,6 +87,7 @@ impl Plan {
             streams: 1_000,
             changed_items: 40,
             items: 100_000,
+            sites: 4_000,
         }
     }
 }

@@ -1,11 +1,13 @@
 //! Inputs for the comparisons: good, damaged and hostile.
 
+mod areas;
 mod boards;
 mod items;
 mod lines;
 mod replies;
 mod sheets;
 
+pub use areas::{fitters_plan, site};
 pub use boards::{board_call, rows, BoardCall};
 pub use items::{framed, item, item_asked, mend, record, AskedCase};
 pub use lines::{bad_times, batches, drawn, pulse_times, samples, so_far, Drawn, Saying};

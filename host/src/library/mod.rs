@@ -4,6 +4,7 @@
 //! makes a call safe is that a Rust slice is never null and that what is lent for writing is lent
 //! to nobody else.
 
+mod areas;
 mod ffi;
 mod items;
 mod lines;

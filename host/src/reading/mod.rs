@@ -6,6 +6,7 @@
 
 #![forbid(unsafe_code)]
 
+pub mod areas;
 #[cfg(test)]
 mod bench_checks;
 pub mod board;

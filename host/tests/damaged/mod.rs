@@ -1,5 +1,6 @@
 //! Cores that are right but for one mistake, to see that a comparison can fail.
 
+pub mod areas;
 pub mod items;
 pub mod lines;
 
