@@ -1,12 +1,12 @@
 -- One changed byte: two accepted records begin with the same STX, and behind it the sum of each, check included, is 0; so no single byte differs.
-use mathlib.Core.Path.{_≡_, refl, sym, ap, _∙_}
-use mathlib.Core.List.{List, [], _∷_, _++_}
+use mathlib.Core.Path.{_≡_, sym, ap, _∙_}
+use mathlib.Core.List.{List, [], _∷_}
 use Prim.Native.Nat.{ℕ, zero, suc, _<_, _^_}
 use native.Mathlib.Omega.{arith}
 use lib.Bits.{bitXor, xor-zero-r}
 use lib.ListN.{length, getD, set, drop}
 use lib.Pow.{pow-pos}
-use Rattle.enraf.specs.Check.{sumAfter, blockCheck}
+use Rattle.enraf.specs.Check.{sumAfter}
 use Rattle.enraf.specs.Record.{STX, checkedOf, recordOf}
 use Rattle.enraf.specs.Reading.{itemIn, readFault}
 use Rattle.enraf.proofs.ByTests.{accepted, frame-signs}

@@ -7,7 +7,7 @@ use native.Mathlib.Omega.{arith}
 use lib.Dec.{eqb}
 use lib.ListN.{length, getD, drop, length-append, length-drop}
 use lib.Seq.{getD-append-add, getD-drop}
-use borrow.Author.Tests.{eqb-true, eqb-false}
+use borrow.Author.Tests.{eqb-true}
 use Rattle.frame.specs.Pick.{pick}
 use Rattle.enraf.specs.declared.Done.{Done}
 use Rattle.enraf.specs.Item.{Item}

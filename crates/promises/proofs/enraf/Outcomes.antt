@@ -6,7 +6,7 @@ use Prim.Native.Nat.{ℕ, _≤_}
 use native.Mathlib.Omega.{arith}
 use lib.Dec.{eqb, ltb}
 use lib.ListN.{length, drop}
-use borrow.Author.Tests.{eqb-true, eqb-false, ltb-false, not-false}
+use borrow.Author.Tests.{eqb-true, ltb-false}
 use Rattle.frame.specs.Pick.{pick}
 use Rattle.frame.specs.Faults.{firstOf}
 use Rattle.enraf.specs.declared.Done.{Done}

@@ -1,15 +1,14 @@
 -- Accepted, then written again: what was told fits, so the write is made, and the record of what was told is the bytes that were read.
-use mathlib.Core.Path.{_≡_, refl, sym, ap, subst, _∙_}
+use mathlib.Core.Path.{_≡_, sym, ap, subst, _∙_}
 use mathlib.Core.Bool.{true, false}
 use mathlib.Core.List.{List, _++_}
 use Prim.Native.Nat.{ℕ, _≤_}
 use lib.ListN.{length, drop}
 use borrow.Author.Tests.{le-ltb}
 use Rattle.enraf.specs.declared.Done.{Done}
-use Rattle.enraf.specs.declared.ItemTold.{ItemTold}
 use Rattle.enraf.specs.Item.{Item, textFits}
 use Rattle.enraf.specs.Record.{recordOf}
-use Rattle.enraf.specs.Reading.{readFault, itemIn, told, itemTold, ReadsItem}
+use Rattle.enraf.specs.Reading.{readFault, itemIn, itemTold}
 use Rattle.enraf.specs.Writing.{writeFault, WritesItem}
 use Rattle.enraf.proofs.ByTests.{write-fault-by}
 use Rattle.promises.specs.enraf.ReadThenWritten.{SameBytes, ItemReadThenWritten}

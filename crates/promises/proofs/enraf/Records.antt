@@ -1,16 +1,16 @@
 -- Whole records, both ways: an item that fits is read from its own record, and bytes that are accepted are the record of the item that they say. Bytes of
 -- ten or more are taken apart into the first eight, what follows the letters, and the last two; the rest is the laws of `Tails`.
 use mathlib.Core.Path.{_≡_, refl, sym, ap, _∙_}
-use mathlib.Core.Bool.{Bool, true, false, _&&_}
+use mathlib.Core.Bool.{true, _&&_}
 use mathlib.Core.List.{List, [], _∷_, _++_, append-assoc}
 use Prim.Native.Nat.{ℕ, suc, _+_, _-_, _*_, _/_, _%_, _≤_, _<_}
 use native.Mathlib.Omega.{arith}
-use lib.Dec.{eqb, leb}
+use lib.Dec.{leb}
 use lib.ListN.{length, getD, take, drop, length-append, take-append-drop, drop-of-length-le}
 use lib.Seq.{drop-cons, drop-drop, take-at, getD-at}
 use borrow.Author.Tests.{eq-eqb, le-leb, eqb-true}
 use Rattle.enraf.specs.Check.{blockCheck}
-use Rattle.enraf.specs.Item.{Item, digit, isDigit, digitAt, textFits, kindFits, tailOf, kindIn, errorIn, charactersIn}
+use Rattle.enraf.specs.Item.{Item, digit, isDigit, digitAt, textFits, tailOf, kindIn, errorIn, charactersIn}
 use Rattle.enraf.specs.Record.{STX, ETX, B, Z, checkedOf, recordOf}
 use Rattle.enraf.specs.Reading.{framed, checkRight, addressed, tailIn, itemIn, readFault}
 use Rattle.enraf.proofs.ByTests.{read-fault-by, framed-by, addressed-by, accepted, frame-long, frame-signs, address-digits}

@@ -8,12 +8,12 @@ use native.Mathlib.Omega.{arith}
 use native.Mathlib.Nat.{mod-eq-of-lt}
 use lib.Arith.{bin-ind}
 use lib.Bits.{bitXor, differ, xor-step, xor-comm, xor-lt, xor-self}
-use lib.Dec.{leb, eqb}
+use lib.Dec.{leb}
 use lib.ListN.{length, getD, set}
 use borrow.Author.Tests.{leb-true}
 use Rattle.enraf.specs.Check.{sumAfter, blockCheck}
-use Rattle.enraf.specs.Item.{Item, equals, ampersand, exclamation, digit, threeDigits, isLetter, isCharacter, allCharacters, isData, kindFits, textFits, tailOf}
-use Rattle.enraf.specs.Record.{ETX, B, Z, checkedOf}
+use Rattle.enraf.specs.Item.{Item, ampersand, exclamation, digit, threeDigits, isLetter, isCharacter, allCharacters, kindFits, textFits, tailOf}
+use Rattle.enraf.specs.Record.{ETX, checkedOf}
 use Rattle.enraf.proofs.Tests.{both}
 use Rattle.enraf.proofs.SixKinds.{data-fits, error-few, one-of-six, fits-kind}
 use Rattle.enraf.proofs.Tails.{tail-alone, tail-setting, tail-taken, tail-setting-taken, tail-value, tail-error}

@@ -6,11 +6,10 @@ use mathlib.Core.List.{List, [], _∷_, _++_}
 use Prim.Native.Nat.{ℕ, zero, suc, _+_, _-_, _*_, _/_, _%_, _≤_, _<_}
 use native.Mathlib.Omega.{arith}
 use lib.Dec.{eqb, leb}
-use lib.ListN.{length, getD, take, drop, length-append, length-drop, take-append-drop, drop-of-length-le}
+use lib.ListN.{length, getD, take, drop, length-append, take-append-drop, drop-of-length-le}
 use lib.Seq.{drop-cons, drop-drop, take-at, getD-at}
-use borrow.Author.Tests.{eq-eqb, ne-eqb, le-leb, eqb-true, eqb-false, leb-true, not-true}
-use Rattle.frame.specs.Pick.{pick}
-use Rattle.enraf.specs.Item.{equals, ampersand, exclamation, digit, isDigit, digitAt, threeDigits, isCharacter, allCharacters, isData, hasData, setting, settingTaken, value, failed, kindFits, tailOf, begins, ends, isTaken, isError, kindIn, charactersIn, errorIn}
+use borrow.Author.Tests.{ne-eqb, le-leb, eqb-true, leb-true, not-true}
+use Rattle.enraf.specs.Item.{equals, ampersand, exclamation, digit, isDigit, digitAt, threeDigits, isCharacter, allCharacters, isData, setting, settingTaken, value, failed, kindFits, tailOf, begins, ends, isTaken, isError, kindIn, charactersIn, errorIn}
 use Rattle.enraf.proofs.Tests.{both}
 use Rattle.enraf.proofs.ByTests.{kind-by, error-by, characters-by, number-by, is-alone, is-setting, is-taken, is-setting-taken, is-error, setting-taken-long, setting-long, error-long, error-begins, error-digits}
 use Rattle.enraf.proofs.SixKinds.{data-fits, error-fits, one-of-six}

@@ -1,19 +1,14 @@
 -- Written, then read: an accepted write leaves the item's record first in the output, and that record says the item.
 use mathlib.Core.Path.{_≡_, refl, sym, ap, _∙_}
-use mathlib.Core.Bool.{Bool, true, false}
-use mathlib.Core.List.{List, _++_}
+use mathlib.Core.Bool.{true}
+use mathlib.Core.List.{List}
 use Prim.Native.Nat.{ℕ, _-_, _≤_}
-use native.Mathlib.Omega.{arith}
-use lib.Dec.{eqb}
-use lib.ListN.{length, take, drop, replicate, length-append}
+use lib.ListN.{length, take, drop, replicate}
 use lib.Seq.{take-at}
-use Rattle.frame.specs.Pick.{pick}
-use Rattle.enraf.specs.declared.Done.{Done}
 use Rattle.enraf.specs.declared.ItemTold.{ItemTold}
 use Rattle.enraf.specs.Item.{Item, textFits}
 use Rattle.enraf.specs.Record.{recordOf}
-use Rattle.enraf.specs.Reading.{readFault, itemIn, told, refused, itemTold, ReadsItem}
-use Rattle.enraf.specs.Writing.{writeFault, done, WritesItem}
+use Rattle.enraf.specs.Reading.{readFault, itemIn, told, itemTold}
 use Rattle.promises.specs.enraf.WrittenThenRead.{Wrote, ItemWrittenThenRead}
 use Rattle.promises.proofs.enraf.Outcomes.{read-accepted, write-accepted, fitting-write}
 use Rattle.promises.proofs.enraf.Records.{says, readable}

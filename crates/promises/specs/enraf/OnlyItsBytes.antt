@@ -1,7 +1,7 @@
 -- A refused write changes no byte, and a write that is made changes only the bytes that it counts.
 use mathlib.Core.Path.{_≡_}
 use mathlib.Core.List.{List}
-use Prim.Native.Nat.{ℕ, _+_, _≤_}
+use Prim.Native.Nat.{ℕ, _≤_}
 use lib.ListN.{length, getD}
 use Rattle.enraf.specs.declared.Done.{Done}
 use Rattle.enraf.specs.Item.{Item}

@@ -3,7 +3,6 @@ use mathlib.Core.Path.{_≡_}
 use mathlib.Core.List.{List, [], _∷_, map}
 use Prim.Native.Nat.{ℕ}
 use lib.Dec.{eqb}
-use lib.ListN.{replicate}
 use Rattle.frame.specs.Pick.{pick}
 use Rattle.enraf.specs.declared.ItemTold.{ItemTold}
 use Rattle.enraf.specs.Item.{Item, itemOf, alone, setting, taken, settingTaken, value, failed}
