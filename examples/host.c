@@ -27,7 +27,7 @@ static const struct transmitter site[] = {
     /* a Model 1900 that tells hundredths of a foot */
     {7, SISAL_MODE_DECIMAL, 3000, 61, -123, 188},
     /* a Model 1800 that tells millimetres, with odd parity; at dusk it is beyond its range */
-    {310, SISAL_MODE_20_M | SISAL_TYPE_1800 | SISAL_ODD_PARITY, 9999, 217, 905, 120},
+    {310, SISAL_MODE_20_M | SISAL_TYPE_1800 | SISAL_ODD_PARITY, 9999, 217, 1905, 120},
 };
 
 enum { TRANSMITTERS = sizeof site / sizeof site[0], DAYS = 31 };
