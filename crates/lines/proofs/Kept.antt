@@ -1,6 +1,6 @@
 -- Every legal state is safe, and so is what a step leaves that closes nothing: its run is below the gap, or of marks or spaces. Assumes nothing.
-use mathlib.Core.Path.{_≡_, refl, sym, ap, _∙_}
-use mathlib.Core.Bool.{Bool, true, false, _&&_, _||_}
+use mathlib.Core.Path.{_≡_, ap, _∙_}
+use mathlib.Core.Bool.{true, false, _&&_, _||_}
 use Prim.Native.Nat.{ℕ, _+_, _-_, _%_, _^_, _<_, _≤_, min}
 use native.Mathlib.Omega.{arith}
 use native.Mathlib.Nat.{zero-mod}

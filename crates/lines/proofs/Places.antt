@@ -3,7 +3,7 @@ use mathlib.Core.Path.{_≡_, sym, ap, _∙_}
 use mathlib.Core.Bool.{Bool, true, false}
 use Prim.Native.Nat.{ℕ, _+_, _-_, _*_, _/_, _%_, _^_, _<_, _≤_}
 use native.Mathlib.Omega.{arith}
-use native.Mathlib.Nat.{one-mul, mod-eq-of-lt, div-add-mod', div-lt-iff-lt-mul, mul-assoc, mul-comm, add-mul, mul-mod-left}
+use native.Mathlib.Nat.{one-mul, mod-eq-of-lt, div-add-mod', div-lt-iff-lt-mul, mul-assoc, add-mul, mul-mod-left}
 use Rattle.frame.specs.Line.{mark}
 use lib.Arith.{digits-lt}
 use lib.Pow.{pow-lt, pow-pos, pow-add}

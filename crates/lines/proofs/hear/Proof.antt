@@ -1,14 +1,14 @@
 -- `lines::hear` meets its contract: at each turn what the whole batch tells is what its rest tells from the state so far, i samples later. Assumes nothing.
 use mathlib.Core.Path.{_≡_, sym, ap, _∙_}
-use mathlib.Core.Bool.{true, false}
-use Prim.Native.Nat.{ℕ, _+_, _-_, _≤_, _<_}
+use mathlib.Core.Bool.{false}
+use Prim.Native.Nat.{_-_, _≤_}
 use native.Mathlib.Omega.{arith}
 use borrow.Author.Needs.{needs}
 use lib.ListN.{length, getD, drop}
 use Rattle.lines.specs.Sample.{sampleOf}
 use Rattle.lines.specs.Timing.{timing}
 use Rattle.lines.specs.Step.{after, closes}
-use Rattle.lines.specs.Hearing.{heard, later, hear}
+use Rattle.lines.specs.Hearing.{later, hear}
 use Rattle.lines.specs.Calls.{answered}
 use Rattle.lines.specs.inside.Safe.{Safe}
 use Rattle.lines.proofs.Kept.{kept}

@@ -1,12 +1,12 @@
 -- `lines::sisal_hear_lines` meets its contract: bad timing is asked first, and else the samples are heard from what the state means. Assumes nothing.
-use mathlib.Core.Path.{_≡_, sym, ap, _∙_}
-use mathlib.Core.Bool.{Bool, true, false, _||_, not}
-use Prim.Native.Nat.{ℕ, _≤_}
+use mathlib.Core.Path.{_≡_, sym, _∙_}
+use mathlib.Core.Bool.{false, _||_, not}
+use Prim.Native.Nat.{_≤_}
 use borrow.Author.Tests.{leb-true, not-false}
 use lib.Dec.{leb, ltb}
 use Rattle.frame.specs.Faults.{firstOf}
 use Rattle.lines.specs.Timing.{Timing, timing, within, badTiming, timingFault}
-use Rattle.lines.specs.Calls.{answered, linesAnswer}
+use Rattle.lines.specs.Calls.{linesAnswer}
 use Rattle.lines.specs.Hearing.{hear}
 use Rattle.lines.proofs.Cases.{both, none-of}
 use borrow.Author.Needs.{needs}

@@ -1,6 +1,6 @@
 -- What keeps the step's sums within their words: every legal state has it, and a step that closes nothing keeps it.
 use mathlib.Core.Path.{_≡_}
-use Prim.Native.Nat.{ℕ, _-_, _%_, _^_, _≤_}
+use Prim.Native.Nat.{_-_, _%_, _^_, _≤_}
 use Rattle.lines.specs.declared.SoFar.{SoFar}
 
 pub record Safe (s : SoFar) : Type 0 where

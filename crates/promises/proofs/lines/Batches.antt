@@ -1,5 +1,5 @@
 -- Any batching: what a history told, and where it ended, are what its samples tell and leave, and nothing there knows of calls.
-use mathlib.Core.Path.{_≡_, sym, _∙_}
+use mathlib.Core.Path.{sym, _∙_}
 use Rattle.promises.specs.lines.Batches.{Batches}
 use Rattle.promises.proofs.lines.Legal.{view}
 use Rattle.promises.proofs.lines.Ends.{good}

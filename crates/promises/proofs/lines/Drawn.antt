@@ -1,28 +1,27 @@
 -- Drawn, then heard: pulse by pulse, the runs since the last gap grow by a pulse and its idle, which are quiet; after the last pulse the idle closes at
 -- the gap, and the runs are the bits drawn.
 use mathlib.Core.Path.{_≡_, refl, sym, ap, ap₂, _∙_}
-use mathlib.Core.Bool.{Bool, true, false, _&&_, and-false}
+use mathlib.Core.Bool.{Bool, true, false}
 use mathlib.Core.List.{List, [], _∷_, _++_, map, append-assoc, append-nil}
 use Prim.Native.Nat.{ℕ, zero, suc, _+_, _-_, _<_, _≤_}
 use native.Mathlib.Omega.{arith}
-use lib.Dec.{leb}
 use lib.ListN.{length, replicate, replicate-append-replicate, length-replicate, length-append}
 use borrow.Author.Tests.{le-leb, lt-leb}
 use Rattle.frame.specs.Pick.{pick}
 use Rattle.frame.specs.Line as frame
 use Rattle.lines.specs.declared.SoFar.{SoFar}
 use Rattle.lines.specs.declared.LinesTold.{LinesTold}
-use Rattle.lines.specs.Sample.{Sample, idle, mark, space, both, foreign, sampleOf}
-use Rattle.lines.specs.Timing.{Timing, badTiming}
-use Rattle.lines.specs.SoFar.{atRest, meant}
+use Rattle.lines.specs.Sample.{Sample, idle, mark, space, sampleOf}
+use Rattle.lines.specs.Timing.{Timing}
+use Rattle.lines.specs.SoFar.{atRest}
 use Rattle.lines.specs.Step.{after, closes}
 use Rattle.lines.specs.Hearing.{Heard, heard, toldOf, later, hear}
-use Rattle.lines.specs.Calls.{answered, HearsLines}
+use Rattle.lines.specs.Calls.{answered}
 use Rattle.promises.specs.lines.History.{Said, said}
-use Rattle.promises.specs.lines.Runs.{Run, isIdle, idleLast, allPulses, bitOf, bitsIn, allIdle, unspoiled, atGap}
+use Rattle.promises.specs.lines.Runs.{Run, isIdle, idleLast, allPulses, bitsIn, allIdle, unspoiled, atGap}
 use Rattle.promises.specs.lines.Drawn.{Pulse, drawn, WellDrawn, DrawnThenHeard}
 use Rattle.promises.proofs.lines.Legal.{rest, is-legal}
-use Rattle.promises.proofs.lines.Quiet.{Quiet, quiet-hear, later-later}
+use Rattle.promises.proofs.lines.Quiet.{Quiet, quiet-hear}
 use Rattle.promises.proofs.lines.Ends.{Good, good, meant-itself, heard-by}
 use Rattle.promises.proofs.lines.Streams.{saidOf}
 use Rattle.promises.proofs.lines.Segments.{run, countIn, count-is, stateOf, not-all}

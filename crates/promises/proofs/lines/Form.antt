@@ -1,26 +1,24 @@
 -- In form: a message closes with 1 to 64 bits and zeros after them, which is the form of a reply; so of the tests of a reply 14 and 1 do not apply.
-use mathlib.Core.Path.{_≡_, refl, sym, ap, subst, _∙_}
+use mathlib.Core.Path.{_≡_, refl, ap, _∙_}
 use mathlib.Core.Bool.{Bool, true, false, not}
 use mathlib.Core.List.{List, [], _∷_}
-use Prim.Native.Nat.{ℕ, _+_, _*_, _/_, _<_, _≤_}
+use Prim.Native.Nat.{ℕ, _+_, _*_, _≤_}
 use native.Mathlib.Omega.{arith}
 use lib.Dec.{eqb}
 use lib.ListN.{length, take}
-use borrow.Author.Tests.{eq-eqb, ne-eqb}
+use borrow.Author.Tests.{ne-eqb}
 use Rattle.frame.specs.declared.Reply.{Reply}
 use Rattle.frame.specs.declared.Reply.the-variants.{Read, Refused, Unreadable}
-use Rattle.frame.specs.Pick.{pick}
 use Rattle.frame.specs.Line.{bytesFor, formed, firstBytes, line}
 use Rattle.frame.specs.Level.{levelOf, placeLost}
-use Rattle.frame.specs.Faults.{Test, _gives_, firstOf}
+use Rattle.frame.specs.Faults.{Test, firstOf}
 use Rattle.frame.specs.Reply.{ReadsReply, replyNumber, replyFault, replyTests, replyOf, readingAt, refusedBy, modeIn}
 use Rattle.lines.specs.declared.SoFar.{SoFar}
 use Rattle.lines.specs.declared.LinesTold.{LinesTold}
 use Rattle.lines.specs.Timing.{Timing, timing, badTiming}
-use Rattle.lines.specs.SoFar.{soFar, atRest, meant}
+use Rattle.lines.specs.SoFar.{atRest, meant}
 use Rattle.lines.specs.Hearing.{Heard, heard, toldOf, hear}
 use Rattle.lines.specs.Calls.{answered, HearsLines}
-use Rattle.promises.specs.frame.Bits.{InForm}
 use Rattle.lines.proofs.Cases.{of-pick}
 use Rattle.promises.specs.lines.Form.{bytesIn, LinesForm}
 use Rattle.promises.proofs.frame.Bytes.{bits-written}

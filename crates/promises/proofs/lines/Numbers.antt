@@ -1,22 +1,22 @@
 -- The numbers. Whether a byte above 3 came is what the state's 22 remembers: one step after another, quiet samples keep it, and the close tells it.
-use mathlib.Core.Path.{_≡_, refl, sym, ap, ap₂, subst, _∙_}
-use mathlib.Core.Bool.{Bool, true, false, not, _&&_, _||_, or-assoc, or-false}
+use mathlib.Core.Path.{_≡_, refl, sym, ap, subst, _∙_}
+use mathlib.Core.Bool.{Bool, true, false, _&&_, _||_, or-assoc, or-false}
 use mathlib.Core.List.{List, [], _∷_, _++_, map}
-use Prim.Native.Nat.{ℕ, zero, suc, _+_, _<_, _≤_, min}
+use Prim.Native.Nat.{ℕ, zero, suc, _+_, _≤_, min}
 use native.Mathlib.Omega.{arith}
 use lib.Dec.{eqb, ltb}
 use lib.ListN.{length, take}
 use lib.Seq.{take-append-add}
-use borrow.Author.Tests.{eqb-true, eqb-false, eq-eqb, ne-eqb, lt-ltb, le-ltb}
+use borrow.Author.Tests.{eqb-true, eqb-false, ne-eqb, lt-ltb}
 use Rattle.frame.specs.Pick.{pick}
 use Rattle.frame.specs.Faults.{firstOf}
 use Rattle.lines.specs.declared.SoFar.{SoFar}
 use Rattle.lines.specs.declared.LinesTold.{LinesTold}
 use Rattle.lines.specs.Sample.{Sample, idle, mark, space, both, foreign, sampleOf}
 use Rattle.lines.specs.Timing.{Timing, timing, within, badTiming, timingFault}
-use Rattle.lines.specs.SoFar.{soFar, atRest, spoiltBy, legal, meant}
+use Rattle.lines.specs.SoFar.{soFar, atRest, spoiltBy, meant}
 use Rattle.lines.specs.Step.{withBit, runEnded, longerIdle, afterIdle, afterLow, afterBoth, after, closes}
-use Rattle.lines.specs.Hearing.{Heard, nothing, heard, toldOf, numberTold, hear}
+use Rattle.lines.specs.Hearing.{Heard, heard, toldOf, numberTold, hear}
 use Rattle.lines.specs.Calls.{answered, linesAnswer, HearsLines}
 use Rattle.lines.proofs.Cases.{of-pick}
 use Rattle.promises.specs.lines.History.{bitsOf, said}
@@ -24,7 +24,7 @@ use Rattle.promises.specs.lines.Runs.{isForeign}
 use Rattle.promises.specs.lines.Numbers.{oneAbove3, LineNumbers}
 use Rattle.promises.proofs.lines.Legal.{Legal, rest, between, in-run, spoilt, Closing, message, report, Stepped, on, shut, step, view}
 use Rattle.promises.proofs.lines.Quiet.{Quiet}
-use Rattle.promises.proofs.lines.Ends.{Good, Still, Shut, Ends, still-open, closed-at, good, split, meant-legal, meant-itself, heard-by}
+use Rattle.promises.proofs.lines.Ends.{Good, Ends, still-open, closed-at, good, split, meant-legal, meant-itself, heard-by}
 
 abbrev marked : SoFar → Bool
 marked s = eqb (s .fault) 22

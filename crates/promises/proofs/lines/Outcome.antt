@@ -1,5 +1,5 @@
 -- One outcome: the contract is one equation.
-use mathlib.Core.Path.{_≡_, refl, sym, _∙_}
+use mathlib.Core.Path.{refl, sym, _∙_}
 use Rattle.lines.specs.Timing.{timing}
 use Rattle.lines.specs.Calls.{linesAnswer}
 use Rattle.promises.specs.lines.Outcome.{LinesOutcome}

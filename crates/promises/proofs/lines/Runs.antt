@@ -21,7 +21,7 @@ use Rattle.promises.proofs.Cases as cases
 use Rattle.promises.proofs.lines.Legal.{rest}
 use Rattle.promises.proofs.lines.Quiet.{Quiet}
 use Rattle.promises.proofs.lines.Ends.{Good, good}
-use Rattle.promises.proofs.lines.Streams.{saidOf, telling, next, tells, quiet-first, history}
+use Rattle.promises.proofs.lines.Streams.{saidOf, tells, quiet-first, history}
 use Rattle.promises.proofs.lines.Grouped.{grouped}
 use Rattle.promises.proofs.lines.Segments.{run, stateOf}
 use Rattle.promises.proofs.lines.SegmentSteps.{Differs, stage, one, closes-run, rests, closes-rest, closes-idle, closes-as, quiet-from}

@@ -1,25 +1,25 @@
 -- One sample takes the state of the runs before it to the state of the runs after it: the first sample of a new run, and one more of the same. Then a
 -- whole run is quiet, or an idle run closes at the gap and is told as the runs say.
-use mathlib.Core.Path.{_≡_, refl, sym, ap, ap₂, subst, _∙_}
+use mathlib.Core.Path.{_≡_, refl, sym, ap, ap₂, _∙_}
 use mathlib.Core.Bool.{Bool, true, false, _&&_, _||_, and-true, and-false, or-false, or-true}
-use mathlib.Core.List.{List, [], _∷_, _++_}
-use Prim.Native.Nat.{ℕ, zero, suc, _+_, _-_, _<_, _≤_, min}
+use mathlib.Core.List.{List, [], _∷_}
+use Prim.Native.Nat.{ℕ, zero, suc, _+_, _<_, _≤_, min}
 use native.Mathlib.Omega.{arith}
 use native.Mathlib.Numerals.{add-one}
 use native.Mathlib.Nat.{add-zero}
-use lib.Dec.{eqb, leb, ltb}
-use lib.ListN.{length, replicate, replicate-append-replicate}
-use borrow.Author.Tests.{eq-eqb, ne-eqb, lt-leb, le-leb}
+use lib.Dec.{eqb, leb}
+use lib.ListN.{length, replicate}
+use borrow.Author.Tests.{eq-eqb, ne-eqb, lt-leb}
 use Rattle.frame.specs.Pick.{pick}
 use Rattle.frame.specs.Line as frame
 use Rattle.lines.specs.declared.SoFar.{SoFar}
 use Rattle.lines.specs.Sample.{Sample, idle, mark, space, both, foreign}
-use Rattle.lines.specs.Timing.{Timing, within}
+use Rattle.lines.specs.Timing.{Timing}
 use Rattle.lines.specs.SoFar.{soFar, atRest, spoiltBy}
 use Rattle.lines.specs.Step.{withBit, runEnded, longerIdle, afterIdle, afterLow, afterBoth, after, closes}
 use Rattle.lines.specs.Hearing.{toldOf}
 use Rattle.lines.proofs.Cases.{of-pick}
-use Rattle.promises.specs.lines.History.{Said, bitsOf}
+use Rattle.promises.specs.lines.History.{bitsOf}
 use Rattle.promises.specs.lines.Runs.{Run, isIdle, idleLast, allPulses, bitsIn, allIdle, isForeign, foreignIn, unspoiled, atGap}
 use Rattle.promises.proofs.Cases as cases
 use Rattle.promises.proofs.lines.Quiet.{Quiet}

@@ -1,13 +1,13 @@
 -- The state after the runs since the last gap, worked out from the runs: one sample more of a run, or the first of a new one, takes the state of the
 -- runs before it to the state of the runs after it. By cases on the kinds; a message is bits so far, or spoiled, and both sides judge alike.
 use mathlib.Core.Path.{_≡_, refl, sym, ap, ap₂, _∙_}
-use mathlib.Core.Bool.{Bool, true, false, _&&_, _||_, and-true, and-false, or-false, or-true}
+use mathlib.Core.Bool.{Bool, true, false, _&&_, _||_, and-true, and-false, or-false}
 use mathlib.Core.List.{List, [], _∷_, _++_, append-nil}
-use Prim.Native.Nat.{ℕ, zero, suc, _+_, _<_, _≤_, min}
+use Prim.Native.Nat.{ℕ, _+_, _<_, _≤_, min}
 use native.Mathlib.Omega.{arith}
-use lib.Dec.{eqb, leb, ltb}
+use lib.Dec.{leb, ltb}
 use lib.ListN.{length, length-append}
-use borrow.Author.Tests.{eqb-true, leb-true, leb-false, eq-eqb, ne-eqb, le-leb, lt-leb, lt-ltb, le-ltb}
+use borrow.Author.Tests.{leb-true, ne-eqb, le-leb, lt-leb, lt-ltb, le-ltb}
 use Rattle.frame.specs.Pick.{pick}
 use Rattle.frame.specs.Line as frame
 use Rattle.frame.specs.Line.{firstBytes}
@@ -15,16 +15,13 @@ use Rattle.lines.specs.declared.SoFar.{SoFar}
 use Rattle.lines.specs.Sample.{Sample, idle, mark, space, both, foreign}
 use Rattle.lines.specs.Timing.{Timing, within}
 use Rattle.lines.specs.SoFar.{soFar, atRest, spoiltBy}
-use Rattle.lines.specs.Step.{withBit, runEnded, longerIdle, afterIdle, afterLow, afterBoth, after, closes}
-use Rattle.lines.specs.Hearing.{toldOf}
+use Rattle.lines.specs.Step.{longerIdle, afterIdle, afterLow}
 use Rattle.lines.proofs.Cases.{of-pick}
-use Rattle.promises.specs.lines.History.{Said, bitsOf}
-use Rattle.promises.specs.lines.Runs.{Run, isIdle, idleLast, pulseOrIdle, allPulses, bitOf, bitsIn, allIdle, isForeign, foreignIn, unspoiled, atGap}
+use Rattle.promises.specs.lines.History.{bitsOf}
+use Rattle.promises.specs.lines.Runs.{Run, isIdle, idleLast, pulseOrIdle, allPulses, bitOf, bitsIn, allIdle, isForeign, foreignIn, unspoiled}
 use Rattle.promises.proofs.Cases as cases
 use Rattle.promises.proofs.lines.Words.{Clear, clear-more, bits-more}
 use Rattle.promises.proofs.lines.Legal.{no-bits}
-use Rattle.promises.proofs.lines.Ends.{Good}
-use Rattle.promises.proofs.lines.Streams.{saidOf}
 
 abbrev pub run : Sample → ℕ → Run
 run kind size = record { kind = kind; size = size }

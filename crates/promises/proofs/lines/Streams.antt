@@ -1,10 +1,9 @@
 -- All that samples tell, and the state after them, as two folds that know of no batches. A call tells and leaves what its samples do, so a history does.
-use mathlib.Core.Path.{_≡_, refl, sym, ap, ap₂, subst, _∙_}
-use mathlib.Core.Bool.{Bool, true, false, _&&_}
-use mathlib.Core.List.{List, [], _∷_, _++_, map, append-assoc, append-nil}
-use Prim.Native.Nat.{ℕ, _+_, _≤_}
+use mathlib.Core.Path.{_≡_, refl, sym, ap, ap₂, _∙_}
+use mathlib.Core.Bool.{false}
+use mathlib.Core.List.{List, [], _∷_, _++_, map, append-assoc}
+use Prim.Native.Nat.{ℕ, _+_}
 use native.Mathlib.Omega.{arith}
-use lib.Dec.{eqb}
 use lib.ListN.{length, take}
 use lib.Seq.{take-all, take-append-add}
 use borrow.Author.Tests.{ne-eqb}
@@ -13,12 +12,12 @@ use Rattle.lines.specs.declared.SoFar.{SoFar}
 use Rattle.lines.specs.declared.LinesTold.{LinesTold}
 use Rattle.lines.specs.Sample.{Sample, idle, sampleOf}
 use Rattle.lines.specs.Timing.{Timing, badTiming}
-use Rattle.lines.specs.SoFar.{atRest, legal, meant}
+use Rattle.lines.specs.SoFar.{atRest}
 use Rattle.lines.specs.Step.{after, closes}
-use Rattle.lines.specs.Hearing.{Told, Heard, nothing, heard, toldOf, numberTold, countTold, bytesTold, hear}
+use Rattle.lines.specs.Hearing.{Told, Heard, heard, toldOf, numberTold, countTold, bytesTold, hear}
 use Rattle.lines.specs.Calls.{answered, HearsLines}
-use Rattle.promises.specs.lines.History.{Said, bitsOf, said, tellings, History, begun, called}
-use Rattle.promises.proofs.lines.Legal.{Legal, rest, Closing, message, report, view, is-legal}
+use Rattle.promises.specs.lines.History.{Said, bitsOf, tellings, History, begun, called}
+use Rattle.promises.proofs.lines.Legal.{Legal, rest, Closing, message, report, is-legal}
 use Rattle.promises.proofs.lines.Quiet.{Quiet}
 use Rattle.promises.proofs.lines.Ends.{Good, Still, Shut, Ends, still-open, closed-at, split, meant-itself, heard-by}
 

@@ -1,24 +1,21 @@
 -- What a call takes. Where all samples are quiet it takes them all and tells nothing; where one closes, those before it are quiet.
-use mathlib.Core.Path.{_≡_, refl, sym, ap, subst, _∙_}
-use mathlib.Core.Bool.{false}
-use mathlib.Core.List.{List, [], _∷_, _++_, map, append-nil}
-use Prim.Native.Nat.{ℕ, suc, _+_, _-_, _<_, _≤_}
+use mathlib.Core.Path.{_≡_, sym, ap, _∙_}
+use mathlib.Core.List.{List, [], _∷_, append-nil}
+use Prim.Native.Nat.{ℕ, _+_, _-_, _<_, _≤_}
 use native.Mathlib.Omega.{arith}
 use lib.ListN.{length, getD, take, length-append}
 use lib.Seq.{getD-append-seam, take-append-seam}
 use Rattle.lines.specs.declared.SoFar.{SoFar}
 use Rattle.lines.specs.declared.LinesTold.{LinesTold}
-use Rattle.lines.specs.Sample.{idle, sampleOf}
-use Rattle.lines.specs.Timing.{Timing, timing, badTiming}
-use Rattle.lines.specs.SoFar.{atRest, meant}
-use Rattle.lines.specs.Step.{after}
-use Rattle.lines.specs.Hearing.{Heard, nothing, heard, toldOf, later, hear}
-use Rattle.lines.specs.Calls.{answered, HearsLines}
+use Rattle.lines.specs.Timing.{Timing, timing}
+use Rattle.lines.specs.SoFar.{meant}
+use Rattle.lines.specs.Hearing.{Heard, nothing, hear}
+use Rattle.lines.specs.Calls.{answered}
 use Rattle.promises.specs.lines.History.{Said, tellings}
 use Rattle.promises.specs.lines.Takes.{Takes}
 use Rattle.promises.proofs.lines.Quiet.{quiet-hear}
 use Rattle.promises.proofs.lines.Ends.{Still, Shut, Ends, still-open, closed-at, good, split, meant-legal, heard-by}
-use Rattle.promises.proofs.lines.Streams.{saidOf, told-once}
+use Rattle.promises.proofs.lines.Streams.{told-once}
 
 -- What was told is not nothing.
 pub something : {x : Said} {xs ys : List Said} → ys ≡ x ∷ xs → ys ≡ [] → ⊥

@@ -1,7 +1,7 @@
 -- Drawn, then heard: bits drawn as pulses of lengths between least and most, with idle shorter than the gap between them and a gap after the last, are
 -- handed over bit for bit, at the last sample of the gap.
 use mathlib.Core.Path.{_≡_}
-use mathlib.Core.Bool.{Bool, true, false}
+use mathlib.Core.Bool.{Bool, false}
 use mathlib.Core.List.{List, [], _∷_, _++_, map}
 use Prim.Native.Nat.{ℕ, _+_, _<_, _≤_}
 use lib.ListN.{length, replicate}

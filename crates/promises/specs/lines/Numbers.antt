@@ -12,7 +12,7 @@ use Rattle.lines.specs.declared.LinesTold.{LinesTold}
 use Rattle.lines.specs.Timing.{timing, badTiming}
 use Rattle.lines.specs.SoFar.{legal}
 use Rattle.lines.specs.Calls.{HearsLines}
-use Rattle.promises.specs.lines.History.{tellings, said}
+use Rattle.promises.specs.lines.History.{said}
 
 unfoldable pub oneAbove3 : List ℕ → Bool
 oneAbove3 [] = false

@@ -1,6 +1,6 @@
 -- How many samples a call takes: all of them where it tells nothing; else it stops at the sample that closes, no sooner and no later.
 use mathlib.Core.Path.{_≡_}
-use mathlib.Core.Bool.{true, false}
+use mathlib.Core.Bool.{false}
 use mathlib.Core.List.{List, []}
 use Prim.Native.Nat.{ℕ, _-_, _<_, _≤_}
 use lib.ListN.{length, getD, take}

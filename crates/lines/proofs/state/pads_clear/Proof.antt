@@ -1,8 +1,7 @@
 -- `lines::state::pads_clear` meets its contract: a shift is a power, and where the count is 0 the whole word is asked. Assumes nothing.
-use mathlib.Core.Path.{_≡_, ap, _∙_}
-use Prim.Native.Nat.{ℕ, _-_, _%_, _^_, _<_, _≤_}
+use mathlib.Core.Path.{_≡_}
+use Prim.Native.Nat.{_-_, _^_, _<_}
 use native.Mathlib.Omega.{arith}
-use lib.Dec.{eqb}
 use lib.Pow.{pow-pos}
 use native.Mathlib.Nat.{mod-eq-of-lt}
 use borrow.Author.Tests.{le-leb, lt-leb}

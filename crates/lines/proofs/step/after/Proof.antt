@@ -1,7 +1,7 @@
 -- `lines::step::after` meets its contract: each kind of sample by its own step. Assumes nothing.
 use mathlib.Core.Path.{_∙_}
 use native.Mathlib.Omega.{arith}
-use borrow.Author.Tests.{eq-eqb, ne-eqb}
+use borrow.Author.Tests.{eq-eqb}
 use Rattle.lines.specs.Timing.{timing}
 use Rattle.lines.proofs.Steps.{low-sample, foreign-sample}
 use borrow.Author.Needs.{needs}

@@ -1,6 +1,5 @@
 -- `lines::step::with_bit` meets its contract: the bits after the count are 0, so there is room for one more. Assumes nothing.
-use Prim.Native.Nat.{_≤_, _<_, _^_}
-use native.Mathlib.Omega.{arith}
+use Prim.Native.Nat.{_<_, _^_}
 use lib.Dec.{eqb}
 use Rattle.frame.specs.Line.{mark}
 use Rattle.lines.specs.Step.{withBit}
