@@ -1,7 +1,7 @@
 -- A record that is stored part by part, and what a write then answers and leaves. The parts join to the record because the bytes that the check is made
 -- of are, once the ETX is stored, just those between the STX and the check. Assumes nothing.
 use mathlib.Core.Path.{_≡_, refl, sym, ap, _∙_}
-use mathlib.Core.Bool.{Bool, true, false}
+use mathlib.Core.Bool.{Bool, false}
 use mathlib.Core.List.{List, [], _∷_, _++_, append-assoc}
 use Prim.Native.Nat.{ℕ, suc, _+_, _≤_, _/_, _%_}
 use native.Mathlib.Omega.{arith}

@@ -1,6 +1,6 @@
 -- Document 02, request 13: an item is two capital letters, alone, or followed by "=" and data for a setting; an answer adds "&" for taken, or is the
 -- item with data, or the item, "!" and three digits. Data is 1 to 16 characters from 20 to 7E hex, none of them "&", "!" or "=".
-use mathlib.Core.Bool.{Bool, true, false, not, _&&_, _||_}
+use mathlib.Core.Bool.{Bool, true, not, _&&_, _||_}
 use mathlib.Core.List.{List, [], _∷_, _++_}
 use Prim.Native.Nat.{ℕ, _+_, _-_, _*_, _/_, _%_}
 use lib.Dec.{eqb, leb}

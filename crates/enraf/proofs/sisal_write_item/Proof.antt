@@ -6,7 +6,7 @@ use Prim.Native.Nat.{ℕ, _+_, _≤_, _<_}
 use native.Mathlib.Omega.{arith}
 use borrow.Author.Tests.{lt-ltb, le-ltb, not-true, not-false}
 use lib.ListN.{length}
-use Rattle.enraf.specs.Item.{Item, itemOf, textFits, tailOf}
+use Rattle.enraf.specs.Item.{Item, itemOf, textFits}
 use Rattle.enraf.specs.Record.{recordOf}
 use Rattle.enraf.specs.Writing.{done}
 use Rattle.enraf.proofs.ByTests.{write-fault-by}

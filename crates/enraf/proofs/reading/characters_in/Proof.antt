@@ -1,16 +1,15 @@
 -- `enraf::reading::characters_in` meets its contract: a setting has its "=", and a setting taken its "&" besides, so that the parts are there.
 -- Assumes nothing.
 use mathlib.Core.Path.{_≡_, refl, sym, ap, _∙_}
-use mathlib.Core.Bool.{Bool, true, false}
-use mathlib.Core.List.{List, []}
+use mathlib.Core.Bool.{true, false}
+use mathlib.Core.List.{List}
 use Prim.Native.Nat.{ℕ, _-_, _≤_}
 use native.Mathlib.Omega.{arith}
 use borrow.Author.Tests.{eq-eqb, ne-eqb}
 use lib.Dec.{eqb}
 use lib.ListN.{length, take, drop, length-drop}
 use lib.Seq.{take-all}
-use Rattle.frame.specs.Pick.{pick}
-use Rattle.enraf.specs.Item.{setting, settingTaken, value, kindIn, charactersIn}
+use Rattle.enraf.specs.Item.{setting, settingTaken, value, kindIn}
 use Rattle.enraf.proofs.ByTests.{characters-by, setting-long, setting-taken-long}
 use borrow.Author.Needs.{needs}
 use Rattle.enraf.proofs.reading.characters_in.Statement.{statement}

@@ -1,13 +1,11 @@
 -- `enraf::reading::error_in` meets its contract: of an error all three digits are there, and are digits. Assumes nothing.
 use mathlib.Core.Path.{_≡_, sym, ap, _∙_}
-use mathlib.Core.Bool.{Bool, true, false}
-use mathlib.Core.List.{List}
+use mathlib.Core.Bool.{true, false}
 use Prim.Native.Nat.{ℕ, _+_, _*_}
 use native.Mathlib.Omega.{arith}
 use borrow.Author.Tests.{eq-eqb, ne-eqb}
 use lib.Dec.{eqb}
-use Rattle.frame.specs.Pick.{pick}
-use Rattle.enraf.specs.Item.{failed, digitAt, isError, kindIn, errorIn}
+use Rattle.enraf.specs.Item.{failed, isError, kindIn}
 use Rattle.enraf.proofs.ByTests.{number-by, is-error, error-long, error-digits}
 use borrow.Author.Needs.{needs}
 use Rattle.enraf.proofs.reading.error_in.Statement.{statement}

@@ -1,13 +1,13 @@
 -- `enraf::reading::fault` meets its contract: each return is the list of tests by what they gave. Assumes nothing.
 use mathlib.Core.Path.{_≡_, refl, sym, ap, _∙_}
-use mathlib.Core.Bool.{Bool, true, false, _&&_}
+use mathlib.Core.Bool.{true, false, _&&_}
 use mathlib.Core.List.{List}
-use Prim.Native.Nat.{ℕ, _-_, _≤_}
+use Prim.Native.Nat.{ℕ, _-_}
 use native.Mathlib.Omega.{arith}
 use denote.Ref.{now}
 use borrow.Author.Tests.{not-true, not-false}
 use lib.ListN.{length, getD, take, drop}
-use Rattle.enraf.specs.Item.{Item, itemOf, isLetter, kindFits, textFits, kindIn, errorIn, charactersIn}
+use Rattle.enraf.specs.Item.{itemOf, isLetter, kindFits, textFits, kindIn, errorIn, charactersIn}
 use Rattle.enraf.specs.Reading.{framed, checkRight, addressed, tailIn, itemIn}
 use Rattle.enraf.proofs.ByTests.{read-fault-by, frame-long}
 use borrow.Author.Needs.{needs}

@@ -1,6 +1,5 @@
 -- `enraf::reading::is_checked` meets its contract: the bytes between the first and the last are those that are checked. Assumes nothing.
 use mathlib.Core.Path.{_≡_, ap, _∙_}
-use mathlib.Core.Bool.{Bool}
 use Prim.Native.Nat.{ℕ, _-_}
 use native.Mathlib.Omega.{arith}
 use lib.Dec.{eqb}

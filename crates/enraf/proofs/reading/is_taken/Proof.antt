@@ -1,5 +1,5 @@
 -- `enraf::reading::is_taken` meets its contract, test by test. Assumes nothing.
-use borrow.Author.Tests.{eq-eqb, ne-eqb}
+use borrow.Author.Tests.{ne-eqb}
 use borrow.Author.Needs.{needs}
 use Rattle.enraf.proofs.reading.is_taken.Statement.{statement}
 use Rattle.enraf.proofs.reading.is_taken.Tie as tie

@@ -1,7 +1,7 @@
 -- `enraf::reading::sixteen` meets its contract: after i turns the first i characters stand there, and 0 after them. Assumes nothing.
 use mathlib.Core.Path.{_≡_, refl, ap, _∙_}
 use mathlib.Core.List.{List, _++_}
-use Prim.Native.Nat.{ℕ, _≤_, _-_, _+_}
+use Prim.Native.Nat.{ℕ, _≤_, _-_}
 use native.Mathlib.Omega.{arith}
 use lib.ListN.{length, take, getD, set, replicate}
 use lib.Seq.{take-all}

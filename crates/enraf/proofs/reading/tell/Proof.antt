@@ -1,5 +1,5 @@
 -- `enraf::reading::tell` meets its contract: an accepted record has its bytes, its digits and at most 16 characters of data. Assumes nothing.
-use mathlib.Core.Path.{_≡_, refl, sym, ap, _∙_}
+use mathlib.Core.Path.{_≡_, ap, _∙_}
 use mathlib.Core.Bool.{true}
 use mathlib.Core.List.{List, _++_}
 use Prim.Native.Nat.{ℕ, _+_, _-_, _*_, _≤_}
@@ -7,7 +7,7 @@ use native.Mathlib.Omega.{arith}
 use denote.Ref.{now}
 use lib.ListN.{length, getD, take, drop, replicate}
 use Rattle.enraf.specs.Item.{isDigit, kindFits, kindIn, errorIn, charactersIn}
-use Rattle.enraf.specs.Reading.{tailIn, itemIn, told}
+use Rattle.enraf.specs.Reading.{tailIn, itemIn}
 use Rattle.enraf.proofs.ByTests.{accepted, frame-long, address-digits}
 use Rattle.enraf.proofs.SixKinds.{characters-few, fits-kind}
 use borrow.Author.Needs.{needs}

@@ -1,5 +1,5 @@
 -- `enraf::writing::tail_size` meets its contract, kind by kind; data has at most 16 characters. Assumes nothing.
-use mathlib.Core.Path.{_≡_, sym, ap, _∙_}
+use mathlib.Core.Path.{ap}
 use native.Mathlib.Omega.{arith}
 use lib.ListN.{length, length-append}
 use Rattle.enraf.proofs.SixKinds.{one-of-six, the-first, characters-few}
