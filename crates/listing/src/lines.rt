@@ -107,7 +107,8 @@ fn put_record(out: &mut [u8], at: usize, head: Head, reply: &[u8]) -> usize
 fn put_line(out: &mut [u8], at: usize, slot: u16, head: Head, reply: [u8; 8]) -> usize
     requires { ⌜ at + 40 ≤ length (now out) ⌝ }
     requires { ⌜ head .count ≤ 64 ⌝ }
-    ensures { λ r. ⌜ Puts (decimal slot ++ ascii " " ++ recordText (entryWith head (take (bytesFor (head .count)) reply)) ++ ascii "\n") 40 (now (out .entry)) at r (now (out .exit)) ⌝ }
+    ensures { λ r. ⌜ Puts (decimal slot ++ ascii " " ++ recordText (entryWith head (take (bytesFor (head .count)) reply)) ++ ascii "\n") 40
+        (now (out .entry)) at r (now (out .exit)) ⌝ }
 {
     let size = (head.count + 7) / 8;
     let number = put_short(out, at, slot);

@@ -69,7 +69,8 @@ pub(crate) fn put_listing(out: &mut [u8], sheet: &[u8], many: usize) -> usize
     requires { ⌜ sizeAllowed (now sheet) ≡ true ⌝ }
     requires { ⌜ many ≡ slots (now sheet) ⌝ }
     requires { ⌜ 40 * (many + 2) ≤ length (now out) ⌝ }
-    ensures { λ r. ⌜ Puts (headLine (now (sheet .entry)) ++ linesUpTo (now (sheet .entry)) many ++ lastLine (now (sheet .entry))) (40 * (many + 2)) (now (out .entry)) 0 r (now (out .exit)) ⌝ }
+    ensures { λ r. ⌜ Puts (headLine (now (sheet .entry)) ++ linesUpTo (now (sheet .entry)) many ++ lastLine (now (sheet .entry)))
+        (40 * (many + 2)) (now (out .entry)) 0 r (now (out .exit)) ⌝ }
 {
     let head = put_count(out, 0, b"sheet ", many as u16);
     let lines = put_lines(out, head, sheet, many);
