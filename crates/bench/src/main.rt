@@ -2,6 +2,7 @@
 mod lines;
 mod print;
 mod slots;
+mod steps;
 
 fn main() {
     print::words(b"1900, 799.9:");
@@ -38,4 +39,21 @@ fn main() {
     slots::listing(&mut two);
     let mut old = [0xffu8; 32];
     slots::old_sheet(&mut old);
+    neighbours();
+}
+
+// Levels a step apart, where a digit turns over and at the end of each mode.
+fn neighbours() {
+    steps::step(0, 191, 192);
+    steps::step(0, 1151, 1152);
+    steps::step(0, 15358, 15359);
+    steps::step(1, 999, 1000);
+    steps::step(1, 2999, 3000);
+    steps::step(1, 7998, 7999);
+    steps::step(2, 9999, 10000);
+    steps::step(2, 19998, 19999);
+    steps::step(3, 9999, 10000);
+    steps::step(3, 19999, 20000);
+    steps::step(3, 29999, 30000);
+    steps::step(3, 32698, 32699);
 }

@@ -47,19 +47,24 @@ pub(crate) fn bytes(s: &[u8]) {
     }
 }
 
-// A bit of a line, counted from 1 at the highest bit of the first byte.
-fn bit(s: &[u8], at: usize) {
+// A bit of a line, counted from 1 at the highest bit of the first byte: 1 for a mark, 0 where no byte is.
+pub(crate) fn mark_at(s: &[u8], at: usize) -> u8 {
     if at == 0 {
-        return;
+        return 0;
     }
     let i = (at - 1) / 8;
     if i < s.len() {
         let below = 7 - (at - 1) % 8;
-        if (s[i] >> below) % 2 == 1 {
-            words(b"1");
-        } else {
-            words(b"0");
-        }
+        return (s[i] >> below) % 2;
+    }
+    0
+}
+
+fn bit(s: &[u8], at: usize) {
+    if mark_at(s, at) == 1 {
+        words(b"1");
+    } else {
+        words(b"0");
     }
 }
 

@@ -6,6 +6,7 @@ pub mod Digits
 pub mod LastBit
 pub mod Marks
 -- The level, and the temperature.
+pub mod Narrow
 pub mod Rows
 pub mod Charts
 pub mod Levels
@@ -27,6 +28,9 @@ pub mod FirstFault
 pub mod Unreadable
 pub mod OneOutcome
 pub mod OnlyItsBytes
+pub mod OneBit
+pub mod StepwiseCharts
+pub mod OneStep
 pub mod Bench
 pub mod DemandTwo
 pub mod DecimalChart

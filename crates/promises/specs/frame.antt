@@ -13,6 +13,7 @@ pub mod FirstFault
 pub mod Unreadable
 pub mod OneOutcome
 pub mod OnlyItsBytes
+pub mod OneStep
 pub mod Bench
 pub mod DemandTwo
 pub mod DecimalChart

@@ -37,7 +37,7 @@ width-is : (m : Mode) → Fit m → lastBit m + 1 - m .first ≡ widthOf (m .row
 width-is m ok = omega (arith, ok .begins)
 
 -- The digits' bits of a level within its mode, and of one outside it; both fit.
-digits-in : (m : Mode) (v : ℕ) → v ≤ m .largest → digitsOf m v ≡ writeRow (m .row) false v
+pub digits-in : (m : Mode) (v : ℕ) → v ≤ m .largest → digitsOf m v ≡ writeRow (m .row) false v
 digits-in m v h = rw (le-leb v (m .largest) h)
 
 digits-out : (m : Mode) (v : ℕ) → m .largest < v → digitsOf m v ≡ 2 ^ widthOf (m .row) - 1

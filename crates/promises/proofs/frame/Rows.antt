@@ -4,7 +4,7 @@ use mathlib.Core.Bool.{Bool, true, false}
 use mathlib.Core.List.{List, [], _∷_}
 use Prim.Native.Nat.{ℕ, zero, suc, _+_, _*_, _/_, _%_, _^_, _<_}
 use native.Mathlib.Omega.{arith}
-use native.Mathlib.Nat.{mul-assoc, mul-add-div-right, mul-add-mod-self-right, div-add-mod', mod-lt, mul-pos, div-lt-iff-lt-mul, mod-eq-of-lt}
+use native.Mathlib.Nat.{mul-assoc, mul-add-div-right, mul-add-mod-self-right, div-add-mod', mod-lt, mod-eq-of-lt}
 use lib.Arith.{digits-lt, digits-div, digits-mod}
 use lib.Pow.{pow-add, pow-pos, shr-lt}
 use lib.Dec.{eqb, ltb}
@@ -15,6 +15,8 @@ use Rattle.frame.specs.Charts.{Chart, sizeOf, isOdd, turned, codeOf, placeIn}
 use Rattle.frame.specs.Level.{Level, known, lost, widthOf, valuesOf, readRow, writeRow}
 use Rattle.frame.proofs.Digits.{turned-lt}
 use Rattle.promises.specs.frame.Rows.{Sound, SoundRow, RowBothWays}
+use Rattle.promises.proofs.frame.Narrow as wide
+use Rattle.promises.proofs.frame.Narrow.{NarrowRow, digit-lt}
 
 -- A code of a chart stands at the place where it is found.
 pub at-place : (x : ℕ) (cs : List ℕ) → placeIn x cs < length cs → getD cs (placeIn x cs) 0 ≡ x
@@ -43,10 +45,13 @@ unfolding turned
 turned-twice true size d h = omega arith
 turned-twice false size d h = refl
 
+-- A sound chart is narrow.
+narrow : (row : List Chart) → SoundRow row → NarrowRow row
+narrow [] ok = tt
+narrow (c ∷ cs) ok = (record { some = ok .0 .some; within = ok .0 .within }, narrow cs (ok .1))
+
 values-pos : (row : List Chart) → SoundRow row → 0 < valuesOf row
-unfolding valuesOf
-values-pos [] ok = omega arith
-values-pos (c ∷ cs) ok = mul-pos (ok .0 .some) (values-pos cs (ok .1))
+values-pos row ok = wide.values-pos row (narrow row ok)
 
 -- A row sees none of the bits above it.
 above-unseen : (row : List Chart) (hi lo : ℕ) (odd : Bool) (sofar place : ℕ)
@@ -65,19 +70,10 @@ above-unseen (c ∷ cs) hi lo odd sofar place =
 
 -- What is written fits its bits.
 code-lt : (c : Chart) → Sound c → (odd : Bool) (d : ℕ) → d < sizeOf c → codeOf odd c d < 2 ^ (c .width)
-code-lt c ok odd d h = ok .within (turned odd (sizeOf c) d) (turned-lt odd (sizeOf c) d h)
-
-digit-lt : (c : Chart) (values v : ℕ) → 0 < values → v < sizeOf c * values → v / values < sizeOf c
-digit-lt c values v p h = div-lt-iff-lt-mul p .1 h
+code-lt c ok = wide.code-lt c (record { some = ok .some; within = ok .within })
 
 fits : (row : List Chart) → SoundRow row → (odd : Bool) (v : ℕ) → v < valuesOf row → writeRow row odd v < 2 ^ widthOf row
-unfolding writeRow widthOf valuesOf
-fits [] ok odd v h = omega arith
-fits (c ∷ cs) ok odd v h =
-    let p : 0 < valuesOf cs = values-pos cs (ok .1) in
-    let d : ℕ = v / valuesOf cs in
-    rw (pow-add 2 (c .width) (widthOf cs))
-    (digits-lt (code-lt c (ok .0) odd d (digit-lt c (valuesOf cs) v p h)) (fits cs (ok .1) (isOdd d) (v % valuesOf cs) (mod-lt v p)))
+fits row ok = wide.fits row (narrow row ok)
 
 -- The place of a digit's code, read back from above the digits under it.
 code-found : (c : Chart) → Sound c → (odd : Bool) (d under : ℕ) {low : ℕ} → d < sizeOf c → low < 2 ^ under
