@@ -261,6 +261,13 @@ SISAL_ANSWER struct sisal_reply sisal_read_reply(uint8_t settings, uint16_t addr
                                                  size_t reply_bytes);
 
 /*
+ * The same answer to every argument, by a second reader: in the decimal and the metric modes the level is read two digits at a time, from
+ * a table of 512 bytes. Refuses 10, 11, 14, then 1 to 9, with all else 0 but for the place beside 7.
+ */
+SISAL_ANSWER struct sisal_reply sisal_read_reply_by_pairs(uint8_t settings, uint16_t address, size_t count, const uint8_t *reply,
+                                                          size_t reply_bytes);
+
+/*
  * Writes a reply: SISAL_REPLY_40_BYTES where the temperature is absent, else SISAL_REPLY_56_BYTES, and answers how many. The kind is 1
  * degrees, 2 above, 3 below; every other kind is absent, and `tenths` counts for degrees alone. A level above its mode's largest is
  * written as the invalid level, and degrees beyond the type's range (1900: -7,999 to 7,999 tenths, 1800: -1,999 to 1,999) as its end

@@ -61,3 +61,25 @@ pub(crate) fn address(asked: u16, reply: &[u8]) {
     print::words(b": reply ");
     print::reply(frame::read_reply(1, asked, 40, reply));
 }
+
+// Reads these bytes as a reply of 40 bits in this mode, two digits at a time.
+fn by_pairs(mode: u8, reply: &[u8]) {
+    print::words(b"by pairs, mode ");
+    print::number(mode as u64);
+    print::words(b": ");
+    print::reply(frame::read_reply_by_pairs(mode, 7, 40, reply));
+}
+
+// The second reader on levels that turn, on a digit in no chart at each place, and on both ends of a range.
+pub(crate) fn second_reader() {
+    by_pairs(1, b"\x80\x0e\x70\x00\x01");
+    by_pairs(1, b"\x80\x0e\x50\x00\x00");
+    by_pairs(1, b"\x80\x0e\xfe\x00\x01");
+    by_pairs(1, b"\x80\x0e\xe1\xe0\x01");
+    by_pairs(1, b"\x80\x0e\xe0\x12\x01");
+    by_pairs(2, b"\x80\x0f\x00\x00\x01");
+    by_pairs(2, b"\x80\x0f\xff\xff\x01");
+    by_pairs(3, b"\x80\x0f\x22\xc0\x01");
+    by_pairs(3, b"\x80\x0f\x22\x40\x00");
+    by_pairs(3, b"\x80\x0f\x80\x05\x00");
+}

@@ -40,6 +40,7 @@ fn main() {
     let mut old = [0xffu8; 32];
     slots::old_sheet(&mut old);
     neighbours();
+    lines::second_reader();
 }
 
 // Levels a step apart, where a digit turns over and at the end of each mode.

@@ -9,6 +9,7 @@ use Prim.Native.Nat.{ℕ, _+_, _-_, _*_, _/_, _%_, _^_, _<_, _≤_}
 use native.Mathlib.Nat.{mod-eq-of-lt, mod-one, mod-lt}
 use native.Mathlib.Omega.{arith}
 use lib.Dec.{eqb, lit<, lit≤}
+use lib.ListN.{length}
 use lib.Pow.{pow-pos}
 use Rattle.frame.specs.Charts.{Chart, oneBit, twoBits, feetTens, decimal, inches, sixteenths}
 use Rattle.frame.specs.Level.{Mode, widthOf, valuesOf, readRow, writeRow, fillClear, lastBit, putLevel, fractionalMode, decimalMode, twentyMetreMode, thirtyMetreMode}
@@ -39,6 +40,7 @@ pub record Fits (m : Mode) (k : Constants) : Type 0 where
   pub alone : (bits : ℕ) → bits < 2 ^ digitBits (k .first) (k .after) → bits / 2 ^ widthOf rest < 2 ^ (top .width)
   pub wide : digitBits (k .first) (k .after) ≡ widthOf (m .row)
   pub cut : digitBits (k .first) (k .after) ≡ lastBit m + 1 - m .first
+  pub count : k .digits ≡ length (m .row)
   pub last : 27 + k .after ≡ 64 - lastBit m
   pub fill : (n : ℕ) → fillAt n (k .before) (k .after) ≡ fillClear n (m .fill)
   pub largest : k .largest ≡ m .largest
@@ -83,6 +85,7 @@ fractional-fits =
       alone = λ bits h. omega arith;
       wide = refl;
       cut = refl;
+      count = refl;
       last = refl;
       fill = λ n. both-sides n 6;
       largest = refl;
@@ -104,6 +107,7 @@ decimal-fits =
       alone = λ bits h. omega arith;
       wide = refl;
       cut = refl;
+      count = refl;
       last = refl;
       fill = λ n. both-sides n 6;
       largest = refl;
@@ -125,6 +129,7 @@ metres20-fits =
       alone = λ bits h. omega arith;
       wide = refl;
       cut = refl;
+      count = refl;
       last = refl;
       fill = λ n. only-after n 5;
       largest = refl;
@@ -146,6 +151,7 @@ metres30-fits =
       alone = λ bits h. omega arith;
       wide = refl;
       cut = refl;
+      count = refl;
       last = refl;
       fill = λ n. only-after n 4;
       largest = refl;

@@ -10,7 +10,7 @@ use borrow.Author.Tests.{lt-ltb, le-ltb, ltb-true}
 use lib.Dec.{ltb, lit≤}
 use Rattle.frame.specs.Charts.{Chart, sizeOf, isOdd, turned, placeIn}
 use Rattle.frame.specs.Level.{Level, known, lost, widthOf, readRow}
-use Rattle.frame.specs.inside.Packed.{chartOf, digitOf, rowOf, readCode, levelNumber}
+use Rattle.frame.specs.inside.Packed.{chartOf, digitOf, rowOf, readCode, Below, levelNumber}
 use Rattle.frame.proofs.Tables.{size-high}
 
 -- n and n - 1
@@ -108,11 +108,6 @@ room most sofar n d h small =
 
 pub room-now : (sofar left : ℕ) → (sofar + 1) * 16 ^ left ≤ 2 ^ 32 → sofar < 2 ^ 32
 room-now sofar left fits = omega (arith, le-mul-of-pos-right (sofar + 1) (one-le-pow left 16 (lit≤ tt)))
-
--- a level that was read is below a bound
-abbrev pub Below : ℕ → Level → Type 0
-Below b (known v) = v < b
-Below b (lost k) = Unit {0}
 
 pub below-more : (b b′ : ℕ) → b ≤ b′ → (l : Level) → Below b l → Below b′ l
 below-more b b′ h (known v) w = omega arith

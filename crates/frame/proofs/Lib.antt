@@ -10,6 +10,10 @@ pub mod Digits
 pub mod Upward
 pub mod Straight
 pub mod Constants
+pub mod PairsAreDigits
+pub mod PairTable
+pub mod PairSteps
+pub mod SecondReader
 pub mod Signs
 pub mod Three
 pub mod Verdict

@@ -8,4 +8,5 @@ pub mod Faults
 pub mod Poll
 pub mod Reply
 pub mod Kinds
+pub mod Pairs
 pub mod inside

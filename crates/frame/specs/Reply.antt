@@ -37,9 +37,9 @@ heatIn settings count n = pick (eqb count 40) (told Absent) (heatOf (is1800 sett
 abbrev pub parityRight : ℕ → List ℕ → Bool
 parityRight settings s = eqb (marks s % 2) (oddParity settings)
 
--- Reading a reply: 10, 11, 14, then 1 to 9 upward.
-abbrev pub replyTests : ℕ → ℕ → ℕ → List ℕ → List Test
-replyTests settings address count s =
+-- Reading a reply, by what its level bits read as: 10, 11, 14, then 1 to 9 upward.
+abbrev pub replyTestsWith : Level → ℕ → ℕ → ℕ → List ℕ → List Test
+replyTestsWith level settings address count s =
     let n = line s in
     let m = modeIn settings in
     ltb 15 settings gives 10
@@ -51,23 +51,32 @@ replyTests settings address count s =
     ∷ not (threeDecimal n 4 && eqb (threeDigits n 4) address) gives 4
     ∷ not (parityRight settings s) gives 5
     ∷ not (fillClear n (m .fill)) gives 6
-    ∷ noChart (levelOf m n) gives 7
-    ∷ aboveLargest m (levelOf m n) gives 8
+    ∷ noChart level gives 7
+    ∷ aboveLargest m level gives 8
     ∷ isBad (heatIn settings count n) gives 9
     ∷ []
+
+abbrev pub levelIn : ℕ → ℕ → Level
+levelIn settings n = levelOf (modeIn settings) n
+
+abbrev pub replyTests : ℕ → ℕ → ℕ → List ℕ → List Test
+replyTests settings address count s = replyTestsWith (levelIn settings (line s)) settings address count s
 
 unfoldable pub replyFault : ℕ → ℕ → ℕ → List ℕ → ℕ
 unfolding firstOf
 replyFault settings address count s = firstOf (replyTests settings address count s)
 
-abbrev pub readingAt : ℕ → ℕ → ℕ → Reading
-readingAt settings count n =
+abbrev pub readingWith : Level → ℕ → ℕ → ℕ → Reading
+readingWith level settings count n =
     record {
-      level = valueOf (levelOf (modeIn settings) n);
+      level = valueOf level;
       temperature = temperatureOf (heatIn settings count n);
       alarm1 = eqb (bit n 38) 1;
       alarm0 = eqb (bit n 39) 1;
     }
+
+abbrev pub readingAt : ℕ → ℕ → ℕ → Reading
+readingAt settings count n = readingWith (levelIn settings n) settings count n
 
 -- Document 02, request 02: fault 7 names the place of the first digit in no chart, counted from 0 at the top. No other fault carries a place.
 abbrev pub refusedBy : Level → ℕ → Reply

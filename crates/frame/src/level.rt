@@ -2,13 +2,13 @@
 ghost use mathlib.Core.Path.{_≡_};
 ghost use Prim.Native.Nat.{_+_, _-_, _*_, _/_, _%_, _^_, _<_, _≤_};
 ghost use Rattle.frame.specs.Charts.{sizeOf};
-ghost use Rattle.frame.specs.Level.{readRow};
-ghost use Rattle.frame.specs.inside.Packed.{chartOf, digitOf, rowOf, readCode, onesCode, writeUp};
-ghost use Rattle.frame.specs.inside.Constants.{Constants, fillAt, readBy, placedAt};
+ghost use Rattle.frame.specs.Level.{Level, readRow};
+ghost use Rattle.frame.specs.inside.Packed.{chartOf, digitOf, rowOf, readCode, Below, levelNumber, onesCode, writeUp};
+ghost use Rattle.frame.specs.inside.Constants.{Constants, fillAt, digitBits, readBy, placedAt};
 use crate::charts;
 
 // What the reader gives for a digit in no chart: this, and the digit's place. Every level is below it.
-const LOST: u64 = 1 << 32;
+pub(crate) const LOST: u64 = 1 << 32;
 
 // The refusal of a level is its number times this. Every level is below it.
 pub(crate) const FAULT: u64 = 1 << 16;
@@ -74,7 +74,7 @@ pub(crate) fn five_digits(top: u64, v: u64) -> u64
 }
 
 // The fill bits of a mode are 0: those from bit 16 up to its first digit bit, and those after its digits up to bit 37.
-fn fill_clear(n: u64, before: u64, after: u64) -> bool
+pub(crate) fn fill_clear(n: u64, before: u64, after: u64) -> bool
     requires { ⌜ before ≤ 1 ⌝ }
     requires { ⌜ after ≤ 6 ⌝ }
     ensures { λ r. ⌜ r ≡ fillAt n before after ⌝ }
@@ -82,6 +82,29 @@ fn fill_clear(n: u64, before: u64, after: u64) -> bool
     let head = (n >> (49 - before)) % (1 << before);
     let tail = (n >> 27) % (1 << after);
     head == 0 && tail == 0
+}
+
+// The bits of the digits of a line.
+pub(crate) fn digit_bits(n: u64, first: u64, after: u64) -> u64
+    requires { ⌜ 16 ≤ first ⌝ }
+    requires { ⌜ first ≤ 17 ⌝ }
+    requires { ⌜ after ≤ 6 ⌝ }
+    ensures { λ r. ⌜ r ≡ n / 2 ^ (27 + after) % 2 ^ digitBits first after ⌝ }
+{
+    (n >> (27 + after)) % (1 << (38 - first - after))
+}
+
+// What a reader of digits gave, as a level or a fault: 7 with the place of the digit in no chart, 8 above the largest.
+pub(crate) fn judged(largest: u64, v: u64) -> u64
+    ensures { λ r. ⌜ ((l : Level) → Below (2 ^ 32) l → v ≡ readCode l → r ≡ levelNumber largest l) ⌝ }
+{
+    if LOST <= v {
+        return 7 * FAULT + (v - LOST);
+    }
+    if largest < v {
+        return 8 * FAULT;
+    }
+    v
 }
 
 // A level by its mode's constants: the level, or 2 ^ 16 times the fault, to which 7 adds the place of the digit in no chart.
@@ -106,15 +129,8 @@ pub(crate) fn read_by(
     if !fill_clear(n, before, after) {
         return 6 * FAULT;
     }
-    let bits = (n >> (27 + after)) % (1 << (38 - first - after));
-    let v = read_digits(charts, digits, bits, start, 0, 0);
-    if LOST <= v {
-        return 7 * FAULT + (v - LOST);
-    }
-    if largest < v {
-        return 8 * FAULT;
-    }
-    v
+    let bits = digit_bits(n, first, after);
+    judged(largest, read_digits(charts, digits, bits, start, 0, 0))
 }
 
 // A level's bits by its mode's constants and its digits in their codes. A level outside its mode has every digit bit 1; the fill is 0.

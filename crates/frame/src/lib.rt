@@ -6,12 +6,15 @@ pub mod kinds;
 mod level;
 mod line;
 mod modes;
+mod pair_table;
+mod pairs;
 mod polls;
 mod replies;
 mod writing;
 
 ghost use Rattle.frame.specs.Poll.{ReadsPoll, WritesPoll};
 ghost use Rattle.frame.specs.Reply.{ReadsReply, WritesReply};
+ghost use Rattle.frame.specs.Pairs.{ReadsReplyByPairs};
 pub use heat::is_plus;
 pub use heat::magnitude;
 pub use line::formed;
@@ -100,22 +103,16 @@ pub fn write_poll(address: u16, raise: bool, reset: bool, out: &mut [u8]) -> Wri
 pub fn read_reply(settings: u8, address: u16, count: usize, reply: &[u8]) -> Reply
     ensures { λ r. ⌜ ReadsReply settings address count (now (reply .entry)) r ⌝ }
 {
-    if 15 < settings {
-        return Reply::Refused(10);
-    }
-    if 999 < address {
-        return Reply::Refused(11);
-    }
-    if !formed(count, reply) {
-        return Reply::Refused(14);
-    }
-    if count == 0 {
-        return Reply::Refused(1);
-    }
-    if !replies::whole(count) {
-        return Reply::Refused(2);
-    }
-    replies::read_line(settings, address, count, reply)
+    replies::read_with(false, settings, address, count, reply)
+}
+
+// The same answer by the second reader: a level in the decimal or a metric mode is read two digits at a time, from a table. Refuses 10, 11,
+// 14, then 1 to 9.
+pub fn read_reply_by_pairs(settings: u8, address: u16, count: usize, reply: &[u8]) -> Reply
+    ensures plain { λ r. ⌜ ReadsReply settings address count (now (reply .entry)) r ⌝ }
+    ensures paired { λ r. ⌜ ReadsReplyByPairs settings address count (now (reply .entry)) r ⌝ }
+{
+    replies::read_with(true, settings, address, count, reply)
 }
 
 // Writes a reply: a reading whose temperature is absent into the first 5 bytes, any other into the first 7. Refuses 10, 11, 15.

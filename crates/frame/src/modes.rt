@@ -4,9 +4,10 @@
 ghost use mathlib.Core.Path.{_≡_};
 ghost use Prim.Native.Nat.{_<_, _^_};
 ghost use Rattle.frame.specs.Level.{modeOf, fractionalMode, decimalMode, twentyMetreMode, thirtyMetreMode, putLevel};
-ghost use Rattle.frame.specs.inside.Packed.{levelCode};
+ghost use Rattle.frame.specs.inside.Packed.{levelCode, codeByPairs, secondCode};
 ghost use Rattle.frame.specs.inside.Constants.{fractional, decimalFeet, codesBy};
 use crate::level;
+use crate::pairs;
 
 // Feet, inches and sixteenths.
 struct Fractional;
@@ -91,6 +92,21 @@ impl Decimal {
         )
     }
 
+    // Two digits at a time.
+    fn read_pairs(n: u64) -> u64
+        ensures { λ r. ⌜ r ≡ codeByPairs decimalMode n ⌝ }
+    {
+        pairs::read_by(
+            n,
+            Self::DIGITS,
+            Self::FIRST,
+            Self::BEFORE,
+            Self::AFTER,
+            Self::LARGEST,
+            Self::START,
+        )
+    }
+
     fn codes(v: u64) -> u64
         ensures { λ r. ⌜ (r ≡ codesBy decimalFeet v) × (r < 2 ^ 20) ⌝ }
     {
@@ -133,6 +149,21 @@ impl Metres20 {
             Self::AFTER,
             Self::LARGEST,
             Self::CHARTS,
+            Self::START,
+        )
+    }
+
+    // Two digits at a time.
+    fn read_pairs(n: u64) -> u64
+        ensures { λ r. ⌜ r ≡ codeByPairs twentyMetreMode n ⌝ }
+    {
+        pairs::read_by(
+            n,
+            Self::DIGITS,
+            Self::FIRST,
+            Self::BEFORE,
+            Self::AFTER,
+            Self::LARGEST,
             Self::START,
         )
     }
@@ -183,6 +214,21 @@ impl Metres30 {
         )
     }
 
+    // Two digits at a time.
+    fn read_pairs(n: u64) -> u64
+        ensures { λ r. ⌜ r ≡ codeByPairs thirtyMetreMode n ⌝ }
+    {
+        pairs::read_by(
+            n,
+            Self::DIGITS,
+            Self::FIRST,
+            Self::BEFORE,
+            Self::AFTER,
+            Self::LARGEST,
+            Self::START,
+        )
+    }
+
     fn write(v: u64) -> u64
         ensures { λ r. ⌜ r ≡ putLevel thirtyMetreMode v ⌝ }
     {
@@ -206,6 +252,28 @@ pub(crate) fn read_level(mode: u64, n: u64) -> u64
         2 => Metres20::read(n),
         _ => Metres30::read(n),
     }
+}
+
+// The same, two digits at a time where all digits but the first are decimal.
+fn read_level_by_pairs(mode: u64, n: u64) -> u64
+    ensures { λ r. ⌜ r ≡ secondCode mode n ⌝ }
+{
+    match mode {
+        0 => Fractional::read(n),
+        1 => Decimal::read_pairs(n),
+        2 => Metres20::read_pairs(n),
+        _ => Metres30::read_pairs(n),
+    }
+}
+
+// The level of a line by either reader.
+pub(crate) fn read_level_with(paired: bool, mode: u64, n: u64) -> u64
+    ensures { λ r. ⌜ r ≡ levelCode (modeOf mode) n ⌝ }
+{
+    if paired {
+        return read_level_by_pairs(mode, n);
+    }
+    read_level(mode, n)
 }
 
 // The bits of a level in the mode of this number.

@@ -5,7 +5,7 @@ ghost use mathlib.Core.Logic.{_≢_};
 ghost use lib.Dec.{eqb};
 ghost use Prim.Native.Nat.{_≤_, _<_, _%_, _^_};
 ghost use lib.ListN.{length};
-ghost use Rattle.frame.specs.Reply.{heatIn, parityRight};
+ghost use Rattle.frame.specs.Reply.{heatIn, parityRight, replyOf};
 ghost use Rattle.frame.specs.inside.Packed.{heatFor, heatReply, lineReply, levelReply};
 use crate::Reading;
 use crate::Reply;
@@ -17,7 +17,7 @@ use crate::line;
 use crate::modes;
 
 // A reply has 40 or 56 bits.
-pub(crate) fn whole(count: usize) -> bool
+fn whole(count: usize) -> bool
     ensures { λ r. ⌜ r ≡ not (not (eqb count 40) && not (eqb count 56)) ⌝ }
 {
     if count == 40 {
@@ -76,8 +76,8 @@ fn by_level(code: u64) -> Reply
     Reply::Refused(fault as u8)
 }
 
-// A reply of the right form in 40 or 56 bits.
-pub(crate) fn read_line(settings: u8, address: u16, count: usize, reply: &[u8]) -> Reply
+// A reply of the right form in 40 or 56 bits, its level by the plain reader or by pairs.
+fn read_line(paired: bool, settings: u8, address: u16, count: usize, reply: &[u8]) -> Reply
     requires { ⌜ address ≤ 999 ⌝ }
     requires { ⌜ 5 ≤ length (now reply) ⌝ }
     requires { ⌜ length (now reply) ≤ 7 ⌝ }
@@ -94,9 +94,37 @@ pub(crate) fn read_line(settings: u8, address: u16, count: usize, reply: &[u8]) 
     if !parity_right(settings, reply) {
         return Reply::Refused(5);
     }
-    let level = modes::read_level((settings % 4) as u64, n);
+    let level = modes::read_level_with(paired, (settings % 4) as u64, n);
     if level::FAULT <= level {
         return by_level(level);
     }
     with_level(settings, count, n, level)
+}
+
+// Any reply, its level by the plain reader or by pairs.
+pub(crate) fn read_with(
+    paired: bool,
+    settings: u8,
+    address: u16,
+    count: usize,
+    reply: &[u8],
+) -> Reply
+    ensures { λ r. ⌜ r ≡ replyOf settings address count (now (reply .entry)) ⌝ }
+{
+    if 15 < settings {
+        return Reply::Refused(10);
+    }
+    if 999 < address {
+        return Reply::Refused(11);
+    }
+    if !line::formed(count, reply) {
+        return Reply::Refused(14);
+    }
+    if count == 0 {
+        return Reply::Refused(1);
+    }
+    if !whole(count) {
+        return Reply::Refused(2);
+    }
+    read_line(paired, settings, address, count, reply)
 }

@@ -34,3 +34,4 @@ pub mod OneStep
 pub mod Bench
 pub mod DemandTwo
 pub mod DecimalChart
+pub mod TwoReaders

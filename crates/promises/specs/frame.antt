@@ -17,3 +17,4 @@ pub mod OneStep
 pub mod Bench
 pub mod DemandTwo
 pub mod DecimalChart
+pub mod TwoReaders

@@ -87,6 +87,20 @@ pub extern "C" fn sisal_read_reply(
     told::reply(frame::read_reply(settings, address, count, reply))
 }
 
+// The same answer by the second reader, which reads a level in the decimal or a metric mode two digits at a time, from a table. Refuses 10,
+// 11, 14, then 1 to 9.
+#[no_mangle]
+pub extern "C" fn sisal_read_reply_by_pairs(
+    settings: u8,
+    address: u16,
+    count: usize,
+    reply: &[u8],
+) -> ReplyTold
+    ensures { λ r. ⌜ SisalReadReply settings address count (now (reply .entry)) r ⌝ }
+{
+    told::reply(frame::read_reply_by_pairs(settings, address, count, reply))
+}
+
 // Writes a reply: into the first 5 bytes where its temperature is absent, else into the first 7. The temperature's kind is 1 degrees,
 // 2 above, 3 below; any other is absent, and only degrees have tenths. An alarm is set by any number but 0. Refuses 10, 11, 15.
 #[no_mangle]

@@ -118,6 +118,13 @@ extern "C" {
         reply: *const u8,
         reply_bytes: usize,
     ) -> Reply;
+    pub fn sisal_read_reply_by_pairs(
+        settings: u8,
+        address: u16,
+        count: usize,
+        reply: *const u8,
+        reply_bytes: usize,
+    ) -> Reply;
     pub fn sisal_write_reply(
         settings: u8,
         address: u16,

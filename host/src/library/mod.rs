@@ -122,6 +122,30 @@ fn room(sheet: &[u8]) -> usize {
     40 * (slots(sheet).unwrap_or(0) + 2)
 }
 
+/// What a reply told in integers says.
+#[inline]
+fn reading(told: ffi::Reply) -> Answer<Reading> {
+    refused_at(told.number, told.place).map(|()| Reading {
+        level: told.level,
+        temperature: temperature(told.kind, told.tenths),
+        alarm1: told.alarm1 != 0,
+        alarm0: told.alarm0 != 0,
+    })
+}
+
+/// Reads a reply by the second reader, two digits at a time. Refusals: 10, 11, 14, then 1 to 9.
+pub fn read_reply_by_pairs(
+    settings: u8,
+    address: u16,
+    count: usize,
+    reply: &[u8],
+) -> Answer<Reading> {
+    // SAFETY: the library reads the bytes of the slice alone.
+    reading(unsafe {
+        ffi::sisal_read_reply_by_pairs(settings, address, count, reply.as_ptr(), reply.len())
+    })
+}
+
 /// Whether a reply of `count` bits is lent in the right form. Refusal: 14.
 pub fn form(count: usize, reply: &[u8]) -> Answer<()> {
     // SAFETY: the library reads the bytes of the slice alone.
@@ -160,13 +184,8 @@ impl Core for Library {
         reply: &[u8],
     ) -> Answer<Reading> {
         // SAFETY: the library reads the bytes of the slice alone.
-        let told =
-            unsafe { ffi::sisal_read_reply(settings, address, count, reply.as_ptr(), reply.len()) };
-        refused_at(told.number, told.place).map(|()| Reading {
-            level: told.level,
-            temperature: temperature(told.kind, told.tenths),
-            alarm1: told.alarm1 != 0,
-            alarm0: told.alarm0 != 0,
+        reading(unsafe {
+            ffi::sisal_read_reply(settings, address, count, reply.as_ptr(), reply.len())
         })
     }
 

@@ -1,7 +1,7 @@
 //! What the types of the wrapper cannot ask: numbers that stand for flags, kinds and rows, and
 //! what stands in an answer beside a refusal.
 
-use super::{ffi, form, slots, version, LentRow, Library, VERSION};
+use super::{ffi, form, read_reply_by_pairs, slots, version, LentRow, Library, VERSION};
 use crate::calls::Core;
 use crate::desk;
 use crate::generate::{self, BoardCall};
@@ -98,6 +98,32 @@ fn the_form_of_a_reply() {
                 assert_eq!(form(count, reply), expected, "{count} bits, {reply:02x?}");
             }
         }
+    }
+}
+
+/// The second reader answers as the first: every digit field of the modes that it reads by pairs, and
+/// replies of every kind, good and damaged.
+#[test]
+fn the_second_reader_answers_as_the_first() {
+    let same = |settings, address, count, reply: &[u8]| {
+        assert_eq!(
+            read_reply_by_pairs(settings, address, count, reply),
+            Library.read_reply(settings, address, count, reply),
+            "settings {settings}, address {address}, {count} bits, {reply:02x?}"
+        );
+    };
+    // mode, bits of its digits, fill bits after them
+    for (mode, width, after) in [(1, 15, 6), (2, 17, 5), (3, 18, 4)] {
+        for digits in 0..1_u64 << width {
+            let word = 1 << 39 | 7 << 25 | digits << (3 + after);
+            let odd = u64::from(word.count_ones() & 1);
+            same(mode, 7, 40, &(word | odd).to_be_bytes()[3..]);
+        }
+    }
+    let mut random = Random::new(SEED, 0);
+    for _ in 0..100_000 {
+        let case = generate::damaged_reply(&mut random);
+        same(case.settings, case.address, case.count, case.reply());
     }
 }
 

@@ -5,6 +5,7 @@ use Prim.Native.Nat.{ℕ, _+_, _-_, _*_, _/_, _%_, _^_}
 use lib.Dec.{eqb, leb}
 use Rattle.frame.specs.Pick.{pick}
 use Rattle.frame.specs.Level.{readRow}
+use Rattle.frame.specs.Pairs.{readPairs, uncounted}
 use Rattle.frame.specs.inside.Packed.{rowOf, levelNumber, writeUp}
 
 -- How many digits, the bit that they begin at, the fill bits before them (from bit 16) and after them (up to bit 37), the largest level, the
@@ -37,11 +38,22 @@ fillAt n before after = eqb (n / 2 ^ (49 - before) % 2 ^ before) 0 && eqb (n / 2
 abbrev pub digitBits : ℕ → ℕ → ℕ
 digitBits first after = 38 - first - after
 
+-- The bits of the digits.
+abbrev pub cutBy : Constants → ℕ → ℕ
+cutBy k n = n / 2 ^ (27 + k .after) % 2 ^ digitBits (k .first) (k .after)
+
 -- A level read by a mode's constants: the level, or 2 ^ 16 times the fault, to which 7 adds the place of the digit.
 abbrev pub readBy : Constants → ℕ → ℕ
 readBy k n =
     pick (fillAt n (k .before) (k .after))
-    (levelNumber (k .largest) (readRow (rowOf (k .charts) (k .digits)) (n / 2 ^ (27 + k .after) % 2 ^ digitBits (k .first) (k .after)) (k .start) 0 0))
+    (levelNumber (k .largest) (readRow (rowOf (k .charts) (k .digits)) (cutBy k n) (k .start) 0 0))
+    (6 * 2 ^ 16)
+
+-- The same by pairs.
+abbrev pub readPairsBy : Constants → ℕ → ℕ
+readPairsBy k n =
+    pick (fillAt n (k .before) (k .after))
+    (levelNumber (k .largest) (uncounted (k .digits % 2) (readPairs ((k .digits + 1) / 2) (cutBy k n) (k .start) 0 0)))
     (6 * 2 ^ 16)
 
 -- The codes of a level's digits, written from the ones digit up.

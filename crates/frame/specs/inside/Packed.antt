@@ -2,7 +2,7 @@
 -- `src/charts.rt` hold, each worked out from the charts themselves, and what the inner functions answer.
 use mathlib.Core.Bool.{Bool, false, _&&_}
 use mathlib.Core.List.{List, [], _∷_, map}
-use Prim.Native.Nat.{ℕ, zero, suc, _+_, _-_, _*_, _/_, _%_, _^_}
+use Prim.Native.Nat.{ℕ, zero, suc, _+_, _-_, _*_, _/_, _%_, _^_, _<_}
 use lib.Dec.{eqb, ltb, leb}
 use lib.ListN.{drop}
 use Rattle.frame.specs.declared.heat.Told.{Told}
@@ -15,7 +15,8 @@ use Rattle.frame.specs.Faults.{firstOf}
 use Rattle.frame.specs.Reply.{modeIn, replyTests, heatIn, readingAt, refusedBy}
 use Rattle.frame.specs.Charts.{Chart, oneBit, twoBits, feetTens, decimal, inches, sixteenths, placeIn, sizeOf, isOdd, turned, codeOf}
 use Rattle.frame.specs.Temperature.{Heat, told, bad, isBad, temperatureOf}
-use Rattle.frame.specs.Level.{Level, known, lost, Mode, levelOf, fillClear, readRow}
+use Rattle.frame.specs.Level.{Level, known, lost, Mode, modeOf, levelOf, fillClear, readRow}
+use Rattle.frame.specs.Pairs.{levelByPairs, secondLevel}
 
 -- The chart of a number: 0 one bit, 1 two bits, 2 feet tens, 3 decimal, 4 inches, any other sixteenths.
 unfoldable pub chartOf : ℕ → Chart
@@ -56,6 +57,11 @@ abbrev pub readCode : Level → ℕ
 readCode (known v) = v
 readCode (lost k) = 2 ^ 32 + k
 
+-- A level that was read is below a bound.
+abbrev pub Below : ℕ → Level → Type 0
+Below b (known v) = v < b
+Below b (lost k) = Unit {0}
+
 -- The code of a level's ones digit by its chart. The digit above is odd exactly if all that stands above is odd, because every chart has
 -- an even number of values.
 abbrev pub onesCode : Chart → ℕ → ℕ
@@ -75,6 +81,13 @@ levelNumber largest (lost k) = 7 * 2 ^ 16 + k
 
 unfoldable pub levelCode : Mode → ℕ → ℕ
 levelCode m n = pick (fillClear n (m .fill)) (levelNumber (m .largest) (levelOf m n)) (6 * 2 ^ 16)
+
+-- The same of a mode's digits read by pairs, and of the mode of a number as the second reader takes it.
+unfoldable pub codeByPairs : Mode → ℕ → ℕ
+codeByPairs m n = pick (fillClear n (m .fill)) (levelNumber (m .largest) (levelByPairs m n)) (6 * 2 ^ 16)
+
+unfoldable pub secondCode : ℕ → ℕ → ℕ
+secondCode k n = pick (fillClear n (modeOf k .fill)) (levelNumber (modeOf k .largest) (secondLevel k n)) (6 * 2 ^ 16)
 
 -- Three decimal digits whose last bit stands `shift` bits above the word's lowest: their number, or 1000 where one is above 9.
 unfoldable pub threeBy : ℕ → ℕ → ℕ

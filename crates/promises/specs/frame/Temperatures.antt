@@ -1,4 +1,5 @@
--- Document 01's temperatures, with the hundred of an 1800 (document 02, request 06), both ways, for both types: bits 40 to 55 of a line, and the temperature that they read as.
+-- Document 01's temperatures, with the hundred of an 1800 (document 02, request 06), both ways, for both types: bits 40 to 55 of a line, and the
+-- temperature that they read as.
 use mathlib.Core.Path.{_≡_}
 use mathlib.Core.Bool.{Bool, true, false}
 use Prim.Native.Nat.{ℕ, _≤_}

@@ -31,9 +31,9 @@ addressed c =
     matches (field n 4 7) (field n 8 11) (field n 12 15) (b .args .address) (b .pre .0)
     (rw (← c .before .before .before .pack .ensures) (sym (c .before .three .ensures) ∙ c .if2 .left))
 
-level-is : (c : tie.After-read-level)
-    → c .read-level .result ≡ levelCode (modeIn (c .before .before .before .before .before .before .before .before .args .settings)) (line (c .before .before .before .before .before .before .before .before .args .reply .now))
-level-is c = c .read-level .ensures ∙ ap (λ (w : ℕ). levelCode (modeIn (c .before .before .before .before .before .before .before .before .args .settings)) w) (c .before .before .before .before .before .before .pack .ensures)
+level-is : (c : tie.After-read-level-with)
+    → c .read-level-with .result ≡ levelCode (modeIn (c .before .before .before .before .before .before .before .before .args .settings)) (line (c .before .before .before .before .before .before .before .before .args .reply .now))
+level-is c = c .read-level-with .ensures ∙ ap (λ (w : ℕ). levelCode (modeIn (c .before .before .before .before .before .before .before .before .args .settings)) w) (c .before .before .before .before .before .before .pack .ensures)
 
 even-or-odd : (c : tie.Else3) → parityRight (c .before .before .before .before .before .before .before .args .settings) (c .before .before .before .before .before .before .before .args .reply .now) ≡ true
 even-or-odd c = sym (c .before .parity-right .ensures) ∙ not-false _ (c .if3 .left)
@@ -69,11 +69,11 @@ returns-3 c =
     let e = sym (c .before .parity-right .ensures) ∙ not-true _ (c .if3 .taken) in
     sym (line-5 (a .settings) (a .address) (a .count) (a .reply .now) (started (c .before .before .before .before)) (addressed (c .before .before)) e)
 
-cast-read-level : tie.Need-cast-read-level
-cast-read-level c = search needs
+cast-read-level-with : tie.Need-cast-read-level-with
+cast-read-level-with c = search needs
 
-read-level-requires : tie.Need-read-level-requires
-read-level-requires c κs = search needs
+read-level-with-requires : tie.Need-read-level-with-requires
+read-level-with-requires c κs = search needs
 
 by-level-requires : tie.Need-by-level-requires
 by-level-requires c κs =
@@ -112,8 +112,8 @@ read-line-spec =
     returns-2
     parity-right-requires
     returns-3
-    cast-read-level
-    read-level-requires
+    cast-read-level-with
+    read-level-with-requires
     by-level-requires
     returns-4
     with-level-requires

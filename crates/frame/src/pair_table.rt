@@ -1,0 +1,78 @@
+// The table of pairs as 64 words of eight entries, the first entry of a word lowest: for a first digit straight (words 0 to 31) or turned
+// (32 to 63), a first code (two words each) and a second code, the number of the pair or 0xff for a code in no chart. Made by
+// `tools/pair-table`. Compiled, a word and the shift that takes an entry out of it are one load of one byte.
+ghost use mathlib.Core.Path.{_≡_};
+ghost use Prim.Native.Nat.{_<_};
+ghost use Rattle.frame.specs.inside.PairWords.{wordOf};
+
+pub(crate) fn eight(k: u64) -> u64
+    requires { ⌜ k < 64 ⌝ }
+    ensures { λ r. ⌜ r ≡ wordOf k ⌝ }
+{
+    match k {
+        0 => 0x0504060702030100,
+        1 => 0xffffff08ffffff09,
+        2 => 0x0e0f0d0c11101213,
+        3 => 0xffffff0bffffff0a,
+        4 => 0x2223212025242627,
+        5 => 0xffffff1fffffff1e,
+        6 => 0x19181a1b16171514,
+        7 => 0xffffff1cffffff1d,
+        8 => 0x4a4b49484d4c4e4f,
+        9 => 0xffffff47ffffff46,
+        10 => 0x414042433e3f3d3c,
+        11 => 0xffffff44ffffff45,
+        12 => 0x2d2c2e2f2a2b2928,
+        13 => 0xffffff30ffffff31,
+        14 => 0x3637353439383a3b,
+        15 => 0xffffff33ffffff32,
+        16 => 0x5e5f5d5c61606263,
+        17 => 0xffffff5bffffff5a,
+        18 => 0xffffffffffffffff,
+        19 => 0xffffffffffffffff,
+        20 => 0xffffffffffffffff,
+        21 => 0xffffffffffffffff,
+        22 => 0xffffffffffffffff,
+        23 => 0xffffffffffffffff,
+        24 => 0x5554565752535150,
+        25 => 0xffffff58ffffff59,
+        26 => 0xffffffffffffffff,
+        27 => 0xffffffffffffffff,
+        28 => 0xffffffffffffffff,
+        29 => 0xffffffffffffffff,
+        30 => 0xffffffffffffffff,
+        31 => 0xffffffffffffffff,
+        32 => 0x5e5f5d5c61606263,
+        33 => 0xffffff5bffffff5a,
+        34 => 0x5554565752535150,
+        35 => 0xffffff58ffffff59,
+        36 => 0x414042433e3f3d3c,
+        37 => 0xffffff44ffffff45,
+        38 => 0x4a4b49484d4c4e4f,
+        39 => 0xffffff47ffffff46,
+        40 => 0x19181a1b16171514,
+        41 => 0xffffff1cffffff1d,
+        42 => 0x2223212025242627,
+        43 => 0xffffff1fffffff1e,
+        44 => 0x3637353439383a3b,
+        45 => 0xffffff33ffffff32,
+        46 => 0x2d2c2e2f2a2b2928,
+        47 => 0xffffff30ffffff31,
+        48 => 0x0504060702030100,
+        49 => 0xffffff08ffffff09,
+        50 => 0xffffffffffffffff,
+        51 => 0xffffffffffffffff,
+        52 => 0xffffffffffffffff,
+        53 => 0xffffffffffffffff,
+        54 => 0xffffffffffffffff,
+        55 => 0xffffffffffffffff,
+        56 => 0x0e0f0d0c11101213,
+        57 => 0xffffff0bffffff0a,
+        58 => 0xffffffffffffffff,
+        59 => 0xffffffffffffffff,
+        60 => 0xffffffffffffffff,
+        61 => 0xffffffffffffffff,
+        62 => 0xffffffffffffffff,
+        _ => 0xffffffffffffffff,
+    }
+}

@@ -1,0 +1,114 @@
+// Levels read two digits at a time: the number of a pair of decimal codes is looked up in a table (document 02, request 07).
+ghost use mathlib.Core.Path.{_≡_};
+ghost use mathlib.Core.Bool.{Bool};
+ghost use Prim.Native.Nat.{suc, _+_, _-_, _*_, _/_, _%_, _^_, _<_, _≤_};
+ghost use lib.Dec.{eqb};
+ghost use Rattle.frame.specs.Pick.{pick};
+ghost use Rattle.frame.specs.Level.{Level};
+ghost use Rattle.frame.specs.Pairs.{noPair, entryOf, indexOf, readPairs, uncounted};
+ghost use Rattle.frame.specs.inside.Packed.{readCode, Below};
+ghost use Rattle.frame.specs.inside.Constants.{Constants, readPairsBy};
+use crate::level;
+use crate::line;
+use crate::pair_table;
+
+// The mark for a pair in no chart. Every pair's number is below it.
+const NO_PAIR: u64 = 255;
+
+// The table's entry for a pair of codes, its first digit turned or straight.
+fn entry(odd: bool, first: u64, second: u64) -> u64
+    requires { ⌜ first < 16 ⌝ }
+    requires { ⌜ second < 16 ⌝ }
+    ensures { λ r. ⌜ r ≡ entryOf (indexOf odd first second) ⌝ }
+{
+    let i = line::mark(odd) * 256 + first * 16 + second;
+    (pair_table::eight(i / 8) >> (8 * (i % 8))) % 256
+}
+
+// The entry of the top one of `left` pairs.
+fn top_pair(left: u64, bits: u64, odd: bool) -> u64
+    requires { ⌜ 0 < left ⌝ }
+    requires { ⌜ left ≤ 4 ⌝ }
+    ensures { λ r. ⌜ r ≡ entryOf (indexOf odd (bits / 2 ^ (8 * (left - 1) + 4) % 16) (bits / 2 ^ (8 * (left - 1)) % 16)) ⌝ }
+{
+    let at = 8 * (left - 1);
+    entry(odd, (bits >> (at + 4)) % 16, (bits >> at) % 16)
+}
+
+// The place of the digit in no chart of a pair that is marked. 0000 is in the chart from either end: with it for the second code the pair
+// is marked again exactly if the first code is in no chart.
+fn lost_place(left: u64, bits: u64, odd: bool, place: u64) -> u64
+    requires { ⌜ 0 < left ⌝ }
+    requires { ⌜ left ≤ 4 ⌝ }
+    requires { ⌜ place ≤ 8 ⌝ }
+    ensures { λ r. ⌜ (r ≡ pick (eqb (entryOf (indexOf odd (bits / 2 ^ (8 * (left - 1) + 4) % 16) 0)) noPair) place (suc place)) × (r ≤ 9) ⌝ }
+{
+    let first = (bits >> (8 * (left - 1) + 4)) % 16;
+    if entry(odd, first, 0) == NO_PAIR {
+        return place;
+    }
+    place + 1
+}
+
+// The level of the pairs so far and one more below them.
+fn with_pair(sofar: u64, pair: u64) -> u64
+    requires { ⌜ sofar < 2 ^ 32 ⌝ }
+    requires { ⌜ pair < 256 ⌝ }
+    ensures { λ r. ⌜ r ≡ sofar * 100 + pair ⌝ }
+{
+    sofar * 100 + pair
+}
+
+// The pairs are read from the top, fewer left each time. `odd` tells of the digit just above, `sofar` is the level of the digits above, and
+// `place` counts them. A pair's number is odd exactly if its second digit is.
+fn read_pairs(left: u64, bits: u64, odd: bool, sofar: u64, place: u64) -> u64
+    requires { ⌜ (sofar + 1) * 100 ^ left ≤ 2 ^ 32 ⌝ }
+    requires { ⌜ place + 2 * left ≤ 8 ⌝ }
+    ensures { λ r. ⌜ r ≡ readCode (readPairs left bits odd sofar place) ⌝ }
+{
+    if left == 0 {
+        return sofar;
+    }
+    let pair = top_pair(left, bits, odd);
+    if pair == NO_PAIR {
+        return level::LOST + lost_place(left, bits, odd, place);
+    }
+    let next = with_pair(sofar, pair);
+    read_pairs(left - 1, bits, pair % 2 == 1, next, place + 2)
+}
+
+// What was read, where a digit 0000 that stands before the others is not counted in the place of a digit in no chart.
+fn less_zeros(zeros: u64, v: u64) -> u64
+    requires { ⌜ zeros ≤ 1 ⌝ }
+    ensures { λ r. ⌜ ((l : Level) → Below (2 ^ 32) l → v ≡ readCode l → r ≡ readCode (uncounted zeros l)) ⌝ }
+{
+    if level::LOST < v {
+        return v - zeros;
+    }
+    v
+}
+
+// A level by its mode's constants, as `level::read_by` has them, two digits at a time: a digit 0000 stands before an odd number of digits.
+pub(crate) fn read_by(
+    n: u64,
+    digits: u64,
+    first: u64,
+    before: u64,
+    after: u64,
+    largest: u64,
+    start: bool,
+) -> u64
+    requires { ⌜ digits ≤ 5 ⌝ }
+    requires { ⌜ 16 ≤ first ⌝ }
+    requires { ⌜ first ≤ 17 ⌝ }
+    requires { ⌜ before ≤ 1 ⌝ }
+    requires { ⌜ after ≤ 6 ⌝ }
+    ensures { λ r. ⌜ r ≡ readPairsBy (record { digits = digits; first = first; before = before; after = after; largest = largest; charts = 0; start = start }) n ⌝ }
+{
+    if !level::fill_clear(n, before, after) {
+        return 6 * level::FAULT;
+    }
+    let bits = level::digit_bits(n, first, after);
+    let v = read_pairs((digits + 1) / 2, bits, start, 0, 0);
+    level::judged(largest, less_zeros(digits % 2, v))
+}
