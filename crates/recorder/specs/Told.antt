@@ -41,7 +41,15 @@ pollMeant t = pick (eqb (t .number) 0) (asked.Asked (pollSaid t)) (asked.Refused
 -- A reply: its reading with the temperature by kind and tenths, as a row of the board keeps it; beside a refusal all else is 0.
 abbrev pub readingTold : Reading → ReplyTold
 readingTold r =
-    record { level = r .level; tenths = tenthsOf (r .temperature); kind = kindOf (r .temperature); alarm1 = mark (r .alarm1); alarm0 = mark (r .alarm0); number = 0; place = 0 }
+    record {
+      level = r .level;
+      tenths = tenthsOf (r .temperature);
+      kind = kindOf (r .temperature);
+      alarm1 = mark (r .alarm1);
+      alarm0 = mark (r .alarm0);
+      number = 0;
+      place = 0;
+    }
 
 -- Beside number 7 stands the place of the unreadable digit.
 abbrev pub refusedTold : ℕ → ℕ → ReplyTold

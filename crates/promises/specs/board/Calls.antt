@@ -73,7 +73,8 @@ pub record EnrolPromise (rows : List Row) (settings address answer : ℕ) (after
   pub bad-address : settings ≤ 15 → 999 < address → (answer ≡ 11) × (after ≡ rows)
   pub twice : settings ≤ 15 → address ≤ 999 → (i : ℕ) → IsRowOf rows address i → (answer ≡ 18) × (after ≡ rows)
   pub no-row : settings ≤ 15 → address ≤ 999 → Unknown rows address → NoFree rows → (answer ≡ 19) × (after ≡ rows)
-  pub enrolled : settings ≤ 15 → address ≤ 999 → Unknown rows address → (i : ℕ) → IsFirstFree rows i → (answer ≡ 0) × OnlyRow rows i (newRow settings address) after
+  pub enrolled : settings ≤ 15 → address ≤ 999 → Unknown rows address → (i : ℕ) → IsFirstFree rows i
+      → (answer ≡ 0) × OnlyRow rows i (newRow settings address) after
 
 -- Hearing: 11, 14, 17, 10 by the row's own settings, and no row changes; 1 to 9, and of the row only the fault is set, 7 with the place of the
 -- unreadable digit, which is answered too, and one faulty reply more is counted; or 0, and its reading, minute and fault 0 are set, and the count is
@@ -82,7 +83,8 @@ pub record HearPromise (rows : List Row) (minute address count : ℕ) (reply : L
   pub bad-address : 999 < address → (answer ≡ heardAs 11 0) × (after ≡ rows)
   pub bad-form : address ≤ 999 → formed count reply ≡ false → (answer ≡ heardAs 14 0) × (after ≡ rows)
   pub unknown : address ≤ 999 → formed count reply ≡ true → Unknown rows address → (answer ≡ heardAs 17 0) × (after ≡ rows)
-  pub bad-settings : address ≤ 999 → formed count reply ≡ true → (i : ℕ) → IsRowOf rows address i → 15 < rowAt rows i .settings → (answer ≡ heardAs 10 0) × (after ≡ rows)
+  pub bad-settings : address ≤ 999 → formed count reply ≡ true → (i : ℕ) → IsRowOf rows address i → 15 < rowAt rows i .settings
+      → (answer ≡ heardAs 10 0) × (after ≡ rows)
   pub faulty : address ≤ 999 → formed count reply ≡ true → (i : ℕ) → IsRowOf rows address i → rowAt rows i .settings ≤ 15
       → (fault : ℕ) → ReadsReply (rowAt rows i .settings) address count reply (Refused fault)
       → (answer ≡ heardAs fault 0) × (1 ≤ fault) × (fault ≤ 9) × OnlyRow rows i (withFault (heardAt (rowAt rows i) minute) fault 0) after
@@ -119,13 +121,18 @@ pub record LookPromise (rows : List Row) (address : ℕ) (answer : Looked) : Typ
 
 -- Whatever a contract allows keeps these promises, and it allows one outcome.
 pub record BoardCalls : Type 0 where
-  pub enrol : (rows : List Row) (settings address answer : ℕ) (after : List Row) → Enrols rows settings address answer after → EnrolPromise rows settings address answer after
-  pub hear : (rows : List Row) (minute address count : ℕ) (reply : List ℕ) (answer : Heard) (after : List Row) → Hears rows minute address count reply answer after → HearPromise rows minute address count reply answer after
+  pub enrol : (rows : List Row) (settings address answer : ℕ) (after : List Row) → Enrols rows settings address answer after
+      → EnrolPromise rows settings address answer after
+  pub hear : (rows : List Row) (minute address count : ℕ) (reply : List ℕ) (answer : Heard) (after : List Row)
+      → Hears rows minute address count reply answer after → HearPromise rows minute address count reply answer after
   pub remove : (rows : List Row) (address answer : ℕ) (after : List Row) → Removes rows address answer after → RemovePromise rows address answer after
   pub look-up : (rows : List Row) (address : ℕ) (answer : Looked) → LooksUp rows address answer → LookPromise rows address answer
 
 pub record BoardOneOutcome : Type 0 where
-  pub enrol : (rows : List Row) (settings address a b : ℕ) (after later : List Row) → Enrols rows settings address a after → Enrols rows settings address b later → (a ≡ b) × (after ≡ later)
-  pub hear : (rows : List Row) (minute address count : ℕ) (reply : List ℕ) (a b : Heard) (after later : List Row) → Hears rows minute address count reply a after → Hears rows minute address count reply b later → (a ≡ b) × (after ≡ later)
-  pub remove : (rows : List Row) (address a b : ℕ) (after later : List Row) → Removes rows address a after → Removes rows address b later → (a ≡ b) × (after ≡ later)
+  pub enrol : (rows : List Row) (settings address a b : ℕ) (after later : List Row) → Enrols rows settings address a after
+      → Enrols rows settings address b later → (a ≡ b) × (after ≡ later)
+  pub hear : (rows : List Row) (minute address count : ℕ) (reply : List ℕ) (a b : Heard) (after later : List Row)
+      → Hears rows minute address count reply a after → Hears rows minute address count reply b later → (a ≡ b) × (after ≡ later)
+  pub remove : (rows : List Row) (address a b : ℕ) (after later : List Row) → Removes rows address a after → Removes rows address b later
+      → (a ≡ b) × (after ≡ later)
   pub look-up : (rows : List Row) (address : ℕ) (a b : Looked) → LooksUp rows address a → LooksUp rows address b → a ≡ b

@@ -19,7 +19,10 @@ abbrev pub Alike : List Row → List Row → Type 0
 Alike rows others = map cleared (boardOf rows) ≡ map cleared (boardOf others)
 
 pub record BoardFree : Type 0 where
-  pub enrol : (rows others after later : List Row) (settings address a b : ℕ) → Alike rows others → Enrols rows settings address a after → Enrols others settings address b later → (a ≡ b) × Alike after later
-  pub hear : (rows others after later : List Row) (minute address count : ℕ) (reply : List ℕ) (a b : Heard) → Alike rows others → Hears rows minute address count reply a after → Hears others minute address count reply b later → (a ≡ b) × Alike after later
-  pub remove : (rows others after later : List Row) (address a b : ℕ) → Alike rows others → Removes rows address a after → Removes others address b later → (a ≡ b) × Alike after later
+  pub enrol : (rows others after later : List Row) (settings address a b : ℕ) → Alike rows others → Enrols rows settings address a after
+      → Enrols others settings address b later → (a ≡ b) × Alike after later
+  pub hear : (rows others after later : List Row) (minute address count : ℕ) (reply : List ℕ) (a b : Heard) → Alike rows others
+      → Hears rows minute address count reply a after → Hears others minute address count reply b later → (a ≡ b) × Alike after later
+  pub remove : (rows others after later : List Row) (address a b : ℕ) → Alike rows others → Removes rows address a after
+      → Removes others address b later → (a ≡ b) × Alike after later
   pub look-up : (rows others : List Row) (address : ℕ) (a b : Looked) → Alike rows others → LooksUp rows address a → LooksUp others address b → a ≡ b

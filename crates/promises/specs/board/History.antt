@@ -18,7 +18,8 @@ use Rattle.promises.specs.board.Calls.{rowAt, OnBoard, Holds, Unknown}
 pub data History (start : List Row) : List Row → Type 0 where
   begun : History start start
   enrolled : {rows after : List Row} (settings address answer : ℕ) → History start rows → Enrols rows settings address answer after → History start after
-  heard : {rows after : List Row} (minute address count : ℕ) (reply : List ℕ) (answer : Heard) → History start rows → Hears rows minute address count reply answer after → History start after
+  heard : {rows after : List Row} (minute address count : ℕ) (reply : List ℕ) (answer : Heard) → History start rows
+      → Hears rows minute address count reply answer after → History start after
   removed : {rows after : List Row} (address answer : ℕ) → History start rows → Removes rows address answer after → History start after
   looked : {rows : List Row} (address : ℕ) (answer : Looked) → History start rows → LooksUp rows address answer → History start rows
 
@@ -51,7 +52,9 @@ pub record BoardHistory : Type 0 where
   pub as-many : (start rows : List Row) → History start rows → length rows ≡ length start
   pub beyond : (start rows : List Row) → History start rows → (i : ℕ) → 30 ≤ i → rowAt rows i ≡ rowAt start i
   -- A new address is enrolled while fewer are on the board than it has rows, 30 at most, and else refused by 19.
-  pub room : (start rows after : List Row) (h : History start rows) (settings address answer : ℕ) → Empty start → settings ≤ 15 → address ≤ 999 → Unknown rows address → Enrols rows settings address answer after
+  pub room : (start rows after : List Row) (h : History start rows) (settings address answer : ℕ) → Empty start → settings ≤ 15 → address ≤ 999
+      → Unknown rows address → Enrols rows settings address answer after
       → taken h < given h + min 30 (length start) → answer ≡ 0
-  pub full : (start rows after : List Row) (h : History start rows) (settings address answer : ℕ) → Empty start → settings ≤ 15 → address ≤ 999 → Unknown rows address → Enrols rows settings address answer after
+  pub full : (start rows after : List Row) (h : History start rows) (settings address answer : ℕ) → Empty start → settings ≤ 15 → address ≤ 999
+      → Unknown rows address → Enrols rows settings address answer after
       → given h + min 30 (length start) ≤ taken h → answer ≡ 19

@@ -19,18 +19,27 @@ pub record Reads (settings address count : ℕ) (reply : List ℕ) : Type 0 wher
 pub record BoardReadings : Type 0 where
   -- A hearing that answered 0, then a look: the reading of that reply, by the row's settings, with its minute, fault 0, no faulty
   -- reply counted, and this minute as the one it was last heard.
-  pub heard : (rows after : List Row) (minute address count place : ℕ) (reply : List ℕ) (told : Looked) → Hears rows minute address count reply (heardAs 0 place) after → LooksUp after address told
-      → (told .number ≡ 0) × (told .fault ≡ 0) × (told .place ≡ 0) × (told .faulty ≡ 0) × (minuteTold told ≡ at minute) × ((read : Reads (told .settings) address count reply) → lastTold told ≡ good (read .reading) minute)
+  pub heard : (rows after : List Row) (minute address count place : ℕ) (reply : List ℕ) (told : Looked)
+      → Hears rows minute address count reply (heardAs 0 place) after → LooksUp after address told
+      → (told .number ≡ 0) × (told .fault ≡ 0) × (told .place ≡ 0) × (told .faulty ≡ 0) × (minuteTold told ≡ at minute)
+      × ((read : Reads (told .settings) address count reply) → lastTold told ≡ good (read .reading) minute)
   -- There is such a reading.
-  pub accepted : (rows after : List Row) (minute address count place : ℕ) (reply : List ℕ) (told : Looked) → Hears rows minute address count reply (heardAs 0 place) after → LooksUp after address told → Reads (told .settings) address count reply
+  pub accepted : (rows after : List Row) (minute address count place : ℕ) (reply : List ℕ) (told : Looked)
+      → Hears rows minute address count reply (heardAs 0 place) after → LooksUp after address told → Reads (told .settings) address count reply
   -- A look, a hearing that answered 1 to 9, and a look again: the same settings and the same last good reading, the fault, the place that was
   -- answered with it, one faulty reply more, and this minute as the one it was last heard.
-  pub kept : (rows after : List Row) (minute address count fault place : ℕ) (reply : List ℕ) (before told : Looked) → 1 ≤ fault → fault ≤ 9 → LooksUp rows address before → Hears rows minute address count reply (heardAs fault place) after → LooksUp after address told
-      → (told .number ≡ 0) × (told .fault ≡ fault) × (told .place ≡ place) × (told .faulty ≡ more (before .faulty)) × (minuteTold told ≡ at minute) × (told .settings ≡ before .settings) × (lastTold told ≡ lastTold before)
+  pub kept : (rows after : List Row) (minute address count fault place : ℕ) (reply : List ℕ) (before told : Looked) → 1 ≤ fault → fault ≤ 9
+      → LooksUp rows address before → Hears rows minute address count reply (heardAs fault place) after → LooksUp after address told
+      → (told .number ≡ 0) × (told .fault ≡ fault) × (told .place ≡ place) × (told .faulty ≡ more (before .faulty)) × (minuteTold told ≡ at minute)
+      × (told .settings ≡ before .settings) × (lastTold told ≡ lastTold before)
   -- A row that was enrolled has no reading and fault 0.
   pub started : (rows after : List Row) (settings address : ℕ) (told : Looked) → Enrols rows settings address 0 after → LooksUp after address told
-      → (told .number ≡ 0) × (told .fault ≡ 0) × (told .settings ≡ settings) × (lastTold told ≡ none) × (told .place ≡ 0) × (told .faulty ≡ 0) × (minuteTold told ≡ never)
+      → (told .number ≡ 0) × (told .fault ≡ 0) × (told .settings ≡ settings) × (lastTold told ≡ none)
+      × (told .place ≡ 0) × (told .faulty ≡ 0) × (minuteTold told ≡ never)
   -- What the calls of another transmitter do leaves its look as it was.
-  pub hear-apart : (rows after : List Row) (minute address other count : ℕ) (reply : List ℕ) (answer : Heard) (before told : Looked) → (other ≡ address → ⊥) → LooksUp rows address before → Hears rows minute other count reply answer after → LooksUp after address told → told ≡ before
-  pub enrol-apart : (rows after : List Row) (settings address other answer : ℕ) (before told : Looked) → (other ≡ address → ⊥) → LooksUp rows address before → Enrols rows settings other answer after → LooksUp after address told → told ≡ before
-  pub remove-apart : (rows after : List Row) (address other answer : ℕ) (before told : Looked) → (other ≡ address → ⊥) → LooksUp rows address before → Removes rows other answer after → LooksUp after address told → told ≡ before
+  pub hear-apart : (rows after : List Row) (minute address other count : ℕ) (reply : List ℕ) (answer : Heard) (before told : Looked)
+      → (other ≡ address → ⊥) → LooksUp rows address before → Hears rows minute other count reply answer after → LooksUp after address told → told ≡ before
+  pub enrol-apart : (rows after : List Row) (settings address other answer : ℕ) (before told : Looked) → (other ≡ address → ⊥)
+      → LooksUp rows address before → Enrols rows settings other answer after → LooksUp after address told → told ≡ before
+  pub remove-apart : (rows after : List Row) (address other answer : ℕ) (before told : Looked) → (other ≡ address → ⊥) → LooksUp rows address before
+      → Removes rows other answer after → LooksUp after address told → told ≡ before

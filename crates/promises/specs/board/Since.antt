@@ -30,7 +30,8 @@ since (looked a answer h e) address = since h address
 unfoldable pub latest : {start rows : List Row} → History start rows → ℕ → Minute
 latest begun address = never
 latest (enrolled settings a answer h e) address = pick (eqb a address && eqb answer 0) never (latest h address)
-latest (heard minute a count reply answer h e) address = pick (eqb a address && (eqb (answer .number) 0 || setsFault (answer .number))) (at minute) (latest h address)
+latest (heard minute a count reply answer h e) address =
+    pick (eqb a address && (eqb (answer .number) 0 || setsFault (answer .number))) (at minute) (latest h address)
 latest (removed a answer h e) address = latest h address
 latest (looked a answer h e) address = latest h address
 
@@ -39,9 +40,11 @@ pub record BoardSince : Type 0 where
   pub count-and-fault : (start rows : List Row) → Empty start → History start rows → (i : ℕ) → OnBoard rows i → inUse (rowAt rows i) ≡ true
       → (rowAt rows i .faulty ≡ 0 → rowAt rows i .fault ≡ 0) × (rowAt rows i .fault ≡ 0 → rowAt rows i .faulty ≡ 0)
   -- The count that a look tells is that of the history, and stays at 65,535; the minute is that of the latest hearing, even if the clock went back.
-  pub counted-since : (start rows : List Row) → Empty start → (h : History start rows) (address : ℕ) (told : Looked) → LooksUp rows address told → told .number ≡ 0
+  pub counted-since : (start rows : List Row) → Empty start → (h : History start rows) (address : ℕ) (told : Looked) → LooksUp rows address told
+      → told .number ≡ 0
       → told .faulty ≡ min 65535 (since h address)
-  pub latest-heard : (start rows : List Row) → Empty start → (h : History start rows) (address : ℕ) (told : Looked) → LooksUp rows address told → told .number ≡ 0
+  pub latest-heard : (start rows : List Row) → Empty start → (h : History start rows) (address : ℕ) (told : Looked) → LooksUp rows address told
+      → told .number ≡ 0
       → minuteTold told ≡ latest h address
   -- Replies for different addresses, heard in either order, give the same answers and the same board, whatever rows were lent.
   pub either-order : (rows one both other again : List Row) (m a k n b l : ℕ) (y z : List ℕ) (p q r s : Heard) → (a ≡ b → ⊥)

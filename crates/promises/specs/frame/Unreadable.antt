@@ -51,7 +51,8 @@ pub record UnreadableDigit : Type 0 where
   pub first : (row : List Chart) (bits : ℕ) (odd : Bool) (sofar at k : ℕ) → FirstUnreadable row bits k → readRow row bits odd sofar at ≡ lost (at + k)
   pub only : (row : List Chart) (bits : ℕ) (odd : Bool) (sofar at p : ℕ) → readRow row bits odd sofar at ≡ lost p → Named row bits at p
   -- A reply with fault 7 names its place, one that names a place has fault 7 and such a level, and no other refusal is 7.
-  pub seven : (settings address count : ℕ) (reply : List ℕ) (got : Reply) → ReadsReply settings address count reply got → replyNumber got ≡ 7 → NamesPlace settings reply got
+  pub seven : (settings address count : ℕ) (reply : List ℕ) (got : Reply) → ReadsReply settings address count reply got → replyNumber got ≡ 7
+      → NamesPlace settings reply got
   pub place : (settings address count : ℕ) (reply : List ℕ) (got : Reply) → ReadsReply settings address count reply got → (p : ℕ) → got ≡ Unreadable p
       → (replyNumber got ≡ 7) × (levelOf (modeIn settings) (line reply) ≡ lost p)
   pub others : (settings address count : ℕ) (reply : List ℕ) → (n : ℕ) → ReadsReply settings address count reply (Refused n) → n ≡ 7 → ⊥
