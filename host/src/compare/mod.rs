@@ -67,8 +67,8 @@ impl Plan {
             line_states: 1_000_000,
             streams: 4_000,
             changed_items: 400,
-            items: 2_000_000,
-            sites: 30_000,
+            items: 1_000_000,
+            sites: 10_000,
         }
     }
 

@@ -78,7 +78,11 @@ fn hostile_row(random: &mut Random, pool: usize) -> Row {
             _ => 0,
         },
         place: random.byte(),
-        faulty: if random.coin() { u16::MAX - random.below(3) as u16 } else { random.below(5) as u16 },
+        faulty: if random.coin() {
+            u16::MAX - random.below(3) as u16
+        } else {
+            random.below(5) as u16
+        },
         heard: minute(random),
     }
 }

@@ -54,7 +54,7 @@ mod tests {
     fn a_refusal_answers_its_number_alone() {
         let mut random = Random::new(SEED, 0);
         let mut seen = [0u32; 37];
-        for _ in 0..20_000 {
+        for _ in 0..3_000 {
             let site = generate::site(&mut random);
             // SAFETY: the numbers of a slice are lent for reading.
             let plan = unsafe { sisal_plan_areas(site.as_ptr(), site.len()) };
@@ -63,6 +63,6 @@ mod tests {
                 assert_eq!((plan.sizes, plan.areas), ([0; MOST_AREAS], 0), "{site:?}");
             }
         }
-        assert!(seen[34] > 200 && seen[35] > 2_000, "{seen:?}");
+        assert!(seen[34] > 20 && seen[35] > 200, "{seen:?}");
     }
 }

@@ -101,7 +101,7 @@ mod tests {
         };
         let mut random = Random::new(SEED, 0);
         let mut seen = [0u32; 34];
-        for _ in 0..20_000 {
+        for _ in 0..5_000 {
             let record = generate::record(&mut random);
             // SAFETY: the bytes of a slice are lent for reading.
             let told = unsafe { sisal_read_item(record.as_ptr(), record.len()) };
@@ -121,6 +121,6 @@ mod tests {
             seen[usize::from(wrote.number)] += 1;
             assert!(wrote.number == 0 || wrote.count == 0, "{case:?}");
         }
-        assert!(seen[29..].iter().all(|&times| times > 500), "{seen:?}");
+        assert!(seen[29..].iter().all(|&times| times > 100), "{seen:?}");
     }
 }
