@@ -88,6 +88,10 @@ impl<L: Core, R: Core> Benchmarks<'_, L, R> {
                 let kind = if good { "good" } else { "faulty" };
                 let name = format!("read a reply, {count} bits, {kind}");
                 self.time(tell, &name, POOL, left, right);
+                let left = reads_by_pairs(self.left, &pool);
+                let right = reads_by_pairs(self.right, &pool);
+                let name = format!("read a reply by pairs, {count} bits, {kind}");
+                self.time(tell, &name, POOL, left, right);
             }
         }
         for (count, absent) in [(40, true), (56, false)] {
@@ -213,6 +217,18 @@ fn reads<'a, C: Core>(core: &'a C, pool: &'a [ReplyCase]) -> impl FnMut() + 'a {
             let case = black_box(case);
             let _ =
                 black_box(core.read_reply(case.settings, case.address, case.count, case.reply()));
+        }
+    }
+}
+
+/// By the second reader. The independent reading has one reader, which goes by pairs of digits.
+fn reads_by_pairs<'a, C: Core>(core: &'a C, pool: &'a [ReplyCase]) -> impl FnMut() + 'a {
+    move || {
+        for case in pool {
+            let case = black_box(case);
+            let (settings, address) = (case.settings, case.address);
+            let _ =
+                black_box(core.read_reply_by_pairs(settings, address, case.count, case.reply()));
         }
     }
 }

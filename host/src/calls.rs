@@ -30,6 +30,17 @@ pub trait Core: Sync {
     fn read_reply(&self, settings: u8, address: u16, count: usize, reply: &[u8])
         -> Answer<Reading>;
 
+    /// The same by the second reader, two digits at a time, where a core has one of its own.
+    fn read_reply_by_pairs(
+        &self,
+        settings: u8,
+        address: u16,
+        count: usize,
+        reply: &[u8],
+    ) -> Answer<Reading> {
+        self.read_reply(settings, address, count, reply)
+    }
+
     /// Writes a reply into the first 5 or 7 bytes and answers how many. Refusals: 10, 11, 15.
     fn write_reply(
         &self,

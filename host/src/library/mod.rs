@@ -134,6 +134,7 @@ fn reading(told: ffi::Reply) -> Answer<Reading> {
 }
 
 /// Reads a reply by the second reader, two digits at a time. Refusals: 10, 11, 14, then 1 to 9.
+#[inline]
 pub fn read_reply_by_pairs(
     settings: u8,
     address: u16,
@@ -173,6 +174,17 @@ impl Core for Library {
         done(unsafe {
             ffi::sisal_write_poll(poll.address, raise, reset, out.as_mut_ptr(), out.len())
         })
+    }
+
+    #[inline]
+    fn read_reply_by_pairs(
+        &self,
+        settings: u8,
+        address: u16,
+        count: usize,
+        reply: &[u8],
+    ) -> Answer<Reading> {
+        read_reply_by_pairs(settings, address, count, reply)
     }
 
     #[inline]
