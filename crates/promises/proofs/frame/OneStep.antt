@@ -8,7 +8,6 @@ use Prim.Native.Nat.{ℕ, _+_, _-_, _*_, _/_, _%_, _^_, _<_, _≤_}
 use native.Mathlib.Omega.{arith}
 use native.Mathlib.Nat.{div-add-mod', mod-lt, lt-of-le-of-lt, zero-div, zero-mod}
 use lib.Arith.{digits-div, digits-mod, mul-pred}
-use lib.Dec.{T, eqb, eqb→eq}
 use lib.ListN.{getD}
 use borrow.Author.Tests.{eq-eqb, ne-eqb}
 use Rattle.frame.specs.declared.Reading.{Reading}
@@ -135,9 +134,8 @@ modes =
 -- Bits 16 to 37 are a mode's digits and zeros around them.
 around : (k : ℕ) → (modeOf k .first - 16) + (widthOf (modeOf k .row) + (37 - lastBit (modeOf k))) ≡ 22
 unfolding fractionalMode decimalMode twentyMetreMode thirtyMetreMode widthOf oneBit twoBits feetTens decimal inches sixteenths
-around k =
-    eqb→eq _ 22
-    (every-mode (λ (m : Mode). T (eqb ((m .first - 16) + (widthOf (m .row) + (37 - lastBit m))) 22)) tt tt tt tt k)
+around =
+    every-mode (λ (m : Mode). (m .first - 16) + (widthOf (m .row) + (37 - lastBit m)) ≡ 22) refl refl refl refl
 
 level-step : (k v : ℕ) → v + 1 ≤ modeOf k .largest
     → OneBitApart 22 (digitsOf (modeOf k) v * 2 ^ (37 - lastBit (modeOf k))) (digitsOf (modeOf k) (v + 1) * 2 ^ (37 - lastBit (modeOf k)))
@@ -154,6 +152,28 @@ size-large : (absent : Bool) → 5 ≤ pick absent 5 7
 size-large true = omega arith
 size-large false = omega arith
 
+in-bytes : (i size : ℕ) → 16 ≤ i → i ≤ 37 → 5 ≤ size → (1 ≤ i) × (i ≤ 8 * size)
+in-bytes i size p q large = (omega arith, omega arith)
+
+in-line : (i : ℕ) → 16 ≤ i → i ≤ 37 → (1 ≤ i) × (i ≤ 64)
+in-line i p q = (omega arith, omega arith)
+
+in-level : (i : ℕ) → 1 ≤ i → i ≤ 22 → (16 ≤ i + 15) × (i + 15 ≤ 37)
+in-level i p q = (omega arith, omega arith)
+
+level-place : (n i : ℕ) → 1 ≤ i → i ≤ 22 → bit n (i + 15) ≡ bitIn 22 (field n 16 37) i
+level-place n i p q =
+    let down : 37 - (i + 15) ≡ 22 - i = omega arith in
+    let one : i + 15 + 1 - (i + 15) ≡ 1 = omega arith in
+    within n 16 37 (i + 15) (i + 15) (omega arith) (omega arith) (omega arith) (omega arith)
+    ∙ ap₂ (λ (x y : ℕ). field n 16 37 / 2 ^ x % 2 ^ y) down one
+
+level-field : (n w : ℕ) → ((i : ℕ) → 16 ≤ i → i ≤ 37 → bit w i ≡ bit n i) → field w 16 37 ≡ field n 16 37
+level-field n w e = same-field n w 16 37 (omega arith) (omega arith) e
+
+one-less : (v w most : ℕ) → w ≡ v + 1 → w ≤ most → v ≤ most
+one-less v w most e h = omega arith
+
 module _ (settings address : ℕ) (r : Reading) (hs : settings ≤ 15) (ha : address ≤ 999) (bytes : List ℕ) (left : ReplyLeft settings address r bytes) where
   abbrev n : ℕ
   n = replyLine settings address r
@@ -163,17 +183,14 @@ module _ (settings address : ℕ) (r : Reading) (hs : settings ≤ 15) (ha : add
 
   bit-left : (i : ℕ) → 16 ≤ i → i ≤ 37 → bitAt bytes i ≡ bit n i
   bit-left i p q =
-      let large : 5 ≤ sizeFor r = size-large (isAbsent (r .temperature)) in
+      let inside = in-bytes i (sizeFor r) p q (size-large (isAbsent (r .temperature))) in
       ap (λ (s : List ℕ). bitAt s i) (left-first settings address r hs ha bytes left .1)
-      ∙ bits-written (sizeFor r) n i (size-small (isAbsent (r .temperature))) (omega arith) (omega (arith, large))
+      ∙ bits-written (sizeFor r) n i (size-small (isAbsent (r .temperature))) (inside .0) (inside .1)
 
   level-bit : (i : ℕ) → 1 ≤ i → i ≤ 22 → bitAt bytes (i + 15) ≡ bitIn 22 level i
   level-bit i p q =
-      let down : 37 - (i + 15) ≡ 22 - i = omega arith in
-      let one : i + 15 + 1 - (i + 15) ≡ 1 = omega arith in
-      bit-left (i + 15) (omega arith) (omega arith)
-      ∙ within n 16 37 (i + 15) (i + 15) (omega arith) (omega arith) (omega arith) (omega arith)
-      ∙ ap₂ (λ (x y : ℕ). field n 16 37 / 2 ^ x % 2 ^ y) down one
+      let inside = in-level i p q in
+      bit-left (i + 15) (inside .0) (inside .1) ∙ level-place n i p q
       ∙ ap (λ (x : ℕ). x / 2 ^ (22 - i) % 2) (sent settings address r ha .top .level)
 
   -- Bytes with these bits hold this level.
@@ -183,7 +200,7 @@ module _ (settings address : ℕ) (r : Reading) (hs : settings ≤ 15) (ha : add
       let k : ℕ = settings % 4 in
       let m : Mode = modeIn settings in
       let bits : field (line t) 16 37 ≡ level =
-      same-field n (line t) 16 37 (omega arith) (omega arith) (λ i p q. bit-line t ok i (omega arith) (omega arith) ∙ same i p q ∙ bit-left i p q)
+      level-field n (line t) (λ i p q. bit-line t ok i (in-line i p q .0) (in-line i p q .1) ∙ same i p q ∙ bit-left i p q)
       ∙ sent settings address r ha .top .level in
       level-known m (fit k) (line t) (r .level) (placed k .holds (line t) (digitsOf m (r .level)) (digits-fit m (fit k) (r .level)) bits .0) h
 
@@ -207,7 +224,7 @@ module _ (settings address : ℕ) (r s : Reading) (one next : List ℕ) (h : Nei
       go : ((i : ℕ) → 16 ≤ i → i ≤ 37 → bitAt between i ≡ bitAt one i) ⊎ ((i : ℕ) → 16 ≤ i → i ≤ 37 → bitAt between i ≡ bitAt next i)
           → (levelOf (modeIn settings) (line between) ≡ known (r .level)) ⊎ (levelOf (modeIn settings) (line between) ≡ known (s .level))
       go (inl a) =
-          let range : r .level ≤ modeIn settings .largest = omega (arith, h .above, h .level-in) in
+          let range = one-less (r .level) (s .level) (modeIn settings .largest) (h .above) (h .level-in) in
           inl (as-left settings address r (h .settings-in) (h .address-in) one (h .one-left) range between ok a)
       go (inr b) = inr (as-left settings address s (h .settings-in) (h .address-in) next (h .next-left) (h .level-in) between ok b)
 
