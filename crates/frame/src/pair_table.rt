@@ -1,6 +1,6 @@
 // The table of pairs as 64 words of eight entries, the first entry of a word lowest: for a first digit straight (words 0 to 31) or turned
 // (32 to 63), a first code (two words each) and a second code, the number of the pair or 0xff for a code in no chart. Made by
-// `tools/pair-table`. Compiled, a word and the shift that takes an entry out of it are one load of one byte.
+// `tools/pair-table`. Compiled, the words are constant data, and an entry is one load of a word and a shift.
 ghost use mathlib.Core.Path.{_≡_};
 ghost use Prim.Native.Nat.{_<_};
 ghost use Rattle.frame.specs.inside.PairWords.{wordOf};
