@@ -1,6 +1,7 @@
 /*
  * The core of a tank gauge recorder: polls and replies of the Mark/Space line (Model 1900 and Model 1800), the month sheet, the board
- * of last good readings, the listing of a sheet, the lines heard sample by sample, item records of the 854 gauge, and areas.
+ * of last good readings, the listing of a sheet, the lines heard sample by sample, the desk summary, item records of the 854 gauge,
+ * and areas.
  *
  * Link target/libsisalcove.a, which `./build-library` makes. This header wants C11 or C++11, and x86-64 with the System V calling
  * convention, which is all that the archive is compiled for. The archive keeps no state, allocates nothing, never fails otherwise than
@@ -15,8 +16,9 @@
  * Lent bytes and rows are a pointer and a length. A pointer is never null, also where the length is 0, and what it points to is not
  * written by anybody else while the call runs. Buffers lent to one call for writing overlap nothing else that is lent to it.
  *
- * Some answers have padding (struct sisal_poll, sisal_reply and sisal_item one byte, sisal_slot two, sisal_lines_told six, sisal_done
- * seven). It holds anything: compare answers field by field. Rows and what is handed back in have none.
+ * Some answers have padding (struct sisal_poll, sisal_reply and sisal_item one byte, sisal_slot two, sisal_made three, sisal_lines_told
+ * six, sisal_done and sisal_kept seven). It holds anything: compare answers field by field. Rows, summaries and what is heard of the
+ * lines so far have none.
  */
 #ifndef SISALCOVE_H
 #define SISALCOVE_H
@@ -83,6 +85,8 @@ enum sisal_number {
     SISAL_FAULT_TIMING = 20,        /* timing numbers: least above most, or one out of its range */
     SISAL_FAULT_SPOILED = 21,       /* a spoiled message on the lines; it comes with the samples taken */
     SISAL_FAULT_FOREIGN_SAMPLE = 22, /* a spoiled message in which a sample above 3 came; likewise */
+    SISAL_FAULT_COUNT = 24,         /* a count of a summary is above 1,000,000 */
+    SISAL_FAULT_PAIRS = 25,         /* a join has more than 30 pairs, or a side has records of pairs that it does not keep */
     SISAL_FAULT_FRAMING = 29,       /* an item record has under 10 bytes, or STX, B, Z or ETX is not in its place */
     SISAL_FAULT_BLOCK_CHECK = 30,   /* its block check is wrong */
     SISAL_FAULT_ADDRESSES = 31,     /* its CIU or transmission address is no plain number: wildcards too */
@@ -90,7 +94,8 @@ enum sisal_number {
     SISAL_FAULT_OUTPUT_SHORT = 33,  /* the output has too few bytes for it */
     SISAL_FAULT_SITE = 34,          /* a site has more than 120 transmitters */
     SISAL_FAULT_NO_PLAN = 35,       /* no plan of areas exists for it */
-    SISAL_FAULT_PLAN = 36           /* a plan of areas is not accepted */
+    SISAL_FAULT_PLAN = 36,          /* a plan of areas is not accepted */
+    SISAL_FAULT_SUMMARY = 37        /* a summary with over 30 lines, an unused line not blank, lines not rising, or levels that do not fit */
 };
 
 /* ---- settings: one mode, with the two bits added where they apply ---------------------------------------------------------------- */
@@ -382,6 +387,72 @@ SISAL_ANSWER uint8_t sisal_board_remove(struct sisal_row *rows, size_t row_count
 
 /* Looks a transmitter up. Refuses 11, 17, with all else 0. */
 SISAL_ANSWER struct sisal_standing sisal_board_look_up(const struct sisal_row *rows, size_t row_count, uint16_t address);
+
+/* ---- the desk summary ------------------------------------------------------------------------------------------------------------- */
+
+/*
+ * A line: the lowest and the highest level of one address and settings pair, and how many of its replies were good and how many faulty.
+ * SISAL_NO_LEVEL stands in both levels while no reply was good.
+ */
+struct sisal_line {
+    uint16_t address;
+    uint16_t settings;
+    uint16_t lowest; /* in the unit of the settings' mode */
+    uint16_t highest;
+    uint32_t good;
+    uint32_t faulty;
+};
+
+/*
+ * A summary: its first `count` lines are used, in rising order of address, then settings; the rest are all zeros. `others` counts the
+ * records of pairs that have no line. All zeros is the blank summary.
+ */
+struct sisal_summary {
+    uint32_t count;
+    uint32_t others;
+    struct sisal_line lines[30];
+};
+
+enum { SISAL_NO_LEVEL = 65535 };
+
+/* A summary that was made; beside a refusal it is blank. */
+struct sisal_made {
+    struct sisal_summary summary;
+    uint8_t number;
+};
+
+/* A save with its summary: the summary as it then is, and the stores made. */
+struct sisal_kept {
+    struct sisal_summary summary;
+    size_t count;
+    uint8_t number;
+};
+
+static_assert(sizeof(struct sisal_line) == 16, "struct sisal_line");
+static_assert(sizeof(struct sisal_summary) == 488, "struct sisal_summary");
+static_assert(sizeof(struct sisal_made) == 492, "struct sisal_made");
+static_assert(sizeof(struct sisal_kept) == 504, "struct sisal_kept");
+
+/*
+ * The summary worked out from the sheet's list: for a beginning, and after a power cut. The first 30 pairs that appear in the list are
+ * kept. Refuses 12, with a blank summary.
+ */
+SISAL_ANSWER struct sisal_made sisal_summary_of(const uint8_t *sheet, size_t sheet_bytes);
+
+/*
+ * Saves as sisal_save does, and brings the summary up to date where the record is closed, that is, where all its stores were made.
+ * Refuses 37 and 24, of the summary handed in, then 12, 10, 11, 14, 13; with count 0, no byte changed, and the summary handed in, so that
+ * `page = kept.summary` is always right.
+ */
+SISAL_ANSWER struct sisal_kept sisal_summary_save(uint8_t *sheet, size_t sheet_bytes, struct sisal_summary summary, uint8_t settings,
+                                                  uint32_t minute, uint16_t address, size_t count, const uint8_t *reply,
+                                                  size_t reply_bytes, size_t allowance);
+
+/*
+ * Puts two summaries together, pair by pair: lowest of lowest, highest of highest, sums of counts. A year is twelve joins that begin
+ * with a blank summary. Refuses 37 in either, 25, 24 in either or in the join; with a blank summary.
+ */
+SISAL_ANSWER struct sisal_made sisal_summary_join(struct sisal_summary a, struct sisal_summary b);
 
 /* ---- item records of the 854 gauge on a CIU -------------------------------------------------------------------------------------- */
 

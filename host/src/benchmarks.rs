@@ -7,7 +7,9 @@
 
 mod areas;
 mod items;
+mod joins;
 pub mod lines;
+mod summaries;
 
 use crate::calls::Core;
 use crate::generate::{self, ReplyCase, SaveCase};

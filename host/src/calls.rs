@@ -6,11 +6,15 @@
 
 mod areas;
 mod items;
+mod joins;
 mod lines;
+mod summaries;
 
 pub use areas::Areas;
 pub use items::Items;
+pub use joins::Joins;
 pub use lines::Lines;
+pub use summaries::Summaries;
 
 use crate::types::{Answer, Entry, Poll, Reading, Row, Slot, Standing, LINE, SLOT};
 

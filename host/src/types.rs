@@ -4,6 +4,7 @@
 pub mod areas;
 pub mod items;
 pub mod lines;
+pub mod summaries;
 
 use std::fmt;
 
@@ -62,6 +63,8 @@ pub enum Fault {
     Timing = 20,
     Spoiled = 21,
     ForeignSample = 22,
+    LargeCount = 24,
+    Unjoined = 25,
     Framing = 29,
     BlockCheck = 30,
     ItemAddress = 31,
@@ -70,6 +73,7 @@ pub enum Fault {
     LargeSite = 34,
     NoPlan = 35,
     PlanRefused = 36,
+    Summary = 37,
 }
 
 impl Fault {
@@ -100,6 +104,8 @@ impl Fault {
         Fault::Timing,
         Fault::Spoiled,
         Fault::ForeignSample,
+        Fault::LargeCount,
+        Fault::Unjoined,
         Fault::Framing,
         Fault::BlockCheck,
         Fault::ItemAddress,
@@ -108,6 +114,7 @@ impl Fault {
         Fault::LargeSite,
         Fault::NoPlan,
         Fault::PlanRefused,
+        Fault::Summary,
     ];
 
     /// The number the paper gives it.

@@ -4,7 +4,9 @@ mod damaged;
 
 use damaged::areas::{Fitter, Miswired};
 use damaged::items::{Clerk, Mistold};
+use damaged::joins::{Joiner, Misjoined};
 use damaged::lines::{Listener, Misheard};
+use damaged::summaries::{Desk, Miscounted};
 use damaged::Damage::{self, *};
 use damaged::Damaged;
 use sisalcove_host::compare::{self, checks, Check, Plan};
@@ -304,6 +306,91 @@ fn areas() {
             (PlanSumComesRoundAgain, &[SMALL]),
             (NineAreasAccepted, &[SITES]),
             (ReachesBeyondTheSite, &[SMALL, SITES]),
+        ],
+    }
+    .settle();
+}
+
+#[test]
+fn summaries() {
+    use Miscounted::*;
+    const SHEETS: &str = "summaries, worked out from sheets";
+    const HANDED: &str = "summaries, handed in with a save";
+    const HISTORIES: &str = "summaries, histories cut anywhere";
+    const MONTH: &str = "summaries, a month, right";
+    Account {
+        checks: compare::summaries::checks,
+        mirrored: compare::summaries::checks,
+        core: Desk,
+        found_by: &[
+            (SmallestPairsKept, &[SHEETS]),
+            (OthersByPairs, &[SHEETS, HANDED, HISTORIES]),
+            (OthersNotCounted, &[SHEETS, HANDED, HISTORIES]),
+            (OnlyGoodOthersCounted, &[SHEETS, HANDED, HISTORIES]),
+            (ThirtyFirstLine, &[SHEETS, HANDED, HISTORIES]),
+            (BrokenSaveCounted, &[HANDED, HISTORIES, MONTH]),
+            (NoStoresCounted, &[HANDED, HISTORIES, MONTH]),
+            (NewLineAtTheEnd, &[SHEETS, HANDED, HISTORIES]),
+            (LastLineLost, &[SHEETS, HANDED, HISTORIES]),
+            (SettingsNotInThePair, &[SHEETS, HANDED, HISTORIES, MONTH]),
+            (ZeroForNoLevel, &[SHEETS, HANDED, HISTORIES]),
+            (LowestNotLowered, &[SHEETS, HANDED, HISTORIES, MONTH]),
+            (HighestOfTheLast, &[SHEETS, HANDED, HISTORIES, MONTH]),
+            (FaultyCountedGood, &[SHEETS, HANDED, HISTORIES, MONTH]),
+            (FaultyChangesLevels, &[SHEETS, HANDED, HISTORIES, MONTH]),
+            (LargeCountBeforeForm, &[HANDED]),
+            (SheetBeforeForm, &[HANDED]),
+            (FullBeforeForm, &[HANDED]),
+            (OthersNotAsked, &[HANDED]),
+            (FaultyCountNotAsked, &[HANDED]),
+            (UnusedLinesNotAsked, &[HANDED]),
+            (EqualLinesTaken, &[HANDED]),
+            (OrderOfSettingsNotAsked, &[HANDED]),
+            (LevelsNotAsked, &[HANDED]),
+            (HighestNotAsked, &[HANDED]),
+            (MillionRefused, &[HANDED]),
+            (CrossedLevelsRefused, &[HANDED]),
+            (LargeAddressRefused, &[HANDED]),
+            (LineWithoutRepliesRefused, &[HANDED]),
+            (SavedThoughRefused, &[HANDED]),
+            (BlankBesideRefusal, &[HANDED]),
+            (FirstSlotsOnly, &[SHEETS]),
+            (SpoiledCounted, &[SHEETS]),
+            (BadSizeBlank, &[SHEETS]),
+            (OthersKeepPairsOut, &[HANDED]),
+        ],
+    }
+    .settle();
+}
+
+#[test]
+fn joins() {
+    use Misjoined::*;
+    const HANDED: &str = "joins, of pages handed in";
+    const GROUPED: &str = "joins, groupings";
+    const LISTS: &str = "joins, lists end to end";
+    Account {
+        checks: compare::joins::checks,
+        mirrored: compare::joins::checks,
+        core: Joiner,
+        found_by: &[
+            (SecondsLevelsTaken, &[HANDED, GROUPED, LISTS]),
+            (LargerCountTaken, &[HANDED, GROUPED, LISTS]),
+            (FirstFormAlone, &[HANDED]),
+            (FormAskedLast, &[HANDED]),
+            (SumsStopAtMillion, &[HANDED, GROUPED]),
+            (SumsComeRoundAgain, &[HANDED]),
+            (ThirtyFirstPairIsAnother, &[HANDED, GROUPED, LISTS]),
+            (LinesPutAtTheEnd, &[HANDED, GROUPED, LISTS]),
+            (LargeCountBeforeUnjoined, &[HANDED, GROUPED]),
+            (OthersAddedUp, &[HANDED, LISTS]),
+            (OthersOfSecondNotAsked, &[HANDED, LISTS]),
+            (NoLevelIsHighest, &[HANDED, GROUPED, LISTS]),
+            (NoLevelIsZero, &[HANDED, GROUPED, LISTS]),
+            (LastLineLeftOut, &[HANDED, GROUPED, LISTS]),
+            (MillionRefused, &[HANDED, GROUPED]),
+            (FaultySumNotAsked, &[HANDED, GROUPED]),
+            (TwentyNinePairsAtMost, &[HANDED, GROUPED, LISTS]),
         ],
     }
     .settle();

@@ -22,3 +22,4 @@ pub mod Fronts
 pub mod Counted
 pub mod Sums
 pub mod ToldBack
+pub mod Rising

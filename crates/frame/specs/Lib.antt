@@ -5,6 +5,7 @@ pub mod Charts
 pub mod Level
 pub mod Temperature
 pub mod Faults
+pub mod Rising
 pub mod Poll
 pub mod Reply
 pub mod Kinds

@@ -15,3 +15,5 @@ pub mod lines
 pub mod enraf
 -- Areas.
 pub mod areas
+-- The desk summary.
+pub mod summary

@@ -39,6 +39,8 @@ fn main() -> ExitCode {
     });
     benchmarks.items(|timing| println!("{timing}"));
     benchmarks.areas(|timing| println!("{timing}"));
+    benchmarks.summaries(|timing| println!("{timing}"));
+    benchmarks.joins(|timing| println!("{timing}"));
     ExitCode::SUCCESS
 }
 

@@ -28,6 +28,8 @@ fn main() -> ExitCode {
         run(compare::lines::checks(), left, right, &plan, &only),
         run(compare::items::checks(), left, right, &plan, &only),
         run(compare::areas::checks(), left, right, &plan, &only),
+        run(compare::summaries::checks(), left, right, &plan, &only),
+        run(compare::joins::checks(), left, right, &plan, &only),
     ];
     let passed: usize = verdicts.iter().map(|(passed, _)| passed).sum();
     let failed: usize = verdicts.iter().map(|(_, failed)| failed).sum();

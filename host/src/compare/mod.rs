@@ -10,8 +10,10 @@ pub mod boards;
 pub mod cuts;
 pub mod frames;
 pub mod items;
+pub mod joins;
 pub mod lines;
 pub mod sheets;
+pub mod summaries;
 
 use crate::calls::Core;
 use crate::random::SEED;
@@ -50,6 +52,14 @@ pub struct Plan {
     pub items: usize,
     /// Sites to be planned, with plans of a fitter for each.
     pub sites: usize,
+    /// Sheets of which a summary is worked out.
+    pub summarised: usize,
+    /// Summaries handed in with a save.
+    pub handed_in: usize,
+    /// Histories of saves that keep a summary.
+    pub summary_histories: usize,
+    /// Summaries to be joined, two or three at a time.
+    pub joins: usize,
 }
 
 impl Plan {
@@ -69,6 +79,10 @@ impl Plan {
             changed_items: 400,
             items: 1_000_000,
             sites: 10_000,
+            summarised: 20_000,
+            handed_in: 300_000,
+            summary_histories: 800,
+            joins: 15_000,
         }
     }
 
@@ -88,6 +102,10 @@ impl Plan {
             changed_items: 40,
             items: 100_000,
             sites: 4_000,
+            summarised: 1_000,
+            handed_in: 20_000,
+            summary_histories: 100,
+            joins: 10_000,
         }
     }
 }

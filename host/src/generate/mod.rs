@@ -3,18 +3,22 @@
 mod areas;
 mod boards;
 mod items;
+mod joins;
 mod lines;
 mod replies;
 mod sheets;
+mod summaries;
 
 pub use areas::{fitters_plan, site};
 pub use boards::{board_call, rows, BoardCall};
 pub use items::{framed, item, item_asked, mend, record, AskedCase};
+pub use joins::{joinable, shares};
 pub use lines::{bad_times, batches, drawn, pulse_times, samples, so_far, Drawn, Saying};
 pub use replies::{damage, damaged_reply, good_reply, reading, with_parity, ReplyCase};
 pub use sheets::{
     allowance, hostile_sheet, hostile_slot, month, record_bytes, save_case, SaveCase,
 };
+pub use summaries::{handed_in, pair_save, pairs, summarised_sheet, summary};
 
 use crate::random::Random;
 use crate::types::LARGEST_ADDRESS;

@@ -7,7 +7,9 @@
 mod areas;
 mod ffi;
 mod items;
+mod joins;
 mod lines;
+mod summaries;
 #[cfg(test)]
 mod tests;
 

@@ -13,10 +13,12 @@ pub mod board;
 mod charts;
 pub mod frame;
 pub mod items;
+pub mod joins;
 pub mod lines;
 pub mod listing;
 mod modes;
 pub mod sheet;
+pub mod summaries;
 mod word;
 
 use crate::calls::Core;

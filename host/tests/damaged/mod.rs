@@ -2,7 +2,9 @@
 
 pub mod areas;
 pub mod items;
+pub mod joins;
 pub mod lines;
+pub mod summaries;
 
 use sisalcove_host::reading::{board, IndependentReading};
 use sisalcove_host::types::{BLANK, SLOT};

@@ -1,0 +1,21 @@
+-- The desk summary whole: each promise is proved in its own file. Assumes nothing.
+use Rattle.promises.specs.summary.DeskSummary.{DeskSummary}
+use Rattle.promises.proofs.summary.AtAnyMoment.{at-any-moment}
+use Rattle.promises.proofs.summary.OwnFigures.{own-figures}
+use Rattle.promises.proofs.summary.InOrder.{in-order}
+use Rattle.promises.proofs.summary.DemandThreeStands.{demand-three-stands}
+use Rattle.promises.proofs.summary.FirstFault.{summary-fault}
+use Rattle.promises.proofs.summary.OneOutcome.{summary-outcome}
+use Rattle.promises.proofs.summary.Afresh.{afresh-made}
+
+pub desk-summary : DeskSummary
+desk-summary =
+    record {
+      at-any-moment = at-any-moment;
+      own-figures = own-figures;
+      in-order = in-order;
+      demand-three-stands = demand-three-stands;
+      first-fault = summary-fault;
+      one-outcome = summary-outcome;
+      afresh = afresh-made;
+    }

@@ -1,0 +1,11 @@
+-- The desk summary; `DeskSummary` is all of its promises.
+pub mod Chain
+pub mod AtAnyMoment
+pub mod OwnFigures
+pub mod InOrder
+pub mod DemandThreeStands
+pub mod FirstFault
+pub mod OneOutcome
+pub mod Afresh
+pub mod DeskSummary
+pub mod Join

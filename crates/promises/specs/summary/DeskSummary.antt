@@ -1,0 +1,17 @@
+-- The desk summary whole: each promise, by the name that it has in its own file.
+use Rattle.promises.specs.summary.AtAnyMoment.{AtAnyMoment}
+use Rattle.promises.specs.summary.OwnFigures.{OwnFigures}
+use Rattle.promises.specs.summary.InOrder.{InOrder}
+use Rattle.promises.specs.summary.DemandThreeStands.{DemandThreeStands}
+use Rattle.promises.specs.summary.FirstFault.{SummaryFault}
+use Rattle.promises.specs.summary.OneOutcome.{SummaryOutcome}
+use Rattle.promises.specs.summary.Afresh.{Afresh}
+
+pub record DeskSummary : Type 0 where
+  pub at-any-moment : AtAnyMoment
+  pub own-figures : OwnFigures
+  pub in-order : InOrder
+  pub demand-three-stands : DemandThreeStands
+  pub first-fault : SummaryFault
+  pub one-outcome : SummaryOutcome
+  pub afresh : Afresh

@@ -1,0 +1,110 @@
+-- What a look at a slot tells is the record that the slot holds, or none; and the list, one slot more. Assumes nothing.
+use mathlib.Core.Path.{_≡_, refl, sym, ap, _∙_}
+use mathlib.Core.Bool.{Bool, true, false, _&&_}
+use mathlib.Core.List.{List, [], _∷_, _++_}
+use Prim.Native.Nat.{ℕ, zero, suc, _+_, _-_, _%_, _<_, _≤_}
+use native.Mathlib.Numerals.{add-one}
+use native.Mathlib.Omega.{arith}
+use borrow.Author.Tests.{leb-true}
+use lib.Dec.{eqb, leb}
+use lib.ListN.{length, getD, take, replicate, length-append}
+use lib.Seq.{take-at}
+use Rattle.frame.specs.Pick.{pick}
+use Rattle.frame.specs.Line.{bytesFor}
+use Rattle.sheet.specs.declared.Found.{Found}
+use Rattle.sheet.specs.declared.Found.the-variants.{Blank, Spoiled, Foreign, Record, Refused}
+use Rattle.sheet.specs.declared.Head.{Head}
+use Rattle.sheet.specs.declared.Looked.{Looked}
+use Rattle.sheet.specs.declared.view.Counted.{Counted}
+use Rattle.sheet.specs.declared.view.Counted.the-variants as counted
+use Rattle.sheet.specs.Bytes.{FF, allBlank}
+use Rattle.sheet.specs.Record.{Entry, isRecord, fieldsOf}
+use Rattle.sheet.specs.Slots.{Slot, blank, spoiled, foreign, holds, sizeAllowed, slots, slotAt, slotOf, recordIn, listUpTo}
+use Rattle.sheet.specs.Look.{Looks, told, headOf, entryWith, recordTold}
+use Rattle.sheet.specs.View.{Counts, countOf}
+use Rattle.sheet.proofs.Records.{record-passes, passes-formed, formed-few}
+use Rattle.sheet.proofs.SlotParts.{look-within}
+
+abbrev bitsTold : Found → ℕ
+bitsTold Blank = 0
+bitsTold Spoiled = 0
+bitsTold Foreign = 0
+bitsTold (Record h) = h .count
+bitsTold (Refused n) = 0
+
+record Tells (t : Slot) (looked : Looked) : Type 0 where
+  records : recordTold (looked .found) (looked .reply) ≡ recordIn t
+  bits : bitsTold (looked .found) ≤ 64
+
+in-form : (x : List ℕ) → isRecord x ≡ true → Tells (holds (fieldsOf x)) (told (holds (fieldsOf x)))
+in-form x is =
+    let y = fieldsOf x in
+    let few = formed-few (y .count) (y .reply) (passes-formed y (record-passes x is)) in
+    let reply : take (bytesFor (y .count)) (y .reply ++ replicate (8 - length (y .reply)) 0) ≡ y .reply =
+    take-at (y .reply) (replicate (8 - length (y .reply)) 0) (bytesFor (y .count)) (few .1) in
+    record { records = ap (λ (r : List ℕ). entryWith (headOf y) r ∷ []) reply; bits = few .0 }
+
+tells : (x : List ℕ) → Tells (slotOf x) (told (slotOf x))
+unfolding slotOf
+tells x = go (allBlank x) (eqb (getD x 0 0) FF) (isRecord x) refl
+  where
+    go : (a f r : Bool) → isRecord x ≡ r → let t : Slot = pick a blank (pick f spoiled (pick r (holds (fieldsOf x)) foreign)) in Tells t (told t)
+    go true f r e = record { records = refl; bits = omega arith }
+    go false true r e = record { records = refl; bits = omega arith }
+    go false false true e = in-form x e
+    go false false false e = record { records = refl; bits = omega arith }
+
+module _ (s : List ℕ) (k : ℕ) (looked : Looked) (size : sizeAllowed s ≡ true) (near : k < slots s) (looks : Looks s k looked) where
+  seen : Tells (slotOf (slotAt s k)) looked
+  seen = rw (looks .answers, look-within s k size near) (tells (slotAt s k))
+
+  pub seen-bits : (h : Head) → looked .found ≡ Record h → h .count ≤ 64
+  seen-bits h e = rw (ap bitsTold e) at (seen .bits)
+
+  -- the list, one slot more, by what was found
+  pub list-more : (f : Found) → looked .found ≡ f → listUpTo s (k + 1) ≡ listUpTo s k ++ recordTold f (looked .reply)
+  list-more f e = one-more ∙ ap (λ (r : List Entry). listUpTo s k ++ r) (sym (seen .records) ∙ ap (λ (g : Found). recordTold g (looked .reply)) e)
+    where
+      one-more : listUpTo s (k + 1) ≡ listUpTo s k ++ recordIn (slotOf (slotAt s k))
+      one-more = unfold listUpTo in ap (listUpTo s) (add-one k)
+
+-- a slot holds one record or none
+one-or-none : (t : Slot) → length (recordIn t) ≤ 1
+one-or-none blank = omega arith
+one-or-none spoiled = omega arith
+one-or-none foreign = omega arith
+one-or-none (holds e) = omega arith
+
+pub few-records : (s : List ℕ) (k : ℕ) → length (listUpTo s k) ≤ k
+unfolding listUpTo
+few-records s zero = omega arith
+few-records s (suc k) = simp length-append (omega (arith, few-records s k, one-or-none (slotOf (slotAt s k))))
+
+-- an allowed sheet has at most 2,048 slots
+pub few-slots : (s : List ℕ) → sizeAllowed s ≡ true → slots s ≤ 2048
+few-slots s h = go (eqb (length s % 32) 0) (leb (length s) 65536) refl h
+  where
+    go : (a b : Bool) → leb (length s) 65536 ≡ b → (a && b) ≡ true → slots s ≤ 2048
+    go true true e q = omega (arith, leb-true (length s) 65536 e)
+    go true false e q = let z : _≡_ {A = ℕ} 0 1 = cc in absurd (omega arith)
+    go false b e q = let z : _≡_ {A = ℕ} 0 1 = cc in absurd (omega arith)
+
+-- what a count of the slots tells of the size
+by-size : (s : List ℕ) (a : Bool) → sizeAllowed s ≡ a → countOf s ≡ pick a (counted.Slots (slots s)) (counted.Refused 12)
+unfolding countOf
+by-size s a e = simp e
+
+module _ (s : List ℕ) (answer : Counted) (n : ℕ) (counts : Counts s answer) where
+  pub told-slots : answer ≡ counted.Slots n → sizeAllowed s ≡ true
+  told-slots e = go (sizeAllowed s) refl
+    where
+      go : (a : Bool) → sizeAllowed s ≡ a → sizeAllowed s ≡ true
+      go true q = q
+      go false q = let told = sym e ∙ counts .answers ∙ by-size s false q in let z : _≡_ {A = ℕ} 0 1 = cc in absurd (omega arith)
+
+  pub told-refused : answer ≡ counted.Refused n → (sizeAllowed s ≡ false) × (n ≡ 12)
+  told-refused e = go (sizeAllowed s) refl
+    where
+      go : (a : Bool) → sizeAllowed s ≡ a → (sizeAllowed s ≡ false) × (n ≡ 12)
+      go true q = let told = sym e ∙ counts .answers ∙ by-size s true q in let z : _≡_ {A = ℕ} 0 1 = cc in absurd (omega arith)
+      go false q = let told = sym e ∙ counts .answers ∙ by-size s false q in (q, cc)
