@@ -9,6 +9,7 @@ mod areas;
 mod items;
 mod joins;
 pub mod lines;
+mod rounds;
 mod summaries;
 
 use crate::calls::Core;

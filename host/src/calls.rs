@@ -8,12 +8,14 @@ mod areas;
 mod items;
 mod joins;
 mod lines;
+mod rounds;
 mod summaries;
 
 pub use areas::Areas;
 pub use items::Items;
 pub use joins::Joins;
 pub use lines::Lines;
+pub use rounds::Rounds;
 pub use summaries::Summaries;
 
 use crate::types::{Answer, Entry, Poll, Reading, Row, Slot, Standing, LINE, SLOT};

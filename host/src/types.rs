@@ -4,6 +4,7 @@
 pub mod areas;
 pub mod items;
 pub mod lines;
+pub mod rounds;
 pub mod summaries;
 
 use std::fmt;
@@ -63,6 +64,7 @@ pub enum Fault {
     Timing = 20,
     Spoiled = 21,
     ForeignSample = 22,
+    LargeRound = 23,
     LargeCount = 24,
     Unjoined = 25,
     Framing = 29,
@@ -104,6 +106,7 @@ impl Fault {
         Fault::Timing,
         Fault::Spoiled,
         Fault::ForeignSample,
+        Fault::LargeRound,
         Fault::LargeCount,
         Fault::Unjoined,
         Fault::Framing,

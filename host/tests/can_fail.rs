@@ -6,6 +6,7 @@ use damaged::areas::{Fitter, Miswired};
 use damaged::items::{Clerk, Mistold};
 use damaged::joins::{Joiner, Misjoined};
 use damaged::lines::{Listener, Misheard};
+use damaged::rounds::{Misrounded, Rounder};
 use damaged::summaries::{Desk, Miscounted};
 use damaged::Damage::{self, *};
 use damaged::Damaged;
@@ -391,6 +392,45 @@ fn joins() {
             (MillionRefused, &[HANDED, GROUPED]),
             (FaultySumNotAsked, &[HANDED, GROUPED]),
             (TwentyNinePairsAtMost, &[HANDED, GROUPED, LISTS]),
+        ],
+    }
+    .settle();
+}
+
+#[test]
+fn rounds() {
+    use Misrounded::*;
+    const KINDS: &str = "rounds, of every kind";
+    const CUT: &str = "rounds, cut after every store";
+    const MONTH: &str = "rounds, a month cut everywhere, right";
+    Account {
+        checks: compare::rounds::checks,
+        mirrored: compare::rounds::checks,
+        core: Rounder,
+        found_by: &[
+            (RefusedReplySkipped, &[KINDS, CUT]),
+            (WholeAllowanceForEach, &[KINDS, CUT, MONTH]),
+            (AskedWithNothingLeft, &[KINDS, CUT]),
+            (BrokenCountedClosed, &[KINDS, CUT, MONTH]),
+            (StoresOfClosedOnly, &[KINDS, CUT, MONTH]),
+            (FirstThirtySaved, &[KINDS, CUT]),
+            (SheetBeforeNumber, &[KINDS, CUT]),
+            (EmptyRoundAsksSheet, &[KINDS, CUT]),
+            (RefusalForgotten, &[KINDS, CUT]),
+            (NothingBesideRefusal, &[KINDS, CUT]),
+            (BytesNotAsked, &[KINDS, CUT]),
+            (BytesCutToOne, &[KINDS]),
+            (CountCutToOne, &[KINDS]),
+            (UnusedRead, &[KINDS, CUT]),
+            (ThirtyRefused, &[KINDS, MONTH]),
+            (StopsAtFaultyReply, &[KINDS, CUT, MONTH]),
+            (LastReplyLeftOut, &[KINDS, MONTH]),
+            (OneStoreTooMany, &[KINDS, CUT, MONTH]),
+            (PageNotBroughtUpToDate, &[KINDS, CUT, MONTH]),
+            (PageAskedForEmptyRound, &[KINDS, CUT]),
+            (PageAskedOnce, &[KINDS]),
+            (PageBlankBesideRefusal, &[KINDS, CUT]),
+            (PageCountsBroken, &[KINDS, CUT, MONTH]),
         ],
     }
     .settle();

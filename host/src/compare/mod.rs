@@ -12,6 +12,7 @@ pub mod frames;
 pub mod items;
 pub mod joins;
 pub mod lines;
+pub mod rounds;
 pub mod sheets;
 pub mod summaries;
 
@@ -60,6 +61,9 @@ pub struct Plan {
     pub summary_histories: usize,
     /// Summaries to be joined, two or three at a time.
     pub joins: usize,
+    /// Rounds of any kind, and as many that are cut after every store.
+    pub rounds: usize,
+    pub cut_rounds: usize,
 }
 
 impl Plan {
@@ -83,6 +87,8 @@ impl Plan {
             handed_in: 300_000,
             summary_histories: 800,
             joins: 15_000,
+            rounds: 100_000,
+            cut_rounds: 10_000,
         }
     }
 
@@ -106,6 +112,8 @@ impl Plan {
             handed_in: 20_000,
             summary_histories: 100,
             joins: 10_000,
+            rounds: 10_000,
+            cut_rounds: 2_000,
         }
     }
 }

@@ -6,6 +6,7 @@ mod items;
 mod joins;
 mod lines;
 mod replies;
+mod rounds;
 mod sheets;
 mod summaries;
 
@@ -15,6 +16,7 @@ pub use items::{framed, item, item_asked, mend, record, AskedCase};
 pub use joins::{joinable, shares};
 pub use lines::{bad_times, batches, drawn, pulse_times, samples, so_far, Drawn, Saying};
 pub use replies::{damage, damaged_reply, good_reply, reading, with_parity, ReplyCase};
+pub use rounds::{polled, round, round_of};
 pub use sheets::{
     allowance, hostile_sheet, hostile_slot, month, record_bytes, save_case, SaveCase,
 };

@@ -17,6 +17,7 @@ pub mod joins;
 pub mod lines;
 pub mod listing;
 mod modes;
+pub mod rounds;
 pub mod sheet;
 pub mod summaries;
 mod word;

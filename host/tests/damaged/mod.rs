@@ -4,6 +4,7 @@ pub mod areas;
 pub mod items;
 pub mod joins;
 pub mod lines;
+pub mod rounds;
 pub mod summaries;
 
 use sisalcove_host::reading::{board, IndependentReading};
