@@ -294,3 +294,37 @@ fn lists<'a, C: Core>(core: &'a C, sheet: &'a [u8]) -> impl FnMut() + 'a {
         black_box(&text);
     }
 }
+
+#[cfg(test)]
+mod tests {
+    use super::*;
+    use crate::reading::IndependentReading;
+    use std::time::Duration;
+
+    /// Each case of document 02's requests runs, with one side on both.
+    #[test]
+    fn every_case_of_the_requests_is_timed() {
+        let benchmarks = Benchmarks {
+            left: &IndependentReading,
+            right: &IndependentReading,
+            watch: Stopwatch {
+                rounds: 1,
+                least: Duration::ZERO,
+            },
+            seed: 0,
+            only: String::new(),
+        };
+        let mut names = Vec::new();
+        let mut tell = |timing: &Timing| {
+            assert!(timing.left > 0.0 && timing.right > 0.0, "{timing}");
+            names.push(timing.name.clone());
+        };
+        benchmarks.lines(&mut tell);
+        benchmarks.items(&mut tell);
+        benchmarks.areas(&mut tell);
+        benchmarks.summaries(&mut tell);
+        benchmarks.joins(&mut tell);
+        benchmarks.rounds(&mut tell);
+        assert_eq!(names.len(), 15, "{names:#?}");
+    }
+}

@@ -69,31 +69,3 @@ fn hears<'a, C: Lines>(core: &'a C, samples: &'a [u8]) -> impl FnMut() + 'a {
         }
     }
 }
-
-#[cfg(test)]
-mod tests {
-    use super::*;
-    use crate::reading::IndependentReading;
-    use crate::stopwatch::Stopwatch;
-    use std::time::Duration;
-
-    #[test]
-    fn every_case_is_timed() {
-        let benchmarks = Benchmarks {
-            left: &IndependentReading,
-            right: &IndependentReading,
-            watch: Stopwatch {
-                rounds: 1,
-                least: Duration::ZERO,
-            },
-            seed: 0,
-            only: String::new(),
-        };
-        let mut told = 0;
-        benchmarks.lines(|timing| {
-            told += 1;
-            assert!(timing.left > 0.0 && millions(timing).0 > 0.0, "{timing}");
-        });
-        assert_eq!(told, 4);
-    }
-}
