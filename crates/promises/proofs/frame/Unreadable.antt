@@ -1,27 +1,27 @@
 -- The place that fault 7 names. Of any row it goes by induction on the row, with the test of the first digit's chart taken apart; a reply is then
--- opened at its number, and the first digit of each mode is computed to have every code.
+-- opened at its number. Which charts have every code is computed, mode by mode, and so is a line for each place that remains.
 use mathlib.Core.Path.{_≡_, refl, sym, _∙_, ap, subst}
 use mathlib.Core.Bool.{Bool, true, false, not, _&&_, _||_}
 use mathlib.Core.List.{List, [], _∷_}
 use Prim.Native.Nat.{ℕ, zero, suc, _+_, _*_, _/_, _%_, _^_, _<_, _≤_}
 use native.Mathlib.Omega.{arith}
 use native.Mathlib.Nat.{mod-lt}
-use lib.Dec.{T, eqb, ltb, ltb→lt}
+use lib.Dec.{T, eqb, leb, ltb, ltb→lt}
 use lib.ListN.{length, getD}
 use lib.Pow.{pow-pos}
-use borrow.Author.Tests.{eqb-true, eqb-false, ltb-true, ltb-false, lt-ltb}
+use borrow.Author.Tests.{eqb-true, eqb-false, leb-true, ltb-true, ltb-false, lt-ltb}
 use Rattle.frame.specs.declared.Reply.{Reply}
 use Rattle.frame.specs.declared.Reply.the-variants.{Read, Refused, Unreadable}
 use Rattle.frame.specs.declared.Reading.{Reading}
 use Rattle.frame.specs.Pick.{pick}
-use Rattle.frame.specs.Charts.{Chart, sizeOf, isOdd, turned, placeIn, oneBit, twoBits, feetTens}
+use Rattle.frame.specs.Charts.{Chart, sizeOf, isOdd, turned, placeIn, oneBit, twoBits, feetTens, decimal, inches, sixteenths}
 use Rattle.frame.specs.Faults.{Test, firstOf}
 use Rattle.frame.specs.Level.{Level, Mode, known, lost, noChart, placeLost, widthOf, readRow, levelOf, lastBit, modeOf, fractionalMode, decimalMode, twentyMetreMode, thirtyMetreMode}
-use Rattle.frame.specs.Line.{line, field}
+use Rattle.frame.specs.Line.{line, field, put}
 use Rattle.frame.specs.Reply.{ReadsReply, modeIn, readingAt, replyTests, replyFault, refusedBy, replyOf, replyNumber}
-use Rattle.frame.proofs.EachMode.{every-mode}
 use Rattle.frame.proofs.Tables.{allBelow, at-below}
-use Rattle.promises.specs.frame.Unreadable.{InChart, chartAt, codeAt, FirstUnreadable, Named, NamesPlace, UnreadableDigit}
+use Rattle.promises.specs.frame.Unreadable.{InChart, chartAt, codeAt, FirstUnreadable, Named, NamesPlace, EveryCode, lastNamed, CanBeNamed, UnreadableDigit}
+use Rattle.promises.proofs.Cases.{both}
 use Rattle.promises.proofs.frame.Rows.{at-place}
 
 -- A code is in its chart exactly where its place is below the chart's size.
@@ -175,33 +175,118 @@ module _ (settings address count : ℕ) (reply : List ℕ) where
   unfolding replyOf
   others-not n r s = others-by (eqb fault 0) (eqb fault 7) refl refl n (r .answers) s
 
--- The first chart of each mode has every code of its width.
-abbrev full : Chart → ℕ → Bool
-full c code = ltb (placeIn code (c .codes)) (sizeOf c)
-
-abbrev FullTop : Mode → Type 0
-FullTop m = T (allBelow (full (chartAt (m .row) 0)) (2 ^ (chartAt (m .row) 0 .width)))
-
-full-top : (k : ℕ) → FullTop (modeOf k)
-unfolding fractionalMode decimalMode twentyMetreMode thirtyMetreMode chartAt placeIn oneBit twoBits feetTens
-full-top = every-mode FullTop tt tt tt tt
-
-top-lt : (row : List Chart) (bits : ℕ) → 0 < length row → codeAt row bits 0 < 2 ^ (chartAt row 0 .width)
+-- A digit's code has its chart's width, so a chart with every code of it has this one too.
+code-lt : (row : List Chart) (bits k : ℕ) → k < length row → codeAt row bits k < 2 ^ (chartAt row k .width)
 unfolding codeAt chartAt
-top-lt [] bits some = absurd (omega arith)
-top-lt (c ∷ cs) bits some = mod-lt _ (pow-pos (c .width))
+code-lt [] bits k l = absurd (omega arith)
+code-lt (c ∷ cs) bits zero l = mod-lt _ (pow-pos (c .width))
+code-lt (c ∷ cs) bits (suc k) l = code-lt cs bits k (omega arith)
 
-not-first : (m : Mode) → FullTop m → (bits p : ℕ) → Named (m .row) bits 0 p → (1 ≤ p) × (p < length (m .row))
-not-first m top bits p n = (go (n .digit) refl, omega (arith, n .place, n .first .within))
+never-every : (row : List Chart) (bits k : ℕ) → EveryCode (chartAt row k) → FirstUnreadable row bits k → ⊥
+never-every row bits k every f = f .none (every (codeAt row bits k) (code-lt row bits k (f .within)))
+
+never-named : (row : List Chart) (bits : ℕ) (odd : Bool) (sofar at k : ℕ) → EveryCode (chartAt row k) → readRow row bits odd sofar at ≡ lost (at + k) → ⊥
+never-named row bits odd sofar at k every e =
+    let n : Named row bits at (at + k) = only-lost row bits odd sofar at (at + k) e in
+    let same : n .digit ≡ k = omega (arith, n .place) in
+    never-every row bits k every (subst (FirstUnreadable row bits) same (n .first))
+
+-- Whether a chart has every code is computed.
+abbrev has : Chart → ℕ → Bool
+has c code = ltb (placeIn code (c .codes)) (sizeOf c)
+
+abbrev hasEvery : Chart → Bool
+hasEvery c = allBelow (has c) (2 ^ (c .width))
+
+every-by : (c : Chart) → T (hasEvery c) → EveryCode c
+every-by c t code l =
+    in-by c code (lt-ltb (placeIn code (c .codes)) (sizeOf c) (ltb→lt (placeIn code (c .codes)) (sizeOf c) (at-below (has c) (2 ^ (c .width)) t code l)))
+
+-- Each digit of a mode stands from place 1 to the last that is named, or its chart has every code.
+abbrev between : ℕ → ℕ → Bool
+between last k = leb 1 k && leb k last
+
+abbrev mayBe : Mode → ℕ → ℕ → Bool
+mayBe m last k = between last k || hasEvery (chartAt (m .row) k)
+
+abbrev Placed : Mode → ℕ → Type 0
+Placed m last = T (allBelow (mayBe m last) (length (m .row)))
+
+possible-in : (m : Mode) (last : ℕ) → Placed m last → (bits p : ℕ) → Named (m .row) bits 0 p → (1 ≤ p) × (p ≤ last)
+possible-in m last placed bits p n =
+    go (between last (n .digit)) refl (at-below (mayBe m last) (length (m .row)) placed (n .digit) (n .first .within))
   where
-    go : (k : ℕ) → n .digit ≡ k → 1 ≤ p
-    go (suc k) e = omega (arith, n .place)
-    go zero e =
-        let code : ℕ = codeAt (m .row) bits 0 in
-        let f : FirstUnreadable (m .row) bits 0 = subst (FirstUnreadable (m .row) bits) e (n .first) in
-        let c : Chart = chartAt (m .row) 0 in
-        let l = ltb→lt (placeIn code (c .codes)) (sizeOf c) (at-below (full c) (2 ^ (c .width)) top code (top-lt (m .row) bits (omega (arith, f .within)))) in
-        absurd (f .none (in-by c code (lt-ltb (placeIn code (c .codes)) (sizeOf c) l)))
+    go : (t : Bool) → between last (n .digit) ≡ t → T (t || hasEvery (chartAt (m .row) (n .digit))) → (1 ≤ p) × (p ≤ last)
+    go true e h =
+        let b = both (leb 1 (n .digit)) (leb (n .digit) last) e in
+        (omega (arith, n .place, leb-true 1 (n .digit) (b .0)), omega (arith, n .place, leb-true (n .digit) last (b .1)))
+    go false e h = absurd (never-every (m .row) bits (n .digit) (every-by (chartAt (m .row) (n .digit)) h) (n .first))
+
+-- What holds of each mode and its last place.
+each-mode : (P : Mode → ℕ → Type 0) → P fractionalMode 2 → P decimalMode 3 → P twentyMetreMode 4 → P thirtyMetreMode 4 → (k : ℕ) → P (modeOf k) (lastNamed k)
+unfolding modeOf
+each-mode P a b c d k = by (eqb k 0) (eqb k 1) (eqb k 2)
+  where
+    by : (r s t : Bool) → P (pick r fractionalMode (pick s decimalMode (pick t twentyMetreMode thirtyMetreMode))) (pick r 2 (pick s 3 4))
+    by true s t = a
+    by false true t = b
+    by false false true = c
+    by false false false = d
+
+all-placed : (k : ℕ) → Placed (modeOf k) (lastNamed k)
+unfolding fractionalMode decimalMode twentyMetreMode thirtyMetreMode chartAt placeIn oneBit twoBits feetTens decimal inches sixteenths
+all-placed = each-mode Placed tt tt tt tt
+
+-- The code 1010 is neither a decimal digit nor inches: with zeros above it, its digit is the one named.
+abbrev Occurs : Mode → ℕ → Type 0
+Occurs m last = (p : ℕ) → 1 ≤ p → p ≤ last → CanBeNamed m p
+
+occurs-0 : Occurs fractionalMode 2
+unfolding fractionalMode readRow placeIn turned widthOf feetTens decimal inches sixteenths
+occurs-0 zero a b = absurd (omega arith)
+occurs-0 (suc zero) a b = record { bits = put (0b1010 * 2 ^ 8) 31; named = refl }
+occurs-0 (suc (suc zero)) a b = record { bits = put (0b1010 * 2 ^ 4) 31; named = refl }
+occurs-0 (suc (suc (suc p))) a b = absurd (omega arith)
+
+occurs-1 : Occurs decimalMode 3
+unfolding decimalMode readRow placeIn turned widthOf feetTens decimal
+occurs-1 zero a b = absurd (omega arith)
+occurs-1 (suc zero) a b = record { bits = put (0b1010 * 2 ^ 8) 31; named = refl }
+occurs-1 (suc (suc zero)) a b = record { bits = put (0b1010 * 2 ^ 4) 31; named = refl }
+occurs-1 (suc (suc (suc zero))) a b = record { bits = put 0b1010 31; named = refl }
+occurs-1 (suc (suc (suc (suc p)))) a b = absurd (omega arith)
+
+occurs-2 : Occurs twentyMetreMode 4
+unfolding twentyMetreMode readRow placeIn turned widthOf oneBit decimal
+occurs-2 zero a b = absurd (omega arith)
+occurs-2 (suc zero) a b = record { bits = put (0b1010 * 2 ^ 12) 32; named = refl }
+occurs-2 (suc (suc zero)) a b = record { bits = put (0b1010 * 2 ^ 8) 32; named = refl }
+occurs-2 (suc (suc (suc zero))) a b = record { bits = put (0b1010 * 2 ^ 4) 32; named = refl }
+occurs-2 (suc (suc (suc (suc zero)))) a b = record { bits = put 0b1010 32; named = refl }
+occurs-2 (suc (suc (suc (suc (suc p))))) a b = absurd (omega arith)
+
+occurs-3 : Occurs thirtyMetreMode 4
+unfolding thirtyMetreMode readRow placeIn turned widthOf twoBits decimal
+occurs-3 zero a b = absurd (omega arith)
+occurs-3 (suc zero) a b = record { bits = put (0b1010 * 2 ^ 12) 33; named = refl }
+occurs-3 (suc (suc zero)) a b = record { bits = put (0b1010 * 2 ^ 8) 33; named = refl }
+occurs-3 (suc (suc (suc zero))) a b = record { bits = put (0b1010 * 2 ^ 4) 33; named = refl }
+occurs-3 (suc (suc (suc (suc zero)))) a b = record { bits = put 0b1010 33; named = refl }
+occurs-3 (suc (suc (suc (suc (suc p))))) a b = absurd (omega arith)
+
+-- The digit that a reply with fault 7 names, in the row of its mode.
+module _ (settings address count : ℕ) (reply : List ℕ) (p : ℕ) (r : ReadsReply settings address count reply (Unreadable p)) where
+  abbrev row : List Chart
+  row = modeIn settings .row
+
+  digit-of : Named row (field (line reply) (modeIn settings .first) (lastBit (modeIn settings))) 0 p
+  digit-of = only-lost row _ false 0 0 p (place-names settings address count reply p r)
+
+  place-possible : (1 ≤ p) × (p ≤ lastNamed (settings % 4))
+  place-possible = possible-in (modeIn settings) (lastNamed (settings % 4)) (all-placed (settings % 4)) _ p digit-of
+
+  not-first : (1 ≤ p) × (p < length row)
+  not-first = (place-possible .0, omega (arith, digit-of .place, digit-of .first .within))
 
 pub unreadable-digit : UnreadableDigit
 unreadable-digit =
@@ -212,7 +297,8 @@ unreadable-digit =
       place = λ settings address count reply got r p e.
           (ap replyNumber e, place-names settings address count reply p (subst (ReadsReply settings address count reply) e r));
       others = others-not;
-      never-the-first = λ settings address count reply p r.
-          not-first (modeIn settings) (full-top (settings % 4)) (field (line reply) (modeIn settings .first) (lastBit (modeIn settings))) p
-          (only-lost (modeIn settings .row) _ false 0 0 p (place-names settings address count reply p r));
+      never-the-first = not-first;
+      every-code = never-named;
+      possible = place-possible;
+      each-occurs = each-mode Occurs occurs-0 occurs-1 occurs-2 occurs-3;
     }
