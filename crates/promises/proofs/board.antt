@@ -11,4 +11,6 @@ pub mod History
 pub mod Free
 pub mod EitherOrder
 pub mod Since
+pub mod OneView
+pub mod View
 pub mod Promises

@@ -4,4 +4,5 @@ pub mod Readings
 pub mod History
 pub mod Since
 pub mod Free
+pub mod View
 pub mod Promises

@@ -35,24 +35,24 @@ board-set : (rows after : List Row) (i : ℕ) (row : Row) → OnBoard rows i →
 board-set rows after i row p e = ap (λ (zs : List Row). take 30 zs) e ∙ take-set-lt 30 rows i row (p .counts)
 
 -- What a call does to the rows: nothing, or one row of the board is set.
-data Step (rows : List Row) : List Row → Type 0 where
+pub data Step (rows : List Row) : List Row → Type 0 where
   nothing : {after : List Row} → after ≡ rows → Step rows after
   sets : {after : List Row} (i : ℕ) (row : Row) → OnBoard rows i → after ≡ set rows i row → Step rows after
 
-hear-step : {rows after : List Row} {minute address count : ℕ} {answer : Heard} {reply : List ℕ} → HearDone rows minute address count reply answer after → Step rows after
+pub hear-step : {rows after : List Row} {minute address count : ℕ} {answer : Heard} {reply : List ℕ} → HearDone rows minute address count reply answer after → Step rows after
 hear-step (not-heard z l e) = nothing e
 hear-step (faulty l a p e n) = sets _ _ (p .place) e
 hear-step (good z a p f e) = sets _ _ (p .place) e
 
-enrol-step : {rows after : List Row} {settings address answer : ℕ} → Enrolled rows settings address answer after → Step rows after
+pub enrol-step : {rows after : List Row} {settings address answer : ℕ} → Enrolled rows settings address answer after → Step rows after
 enrol-step (not-enrolled z e) = nothing e
 enrol-step (took z a u p e) = sets _ _ (p .place) e
 
-remove-step : {rows after : List Row} {address answer : ℕ} → Removed rows address answer after → Step rows after
+pub remove-step : {rows after : List Row} {address answer : ℕ} → Removed rows address answer after → Step rows after
 remove-step (not-removed z e) = nothing e
 remove-step (gave z a p e) = sets _ _ (p .place) e
 
-step-many : {rows after : List Row} → Step rows after → length after ≡ length rows
+pub step-many : {rows after : List Row} → Step rows after → length after ≡ length rows
 step-many (nothing e) = ap length e
 step-many {rows} (sets i row p e) = ap length e ∙ length-set rows i row
 
@@ -116,22 +116,22 @@ module _ (rows after : List Row) where
 same-twice : (rows after : List Row) → after ≡ rows → NoneTwice rows → NoneTwice after
 same-twice rows after e once = subst NoneTwice (sym e) once
 
-enrol-twice : (rows after : List Row) (settings address answer : ℕ) → Enrolled rows settings address answer after → NoneTwice rows → NoneTwice after
+pub enrol-twice : (rows after : List Row) (settings address answer : ℕ) → Enrolled rows settings address answer after → NoneTwice rows → NoneTwice after
 enrol-twice rows after settings address answer (not-enrolled z e) once = same-twice rows after e once
 enrol-twice rows after settings address answer (took z a u p e) once = one-new rows after (placeFree (boardOf rows)) (newRow settings address) (set-only rows after (placeFree (boardOf rows)) (newRow settings address) (p .place) e) address refl u once
 
-hear-twice : (rows after : List Row) (minute address count : ℕ) (reply : List ℕ) (answer : Heard) → HearDone rows minute address count reply answer after → NoneTwice rows → NoneTwice after
+pub hear-twice : (rows after : List Row) (minute address count : ℕ) (reply : List ℕ) (answer : Heard) → HearDone rows minute address count reply answer after → NoneTwice rows → NoneTwice after
 hear-twice rows after minute address count reply answer (not-heard z l e) once = same-twice rows after e once
 hear-twice rows after minute address count reply answer (faulty l a p e n) once =
     fewer-set rows after _ _ (set-only rows after _ _ (p .place) e) (λ b h. record { used = h .used; same = h .same }) once
 hear-twice rows after minute address count reply answer (good z a p f e) once =
     fewer-set rows after _ _ (set-only rows after _ _ (p .place) e) (λ b h. record { used = h .used; same = h .same }) once
 
-remove-twice : (rows after : List Row) (address answer : ℕ) → Removed rows address answer after → NoneTwice rows → NoneTwice after
+pub remove-twice : (rows after : List Row) (address answer : ℕ) → Removed rows address answer after → NoneTwice rows → NoneTwice after
 remove-twice rows after address answer (not-removed z e) once = same-twice rows after e once
 remove-twice rows after address answer (gave z a p e) once = fewer-set rows after _ freeRow (set-only rows after _ freeRow (p .place) e) (λ b h. absurd (in-use-free freeRow refl (h .used))) once
 
-empty-twice : (start : List Row) → Empty start → NoneTwice start
+pub empty-twice : (start : List Row) → Empty start → NoneTwice start
 empty-twice start empty i j address p q h k = absurd (in-use-free (rowAt start i) (empty i p) (h .used))
 
 pub none-twice : (start now : List Row) → Empty start → History start now → NoneTwice now
@@ -153,15 +153,15 @@ module _ (rows after : List Row) (i : ℕ) (row : Row) (p : OnBoard rows i) (e :
       ∙ used-set (boardOf rows) i row l
       ∙ ap (λ (x : Bool). one x (used (boardOf rows))) b
 
-abbrev more : ℕ → ℕ → ℕ
+abbrev pub more : ℕ → ℕ → ℕ
 more answer n = pick (eqb answer 0) (suc n) n
 
-enrol-used : (rows after : List Row) (settings address answer : ℕ) → Enrolled rows settings address answer after → used (boardOf after) ≡ more answer (used (boardOf rows))
+pub enrol-used : (rows after : List Row) (settings address answer : ℕ) → Enrolled rows settings address answer after → used (boardOf after) ≡ more answer (used (boardOf rows))
 enrol-used rows after settings address answer (not-enrolled z e) = ap (λ (zs : List Row). used (boardOf zs)) e ∙ sym (ap (λ (t : Bool). pick t (suc (used (boardOf rows))) (used (boardOf rows))) z)
 enrol-used rows after settings address answer (took z a u p e) =
     counts rows after (placeFree (boardOf rows)) (newRow settings address) (p .place) e true false (p .free) refl ∙ sym (ap (λ (n : ℕ). more n (used (boardOf rows))) z)
 
-hear-used : (rows after : List Row) (minute address count : ℕ) (reply : List ℕ) (answer : Heard) → HearDone rows minute address count reply answer after → used (boardOf after) ≡ used (boardOf rows)
+pub hear-used : (rows after : List Row) (minute address count : ℕ) (reply : List ℕ) (answer : Heard) → HearDone rows minute address count reply answer after → used (boardOf after) ≡ used (boardOf rows)
 hear-used rows after minute address count reply answer (not-heard z l e) = ap (λ (zs : List Row). used (boardOf zs)) e
 hear-used rows after minute address count reply answer (faulty l a p e n) =
     let f = used-not-free (isFree (rowAt rows (placeOf address (boardOf rows)))) (p .here .used) in
@@ -172,7 +172,7 @@ hear-used rows after minute address count reply answer (good z a p g e) =
     let s = counts rows after _ _ (p .place) e false false f f in
     omega arith
 
-remove-used : (rows after : List Row) (address answer : ℕ) → Removed rows address answer after → more answer (used (boardOf after)) ≡ used (boardOf rows)
+pub remove-used : (rows after : List Row) (address answer : ℕ) → Removed rows address answer after → more answer (used (boardOf after)) ≡ used (boardOf rows)
 remove-used rows after address answer (not-removed z e) = ap (λ (t : Bool). pick t (suc (used (boardOf after))) (used (boardOf after))) z ∙ ap (λ (zs : List Row). used (boardOf zs)) e
 remove-used rows after address answer (gave z a p e) =
     ap (λ (n : ℕ). more n (used (boardOf after))) z ∙ counts rows after (placeOf address (boardOf rows)) freeRow (p .place) e false true (used-not-free (isFree (rowAt rows (placeOf address (boardOf rows)))) (p .here .used)) refl

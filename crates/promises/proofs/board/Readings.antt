@@ -36,7 +36,7 @@ differs e f = let z : _≡_ {A = Bool} true false = sym e ∙ f in let bad : _�
 
 -- The row of an address is its row still where that row alone was set, to one that holds the address.
 module _ (rows after : List Row) (address i : ℕ) (row : Row) (only : OnlyRow rows i row after) where
-  still : OnBoard rows i → Holds row address → ((j : ℕ) → j < i → Holds (rowAt rows j) address → ⊥) → IsRowOf after address i
+  pub still : OnBoard rows i → Holds row address → ((j : ℕ) → j < i → Holds (rowAt rows j) address → ⊥) → IsRowOf after address i
   still p h first =
       record {
         place = record { counts = p .counts; lent = omega (arith, p .lent, only .as-many) };

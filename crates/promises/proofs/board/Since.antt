@@ -30,7 +30,7 @@ use Rattle.promises.proofs.board.EitherOrder.{either-order}
 differs : {b : Bool} → b ≡ true → b ≡ false → ⊥
 differs e f = let z : _≡_ {A = Bool} true false = sym e ∙ f in let bad : _≡_ {A = ℕ} 0 1 = cc in omega arith
 
-free-not-used : (row : Row) → isFree row ≡ true → inUse row ≡ true → ⊥
+pub free-not-used : (row : Row) → isFree row ≡ true → inUse row ≡ true → ⊥
 free-not-used row f u = differs u (ap not f)
 
 -- A look that refused nothing was at the row of the address.
@@ -40,6 +40,16 @@ module _ (rows : List Row) (address : ℕ) (told : Looked) (e : LooksUp rows add
       by-lt 999 address (λ a. let bad : _≡_ {A = ℕ} 11 0 = sym (ap (λ (t : Looked). t .number) (looked-bad rows address told e a)) ∙ z in absurd (omega arith))
       (λ a. by-lt (placeOf address (boardOf rows)) (length (boardOf rows)) (λ l. (a, place-row rows address l))
       (λ l. let bad : _≡_ {A = ℕ} 17 0 = sym (ap (λ (t : Looked). t .number) (looked-unknown rows address told e a (off-unknown rows address l))) ∙ z in absurd (omega arith)))
+
+-- Where an address did not stand twice and its row was set free, no row holds it.
+pub gone-after : (rows after : List Row) (a i : ℕ) → NoneTwice rows → IsRowOf rows a i → OnlyRow rows i freeRow after → Unknown after a
+gone-after rows after a i once p only j on held = go (eqb j i) refl
+  where
+    go : (t : Bool) → eqb j i ≡ t → ⊥
+    go true t = free-not-used (rowAt after j) (ap isFree (ap (rowAt after) (eqb-true j i t) ∙ only .own)) (held .used)
+    go false t =
+        let ne = eqb-false j i t in
+        ne (once j i a (record { counts = on .counts; lent = omega (arith, on .lent, only .as-many) }) (p .place) (subst (λ (r : Row). Holds r a) (only .others j ne) held) (p .here))
 
 -- The look at an address.
 abbrev look : List Row → ℕ → Looked
@@ -99,20 +109,12 @@ module _ (rows after : List Row) (count : ℕ → ℕ) (minute : ℕ → Minute)
   remove-so : NoneTwice rows → (a answer : ℕ) → Removes rows a answer after → Told after count minute
   remove-so once a answer e address told looks z = go (eqb a address) refl
     where
-      there : IsRowOf rows a (placeOf a (boardOf rows)) → a ≡ address → OnlyRow rows (placeOf a (boardOf rows)) freeRow after → (i : ℕ) → IsRowOf after address i → (t : Bool) → eqb i (placeOf a (boardOf rows)) ≡ t → ⊥
-      there p same only i k true t = free-not-used (rowAt after i) (ap isFree (ap (rowAt after) (eqb-true i (placeOf a (boardOf rows)) t) ∙ only .own)) (k .here .used)
-      there p same only i k false t =
-          let ne = eqb-false i (placeOf a (boardOf rows)) t in
-          let held : Holds (rowAt rows i) address = subst (λ (r : Row). Holds r address) (only .others i ne) (k .here) in
-          ne (once i (placeOf a (boardOf rows)) address (record { counts = k .place .counts; lent = omega (arith, k .place .lent, only .as-many) }) (p .place) held (subst (Holds (rowAt rows (placeOf a (boardOf rows)))) same (p .here)))
-
-      gone : IsRowOf rows a (placeOf a (boardOf rows)) → a ≡ address → OnlyRow rows (placeOf a (boardOf rows)) freeRow after → ⊥
-      gone p same only =
-          there p same only (placeOf address (boardOf after)) (known-by after address told looks z .1) (eqb (placeOf address (boardOf after)) (placeOf a (boardOf rows))) refl
-
       by : Removed rows a answer after → a ≡ address → (told .faulty ≡ min 65535 (count address)) × (minuteTold told ≡ minute address)
       by (not-removed s is) same = unmoved is address told looks z
-      by (gave s x p is) same = absurd (gone p same (set-only rows after (placeOf a (boardOf rows)) freeRow (p .place) is))
+      by (gave s x p is) same =
+          let only = set-only rows after (placeOf a (boardOf rows)) freeRow (p .place) is in
+          let k = known-by after address told looks z .1 in
+          absurd (gone-after rows after a (placeOf a (boardOf rows)) once p only (placeOf address (boardOf after)) (k .place) (subst (Holds (rowAt after (placeOf address (boardOf after)))) (sym same) (k .here)))
 
       go : (s : Bool) → eqb a address ≡ s → (told .faulty ≡ min 65535 (count address)) × (minuteTold told ≡ minute address)
       go true s = by (remove-done rows a answer after e) (eqb-true a address s)

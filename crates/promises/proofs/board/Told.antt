@@ -34,7 +34,7 @@ last-back none = refl
 last-back (good r minute) = some-back r minute
 
 -- the minute that is told is the one that the row holds: its kind is told as 0 just where it is 0
-kind-zero : (row : Row) → eqb (keptAs (lastOf row) .kind) 0 ≡ eqb (row .kind) 0
+pub kind-zero : (row : Row) → eqb (keptAs (lastOf row) .kind) 0 ≡ eqb (row .kind) 0
 kind-zero row = go (eqb (row .kind) 0) refl
   where
     go : (t : Bool) → eqb (row .kind) 0 ≡ t → eqb (keptAs (pick t none (good (readingBy (row .kind) (row .tenths) (row .level) (row .alarm1) (row .alarm0)) (row .minute))) .kind) 0 ≡ t

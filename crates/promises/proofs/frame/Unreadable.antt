@@ -244,34 +244,34 @@ Occurs m last = (p : ℕ) → 1 ≤ p → p ≤ last → CanBeNamed m p
 occurs-0 : Occurs fractionalMode 2
 unfolding fractionalMode readRow placeIn turned widthOf feetTens decimal inches sixteenths
 occurs-0 zero a b = absurd (omega arith)
-occurs-0 (suc zero) a b = record { bits = put (0b1010 * 2 ^ 8) 31; named = refl }
-occurs-0 (suc (suc zero)) a b = record { bits = put (0b1010 * 2 ^ 4) 31; named = refl }
+occurs-0 (suc zero) a b = record { bits = put (0b1010 * 2 ^ 8) 31; fits = omega arith; named = refl }
+occurs-0 (suc (suc zero)) a b = record { bits = put (0b1010 * 2 ^ 4) 31; fits = omega arith; named = refl }
 occurs-0 (suc (suc (suc p))) a b = absurd (omega arith)
 
 occurs-1 : Occurs decimalMode 3
 unfolding decimalMode readRow placeIn turned widthOf feetTens decimal
 occurs-1 zero a b = absurd (omega arith)
-occurs-1 (suc zero) a b = record { bits = put (0b1010 * 2 ^ 8) 31; named = refl }
-occurs-1 (suc (suc zero)) a b = record { bits = put (0b1010 * 2 ^ 4) 31; named = refl }
-occurs-1 (suc (suc (suc zero))) a b = record { bits = put 0b1010 31; named = refl }
+occurs-1 (suc zero) a b = record { bits = put (0b1010 * 2 ^ 8) 31; fits = omega arith; named = refl }
+occurs-1 (suc (suc zero)) a b = record { bits = put (0b1010 * 2 ^ 4) 31; fits = omega arith; named = refl }
+occurs-1 (suc (suc (suc zero))) a b = record { bits = put 0b1010 31; fits = omega arith; named = refl }
 occurs-1 (suc (suc (suc (suc p)))) a b = absurd (omega arith)
 
 occurs-2 : Occurs twentyMetreMode 4
 unfolding twentyMetreMode readRow placeIn turned widthOf oneBit decimal
 occurs-2 zero a b = absurd (omega arith)
-occurs-2 (suc zero) a b = record { bits = put (0b1010 * 2 ^ 12) 32; named = refl }
-occurs-2 (suc (suc zero)) a b = record { bits = put (0b1010 * 2 ^ 8) 32; named = refl }
-occurs-2 (suc (suc (suc zero))) a b = record { bits = put (0b1010 * 2 ^ 4) 32; named = refl }
-occurs-2 (suc (suc (suc (suc zero)))) a b = record { bits = put 0b1010 32; named = refl }
+occurs-2 (suc zero) a b = record { bits = put (0b1010 * 2 ^ 12) 32; fits = omega arith; named = refl }
+occurs-2 (suc (suc zero)) a b = record { bits = put (0b1010 * 2 ^ 8) 32; fits = omega arith; named = refl }
+occurs-2 (suc (suc (suc zero))) a b = record { bits = put (0b1010 * 2 ^ 4) 32; fits = omega arith; named = refl }
+occurs-2 (suc (suc (suc (suc zero)))) a b = record { bits = put 0b1010 32; fits = omega arith; named = refl }
 occurs-2 (suc (suc (suc (suc (suc p))))) a b = absurd (omega arith)
 
 occurs-3 : Occurs thirtyMetreMode 4
 unfolding thirtyMetreMode readRow placeIn turned widthOf twoBits decimal
 occurs-3 zero a b = absurd (omega arith)
-occurs-3 (suc zero) a b = record { bits = put (0b1010 * 2 ^ 12) 33; named = refl }
-occurs-3 (suc (suc zero)) a b = record { bits = put (0b1010 * 2 ^ 8) 33; named = refl }
-occurs-3 (suc (suc (suc zero))) a b = record { bits = put (0b1010 * 2 ^ 4) 33; named = refl }
-occurs-3 (suc (suc (suc (suc zero)))) a b = record { bits = put 0b1010 33; named = refl }
+occurs-3 (suc zero) a b = record { bits = put (0b1010 * 2 ^ 12) 33; fits = omega arith; named = refl }
+occurs-3 (suc (suc zero)) a b = record { bits = put (0b1010 * 2 ^ 8) 33; fits = omega arith; named = refl }
+occurs-3 (suc (suc (suc zero))) a b = record { bits = put (0b1010 * 2 ^ 4) 33; fits = omega arith; named = refl }
+occurs-3 (suc (suc (suc (suc zero)))) a b = record { bits = put 0b1010 33; fits = omega arith; named = refl }
 occurs-3 (suc (suc (suc (suc (suc p))))) a b = absurd (omega arith)
 
 -- The digit that a reply with fault 7 names, in the row of its mode.

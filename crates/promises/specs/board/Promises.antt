@@ -4,6 +4,7 @@ use Rattle.promises.specs.board.Readings.{BoardReadings}
 use Rattle.promises.specs.board.History.{BoardHistory}
 use Rattle.promises.specs.board.Since.{BoardSince}
 use Rattle.promises.specs.board.Free.{BoardFree}
+use Rattle.promises.specs.board.View.{BoardView}
 
 pub record BoardPromises : Type 0 where
   pub calls : BoardCalls
@@ -13,3 +14,4 @@ pub record BoardPromises : Type 0 where
   pub history : BoardHistory
   pub since : BoardSince
   pub free : BoardFree
+  pub view : BoardView

@@ -60,6 +60,7 @@ lastNamed mode = pick (eqb mode 0) 2 (pick (eqb mode 1) 3 4)
 -- A line whose level bits, in this mode, name this place.
 pub record CanBeNamed (m : Mode) (p : ℕ) : Type 0 where
   pub bits : ℕ
+  pub fits : bits < 2 ^ 64
   pub named : levelOf m bits ≡ lost p
 
 pub record UnreadableDigit : Type 0 where
