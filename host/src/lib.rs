@@ -23,6 +23,8 @@ pub mod random;
 pub mod reading;
 pub mod stopwatch;
 pub mod types;
+#[cfg(test)]
+mod vectors;
 
 pub use calls::Core;
 pub use types::{

@@ -26,6 +26,11 @@ fn a_day_at_the_desk() {
     desk::day(&Library);
 }
 
+/// The tables of document 02's requests.
+mod vectors {
+    crate::vectors::tests_on!(crate::library::Library);
+}
+
 fn write_poll(address: u16, raise: u8, reset: u8) -> (Answer<usize>, [u8; 2]) {
     let mut out = [0; 2];
     // SAFETY: two bytes are lent, and to nobody else.

@@ -402,29 +402,3 @@ fn a_parity_fault_keeps_the_last_reading() {
     assert_eq!(board::enrol(&mut rows, 0, 30), Err(Fault::NoRow));
     assert_eq!(rows[30], Row::default());
 }
-
-/// Document 02, request 02: which digit was unreadable.
-#[test]
-fn the_unreadable_digit_is_named() {
-    let named: [(u8, [u8; 5], Fault); 12] = [
-        (1, [0x80, 0x0E, 0xFF, 0xFE, 0x01], Fault::Code1),
-        (0, [0x80, 0x0E, 0xFF, 0xFE, 0x01], Fault::Code1),
-        (2, [0x80, 0x0F, 0xFF, 0xFF, 0x01], Fault::Code1),
-        (3, [0x80, 0x0F, 0xFF, 0xFF, 0x80], Fault::Code1),
-        (1, [0x80, 0x0E, 0x51, 0xE0, 0x00], Fault::Code2),
-        (1, [0x80, 0x0E, 0x50, 0x16, 0x01], Fault::Code3),
-        (1, [0x80, 0x0E, 0x51, 0xF6, 0x01], Fault::Code2),
-        (0, [0x80, 0x0E, 0x0F, 0x40, 0x01], Fault::Code2),
-        (2, [0x80, 0x0E, 0x80, 0x0D, 0x00], Fault::Code4),
-        (3, [0x80, 0x0F, 0x22, 0xC7, 0x81], Fault::Code4),
-        (1, [0x80, 0x0E, 0x51, 0xE0, 0x81], Fault::Fill),
-        (1, [0x80, 0x0E, 0x51, 0xE0, 0x01], Fault::Parity),
-    ];
-    for (settings, reply, fault) in named {
-        assert_eq!(
-            read_reply(settings, 7, 40, &reply),
-            Err(fault),
-            "{reply:02x?}"
-        );
-    }
-}

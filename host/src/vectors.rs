@@ -1,0 +1,180 @@
+//! Tables of document 02's requests: inputs, and what a core must answer to them. Each is written
+//! once over the traits of the calls and runs on every core, on the independent reading here and
+//! on the proved library in its own tests.
+
+pub mod digits;
+pub mod joins;
+pub mod since;
+pub mod summaries;
+
+use crate::calls::Core;
+use crate::types::{Answer, Entry, Fault, Last, Reading, Row, Temperature};
+use std::fmt::Debug;
+
+/// Address 7, decimal 30.00, no alarms, 40 bits, even; and the same with the other parity bit.
+pub const GOOD: &[u8] = b"\x80\x0e\x50\x00\x00";
+pub const WRONG_PARITY: &[u8] = b"\x80\x0e\x50\x00\x01";
+pub const SILENT: &[u8] = b"";
+
+/// What the reply of 30.00 says, heard at a minute.
+pub fn thirty(minute: u32) -> Option<Last> {
+    Some(Last {
+        reading: plain(3_000),
+        minute,
+    })
+}
+
+/// A level without temperature or alarms.
+pub fn plain(level: u16) -> Reading {
+    Reading {
+        level,
+        temperature: Temperature::Absent,
+        alarm1: false,
+        alarm0: false,
+    }
+}
+
+/// A record of minute 600, its reply of as many bits as its bytes have.
+pub fn entry(settings: u8, address: u16, reply: &[u8]) -> Entry<'_> {
+    Entry {
+        settings,
+        minute: 600,
+        address,
+        count: 8 * reply.len(),
+        reply,
+    }
+}
+
+/// The number of an answer, 0 where nothing was refused.
+pub fn number<T>(answer: &Answer<T>) -> u8 {
+    answer.as_ref().err().map_or(0, |fault| fault.number())
+}
+
+/// A number and the place beside it.
+pub fn number_and_place<T>(answer: Answer<T>) -> (u8, u8) {
+    answer.map_or_else(|fault: Fault| (fault.number(), fault.place()), |_| (0, 0))
+}
+
+/// A board of three rows whose first has address 7 by decimal settings.
+struct Board<'a, C: Core> {
+    core: &'a C,
+    rows: Vec<C::Row>,
+}
+
+impl<'a, C: Core> Board<'a, C>
+where
+    C::Row: PartialEq + Debug,
+{
+    const ENROLLED: Row = Row {
+        in_use: true,
+        address: 7,
+        settings: 1,
+        last: None,
+        fault: 0,
+        place: 0,
+        faulty: 0,
+        heard: 0,
+    };
+
+    fn new(core: &'a C) -> Self {
+        let rows = vec![core.row(&Row::default()); 3];
+        let mut board = Board { core, rows };
+        assert_eq!(board.core.enrol(&mut board.rows, 1, 7), Ok(()));
+        board.stands(&Self::ENROLLED, "enrolled");
+        board
+    }
+
+    fn hear(&mut self, minute: u32, address: u16, reply: &[u8]) -> Answer<()> {
+        let count = 8 * reply.len();
+        self.core
+            .hear(&mut self.rows, minute, address, count, reply)
+    }
+
+    /// Every field of every row, as this core lends them: those that `says` would not tell apart
+    /// too. The rows after the first are free.
+    fn stands(&self, first: &Row, after: &str) {
+        let free = Row::default();
+        let rows = [*first, free, free].map(|says| self.core.row(&says));
+        assert_eq!(self.rows, rows, "{after}");
+    }
+}
+
+/// One test for each table, on a core.
+macro_rules! tests_on {
+    ($core:expr) => {
+        #[test]
+        fn the_first_unreadable_digit_is_named() {
+            $crate::vectors::digits::named(&$core);
+        }
+
+        #[test]
+        fn a_listing_with_an_unreadable_record() {
+            $crate::vectors::digits::listed(&$core);
+        }
+
+        #[test]
+        fn a_board_that_hears_unreadable_digits() {
+            $crate::vectors::digits::heard(&$core);
+        }
+
+        #[test]
+        fn places_that_a_look_tells() {
+            $crate::vectors::digits::looked_at(&$core);
+        }
+
+        #[test]
+        fn how_long_it_has_been_bad() {
+            $crate::vectors::since::a_row(&$core);
+        }
+
+        #[test]
+        fn a_summary_beside_a_sheet_of_saves() {
+            $crate::vectors::summaries::saves(&$core);
+        }
+
+        #[test]
+        fn a_summary_of_thirty_pairs_and_others() {
+            $crate::vectors::summaries::thirty_pairs(&$core);
+        }
+
+        #[test]
+        fn summaries_handed_in_and_refused() {
+            $crate::vectors::summaries::refused(&$core);
+        }
+
+        #[test]
+        fn summaries_handed_in_and_taken() {
+            $crate::vectors::summaries::taken(&$core);
+        }
+
+        #[test]
+        fn a_summary_of_no_slots_and_of_a_bad_size() {
+            $crate::vectors::summaries::sizes(&$core);
+        }
+
+        #[test]
+        fn summaries_joined_pair_by_pair() {
+            $crate::vectors::joins::pair_by_pair(&$core);
+        }
+
+        #[test]
+        fn joins_refused_and_just_not() {
+            $crate::vectors::joins::refusals(&$core);
+        }
+
+        #[test]
+        fn joins_by_either_grouping() {
+            $crate::vectors::joins::grouping(&$core);
+        }
+
+        #[test]
+        fn two_lists_joined_and_end_to_end() {
+            $crate::vectors::joins::end_to_end(&$core);
+        }
+    };
+}
+pub(crate) use tests_on;
+
+mod on_the_reading {
+    super::tests_on!(crate::reading::IndependentReading);
+}
