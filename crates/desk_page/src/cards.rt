@@ -1,0 +1,137 @@
+// The cards that a page is made of, read from files or from standard input, and what is said where one of them gives no page.
+use libc::STDERR_FILENO;
+use libc::STDIN_FILENO;
+use summary::Made;
+use summary::Summary;
+
+// A summary to print. Where there is none to print, standard error has said why, and a blank one stands here.
+pub(crate) struct Page {
+    pub(crate) summary: Summary,
+    pub(crate) made: bool,
+}
+
+// The summary of no bytes is blank.
+fn missing() -> Page {
+    let nothing = summary::sisal_summary_of(b"");
+    let blank = nothing.summary;
+    Page {
+        summary: blank,
+        made: false,
+    }
+}
+
+// Why a number refuses, in words.
+fn explain(number: u8) {
+    match number {
+        12 => io::write_all(
+            STDERR_FILENO,
+            b"fault 12: its size is no multiple of 32 bytes, or above 65,536\n",
+        ),
+        24 => io::write_all(
+            STDERR_FILENO,
+            b"fault 24: with it a pair's good or faulty replies are above 1,000,000\n",
+        ),
+        25 => io::write_all(
+            STDERR_FILENO,
+            b"fault 25: with it there are more than 30 pairs, or it or a card before it has records of more than its 30\n",
+        ),
+        _ => io::write_all(STDERR_FILENO, b"fault 37: a summary is not in order\n"),
+    }
+    ;
+}
+
+// The page of a summary that was made; of a refusal none, and the card at which it was given is named.
+fn page_of(made: Made, name: &[u8]) -> Page {
+    if made.number == 0 {
+        let summary = made.summary;
+        return Page {
+            summary: summary,
+            made: true,
+        };
+    }
+    io::write_all(STDERR_FILENO, name);
+    io::write_all(STDERR_FILENO, b": ");
+    explain(made.number);
+    missing()
+}
+
+// Nothing follows what was read. A full buffer is refused for its size whatever follows. Reading stops at the end of the input and at a read that
+// fails; one read more tells them apart, since a read that fails takes no byte: only at the end does it answer 0.
+fn at_end(fd: i32, size: usize) -> bool {
+    if size == 65537 {
+        return true;
+    }
+    let mut more = [0u8; 1];
+    libc::read(fd, &mut more) == 0
+}
+
+// The page of the card that is read from a descriptor. One byte more than the largest sheet is read, so that a larger input is known.
+fn card(fd: i32, name: &[u8]) -> Page {
+    let mut bytes = [0u8; 65537];
+    let size = io::read_full(fd, &mut bytes);
+    if !at_end(fd, size) {
+        io::write_all(STDERR_FILENO, name);
+        io::write_all(STDERR_FILENO, b": cannot be read\n");
+        return missing();
+    }
+    page_of(summary::sisal_summary_of(&bytes[..size]), name)
+}
+
+// The page of the card in a file.
+fn file(name: &[u8]) -> Page {
+    let fd = os::open_read(name);
+    if fd < 0 {
+        os::fail(name);
+        return missing();
+    }
+    let page = card(fd, name);
+    libc::close(fd);
+    page
+}
+
+// A page with the card of one file more.
+fn with_file(page: Page, name: &[u8]) -> Page {
+    let more = file(name);
+    if !more.made {
+        return more;
+    }
+    let before = page.summary;
+    let next = more.summary;
+    page_of(summary::sisal_summary_join(before, next), name)
+}
+
+// A page with the card that argument i names. The first card begins the page: joined to a blank one it would be refused for records that have no line.
+fn with_argument(page: Page, i: usize) -> Page {
+    let mut name = [0u8; 4096];
+    let size = os::arg(i, &mut name);
+    if os::errno() != 0 {
+        os::fail(b"a card's name");
+        return missing();
+    }
+    if i == 1 {
+        return file(&name[..size]);
+    }
+    with_file(page, &name[..size])
+}
+
+// The cards of all arguments on one page, or none as soon as one of them gives none.
+fn all_files(n: usize) -> Page {
+    let mut page = missing();
+    let mut i: usize = 1;
+    while i < n {
+        page = with_argument(page, i);
+        if !page.made {
+            return page;
+        }
+        i += 1;
+    }
+    page
+}
+
+pub(crate) fn read_all() -> Page {
+    let n = os::arg_count();
+    if n < 2 {
+        return card(STDIN_FILENO, b"standard input");
+    }
+    all_files(n)
+}
