@@ -3,25 +3,26 @@
 use mathlib.Core.Path.{_≡_, refl, sym, _∙_, ap}
 use mathlib.Core.Bool.{Bool, true, false}
 use mathlib.Core.List.{List, [], _∷_}
-use Prim.Native.Nat.{ℕ, suc, _+_, _≤_, min}
+use Prim.Native.Nat.{ℕ, suc, _+_, _<_, _≤_, min}
 use native.Mathlib.Omega.{arith}
 use lib.Dec.{eqb, ltb}
-use lib.ListN.{length, length-take}
+use lib.ListN.{length, length-take, List·getD-eq-default}
 use borrow.Author.Tests.{lt-ltb, le-ltb}
 use Rattle.frame.specs.Pick.{pick}
 use Rattle.board.specs.declared.Heard.{Heard}
-use Rattle.board.specs.declared.Looked.{Looked}
 use Rattle.board.specs.declared.Row.{Row}
-use Rattle.board.specs.Row.{isFree}
-use Rattle.board.specs.Rows.{boardOf, placeFree, hasFree}
-use Rattle.board.specs.Calls.{Enrols, Hears, Removes, refusedLook}
-use Rattle.promises.specs.board.Calls.{OnBoard, Holds, rowAt, Unknown}
+use Rattle.board.specs.Row.{isFree, inUse, freeRow}
+use Rattle.board.specs.Rows.{boardOf, placeOf, rowOf, placeFree, hasFree}
+use Rattle.board.specs.Calls.{Enrols, Hears, Removes, told}
+use Rattle.board.proofs.Numbers.{find-0}
+use Rattle.promises.specs.board.Calls.{rowAt, Unknown}
 use Rattle.promises.specs.board.History.{Empty, NoneTwice}
 use Rattle.promises.specs.board.View.{view, SameView, FreeAlike, freeIn, AsManyFree, SideBySide, both-begun, both-enrol, both-hear, both-remove, both-look, AnsweredAlike, BoardView}
 use Rattle.promises.proofs.Cases.{by-lt}
-use Rattle.promises.proofs.board.Places.{same-row, board-on}
+use Rattle.promises.proofs.board.Places.{same-row, board-on, place-row}
 use Rattle.promises.proofs.board.Count.{used, used-none, used-full, used-room}
-use Rattle.promises.proofs.board.Done.{enrol-done, remove-done, hear-done}
+use Rattle.promises.proofs.board.Done.{off-unknown, enrol-done, remove-done, hear-done}
+use Rattle.promises.proofs.board.After.{look-told}
 use Rattle.promises.proofs.board.Readings.{looked-bad, looked-unknown}
 use Rattle.promises.proofs.board.History.{enrol-step, hear-step, remove-step, step-many, enrol-twice, hear-twice, remove-twice, empty-twice, enrol-used, hear-used, remove-used}
 use Rattle.promises.proofs.board.Since.{free-not-used}
@@ -101,17 +102,17 @@ module _ (rows others after later : List Row) (same : SameView rows others) wher
   remove-answers address a b e f = e .answers ∙ same-find rows others same address ∙ sym (f .answers)
 
 -- What holds of two boards side by side.
-record Level (rows others : List Row) : Type 0 where
+record Even (rows others : List Row) : Type 0 where
   same : SameView rows others
   many : AsManyFree rows others
   once : NoneTwice rows
   once-too : NoneTwice others
 
 -- Calls made of both keep it, and are answered alike.
-run : (start begin rows others : List Row) → Level start begin → (calls : SideBySide start begin rows others) → AnsweredAlike calls × Level rows others
-run start begin rows others level both-begun = (tt, level)
-run start begin after later level (both-enrol {rows} {others} settings address a b calls e f) =
-    let r = run start begin rows others level calls in
+run : (start begin rows others : List Row) → Even start begin → (calls : SideBySide start begin rows others) → AnsweredAlike calls × Even rows others
+run start begin rows others even both-begun = (tt, even)
+run start begin after later even (both-enrol {rows} {others} settings address a b calls e f) =
+    let r = run start begin rows others even calls in
     let l = r .1 in
     let is : a ≡ b = enrol-answers rows others after later (l .same) (free-alike rows others (l .many)) settings address a b e f in (
       (is, r .0),
@@ -122,8 +123,8 @@ run start begin after later level (both-enrol {rows} {others} settings address a
         once-too = enrol-twice others later settings address b (enrol-done others settings address b later f) (l .once-too);
       },
     )
-run start begin after later level (both-hear {rows} {others} minute address count reply a b calls e f) =
-    let r = run start begin rows others level calls in
+run start begin after later even (both-hear {rows} {others} minute address count reply a b calls e f) =
+    let r = run start begin rows others even calls in
     let l = r .1 in
     let is : a ≡ b = hear-answers rows others after later (l .same) minute address count reply a b e f in (
       (is, r .0),
@@ -134,8 +135,8 @@ run start begin after later level (both-hear {rows} {others} minute address coun
         once-too = hear-twice others later minute address count reply b (hear-done others minute address count reply b later f) (l .once-too);
       },
     )
-run start begin after later level (both-remove {rows} {others} address a b calls e f) =
-    let r = run start begin rows others level calls in
+run start begin after later even (both-remove {rows} {others} address a b calls e f) =
+    let r = run start begin rows others even calls in
     let l = r .1 in
     let is : a ≡ b = remove-answers rows others after later (l .same) address a b e f in (
       (is, r .0),
@@ -146,9 +147,40 @@ run start begin after later level (both-remove {rows} {others} address a b calls
         once-too = remove-twice others later address b (remove-done others address b later f) (l .once-too);
       },
     )
-run start begin rows others level (both-look address a b calls e f) =
-    let r = run start begin rows others level calls in
+run start begin rows others even (both-look address a b calls e f) =
+    let r = run start begin rows others even calls in
     ((e .answers ∙ r .1 .same address ∙ sym (f .answers), r .0), r .1)
+
+-- An address is on the board exactly where the row of it is in use.
+module _ (rows : List Row) (address : ℕ) where
+  used-on : placeOf address (boardOf rows) < length (boardOf rows) → inUse (rowOf address (boardOf rows)) ≡ true
+  used-on l = ap inUse (same-row rows (placeOf address (boardOf rows)) l) ∙ place-row rows address l .here .used
+
+  on-used : inUse (rowOf address (boardOf rows)) ≡ true → placeOf address (boardOf rows) < length (boardOf rows)
+  on-used u =
+      by-lt (placeOf address (boardOf rows)) (length (boardOf rows)) (λ l. l)
+      (λ l. absurd (free-not-used freeRow refl (sym (ap inUse (List·getD-eq-default (boardOf rows) freeRow l)) ∙ u)))
+
+-- Two boards refuse the look at an address alike, where neither has it or it is above 999.
+both-bad : (rows others : List Row) (address : ℕ) → 999 < address → view rows address ≡ view others address
+both-bad rows others address a =
+    looked-bad rows address (view rows address) (record { answers = refl }) a ∙ sym (looked-bad others address (view others address) (record { answers = refl }) a)
+
+both-unknown : (rows others : List Row) (address : ℕ) → address ≤ 999 → Unknown rows address → Unknown others address → view rows address ≡ view others address
+both-unknown rows others address a u v =
+    looked-unknown rows address (view rows address) (record { answers = refl }) a u ∙ sym (looked-unknown others address (view others address) (record { answers = refl }) a v)
+
+wherever : (rows others : List Row) → ((address : ℕ) → address ≤ 999 → rowOf address (boardOf rows) ≡ rowOf address (boardOf others)) → SameView rows others
+wherever rows others same address =
+    by-lt 999 address (both-bad rows others address)
+    (λ a. by-lt (placeOf address (boardOf rows)) (length (boardOf rows))
+    (λ l. let m = on-used others address (sym (ap inUse (same address a)) ∙ used-on rows address l) in
+    look-told (boardOf rows) address (find-0 (boardOf rows) address a l) ∙ ap told (same address a) ∙ sym (look-told (boardOf others) address (find-0 (boardOf others) address a m)))
+    (λ l. both-unknown rows others address a (off-unknown rows address l)
+    (off-unknown others address
+    (by-lt (placeOf address (boardOf others)) (length (boardOf others))
+    (λ k. let m = on-used rows address (ap inUse (same address a) ∙ used-on others address k) in absurd (omega arith))
+    (λ k. k)))))
 
 -- Empty boards: every look is refused, and every row is free.
 module _ (start : List Row) (empty : Empty start) where
@@ -162,14 +194,12 @@ module _ (start : List Row) (empty : Empty start) where
 
 empty-view : (start begin : List Row) → Empty start → Empty begin → SameView start begin
 empty-view start begin empty empty-too address =
-    by-lt 999 address
-    (λ a. looked-bad start address (view start address) (record { answers = refl }) a ∙ sym (looked-bad begin address (view begin address) (record { answers = refl }) a))
-    (λ a. looked-unknown start address (view start address) (record { answers = refl }) a (nobody start empty address)
-    ∙ sym (looked-unknown begin address (view begin address) (record { answers = refl }) a (nobody begin empty-too address)))
+    by-lt 999 address (both-bad start begin address) (λ a. both-unknown start begin address a (nobody start empty address) (nobody begin empty-too address))
 
 pub board-view : BoardView
 board-view =
     record {
+      wherever = wherever;
       enrol = λ rows others after later settings address a b same free e f.
           let is = enrol-answers rows others after later same free settings address a b e f in
           (is, enrol-same rows others after later same address settings a b is e f);

@@ -223,11 +223,11 @@ possible-in m last placed bits p n =
     go false e h = absurd (never-every (m .row) bits (n .digit) (every-by (chartAt (m .row) (n .digit)) h) (n .first))
 
 -- What holds of each mode and its last place.
-each-mode : (P : Mode → ℕ → Type 0) → P fractionalMode 2 → P decimalMode 3 → P twentyMetreMode 4 → P thirtyMetreMode 4 → (k : ℕ) → P (modeOf k) (lastNamed k)
+each-mode : (P : Mode → ℕ → Type 0) → P fractionalMode (lastNamed 0) → P decimalMode (lastNamed 1) → P twentyMetreMode (lastNamed 2) → P thirtyMetreMode (lastNamed 3) → (k : ℕ) → P (modeOf k) (lastNamed k)
 unfolding modeOf
 each-mode P a b c d k = by (eqb k 0) (eqb k 1) (eqb k 2)
   where
-    by : (r s t : Bool) → P (pick r fractionalMode (pick s decimalMode (pick t twentyMetreMode thirtyMetreMode))) (pick r 2 (pick s 3 4))
+    by : (r s t : Bool) → P (pick r fractionalMode (pick s decimalMode (pick t twentyMetreMode thirtyMetreMode))) (pick r (lastNamed 0) (pick s (lastNamed 1) (lastNamed 2)))
     by true s t = a
     by false true t = b
     by false false true = c
@@ -241,14 +241,14 @@ all-placed = each-mode Placed tt tt tt tt
 abbrev Occurs : Mode → ℕ → Type 0
 Occurs m last = (p : ℕ) → 1 ≤ p → p ≤ last → CanBeNamed m p
 
-occurs-0 : Occurs fractionalMode 2
+occurs-0 : Occurs fractionalMode (lastNamed 0)
 unfolding fractionalMode readRow placeIn turned widthOf feetTens decimal inches sixteenths
 occurs-0 zero a b = absurd (omega arith)
 occurs-0 (suc zero) a b = record { bits = put (0b1010 * 2 ^ 8) 31; fits = omega arith; named = refl }
 occurs-0 (suc (suc zero)) a b = record { bits = put (0b1010 * 2 ^ 4) 31; fits = omega arith; named = refl }
 occurs-0 (suc (suc (suc p))) a b = absurd (omega arith)
 
-occurs-1 : Occurs decimalMode 3
+occurs-1 : Occurs decimalMode (lastNamed 1)
 unfolding decimalMode readRow placeIn turned widthOf feetTens decimal
 occurs-1 zero a b = absurd (omega arith)
 occurs-1 (suc zero) a b = record { bits = put (0b1010 * 2 ^ 8) 31; fits = omega arith; named = refl }
@@ -256,7 +256,7 @@ occurs-1 (suc (suc zero)) a b = record { bits = put (0b1010 * 2 ^ 4) 31; fits = 
 occurs-1 (suc (suc (suc zero))) a b = record { bits = put 0b1010 31; fits = omega arith; named = refl }
 occurs-1 (suc (suc (suc (suc p)))) a b = absurd (omega arith)
 
-occurs-2 : Occurs twentyMetreMode 4
+occurs-2 : Occurs twentyMetreMode (lastNamed 2)
 unfolding twentyMetreMode readRow placeIn turned widthOf oneBit decimal
 occurs-2 zero a b = absurd (omega arith)
 occurs-2 (suc zero) a b = record { bits = put (0b1010 * 2 ^ 12) 32; fits = omega arith; named = refl }
@@ -265,7 +265,7 @@ occurs-2 (suc (suc (suc zero))) a b = record { bits = put (0b1010 * 2 ^ 4) 32; f
 occurs-2 (suc (suc (suc (suc zero)))) a b = record { bits = put 0b1010 32; fits = omega arith; named = refl }
 occurs-2 (suc (suc (suc (suc (suc p))))) a b = absurd (omega arith)
 
-occurs-3 : Occurs thirtyMetreMode 4
+occurs-3 : Occurs thirtyMetreMode (lastNamed 3)
 unfolding thirtyMetreMode readRow placeIn turned widthOf twoBits decimal
 occurs-3 zero a b = absurd (omega arith)
 occurs-3 (suc zero) a b = record { bits = put (0b1010 * 2 ^ 12) 33; fits = omega arith; named = refl }

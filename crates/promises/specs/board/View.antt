@@ -4,14 +4,14 @@
 -- stands twice, for removing the first row of it uncovers the second. On a board begun empty none does (`BoardHistory`).
 use mathlib.Core.Path.{_≡_}
 use mathlib.Core.List.{List, [], _∷_}
-use Prim.Native.Nat.{ℕ, suc, min}
+use Prim.Native.Nat.{ℕ, suc, _≤_, min}
 use lib.ListN.{length}
 use Rattle.frame.specs.Pick.{pick}
 use Rattle.board.specs.declared.Heard.{Heard}
 use Rattle.board.specs.declared.Looked.{Looked}
 use Rattle.board.specs.declared.Row.{Row}
 use Rattle.board.specs.Row.{isFree}
-use Rattle.board.specs.Rows.{boardOf, hasFree}
+use Rattle.board.specs.Rows.{boardOf, rowOf, hasFree}
 use Rattle.board.specs.Calls.{Enrols, Hears, Removes, LooksUp, lookedAt}
 use Rattle.promises.specs.board.History.{Empty, NoneTwice}
 
@@ -55,6 +55,9 @@ AnsweredAlike (both-remove address a b calls e f) = (a ≡ b) × AnsweredAlike c
 AnsweredAlike (both-look address a b calls e f) = (a ≡ b) × AnsweredAlike calls
 
 pub record BoardView : Type 0 where
+  -- Boards on which each address has the same row, wherever it stands, or none on both, are of one view.
+  pub wherever : (rows others : List Row) → ((address : ℕ) → address ≤ 999 → rowOf address (boardOf rows) ≡ rowOf address (boardOf others))
+      → SameView rows others
   -- One call of two boards of one view.
   pub enrol : (rows others after later : List Row) (settings address a b : ℕ) → SameView rows others → FreeAlike rows others
       → Enrols rows settings address a after → Enrols others settings address b later → (a ≡ b) × SameView after later
