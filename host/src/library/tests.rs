@@ -272,6 +272,25 @@ fn any_row(random: &mut Random) -> LentRow {
     }
 }
 
+/// The minute told of a row that was never heard is 0, whatever stands in the row.
+#[test]
+fn no_minute_is_told_of_a_row_never_heard() {
+    for (kind, fault, told) in [(0, 0, 0), (0, 5, 500), (super::ABSENT, 0, 500)] {
+        let row = LentRow {
+            address: 7,
+            used: 1,
+            heard: 500,
+            kind,
+            fault,
+            ..LentRow::default()
+        };
+        // SAFETY: one row is lent for reading.
+        let standing = unsafe { ffi::sisal_board_look_up(&row, 1, 7) };
+        let seen = (standing.number, standing.heard);
+        assert_eq!(seen, (0, told), "kind {kind}, fault {fault}");
+    }
+}
+
 /// One call of the library over its rows and of the independent reading over what they say.
 fn call_both(call: &BoardCall, rows: &mut [LentRow], says: &mut [Row]) -> Answer<()> {
     let (answer, other) = match call {
