@@ -20,7 +20,7 @@ fn missing() -> Page {
     }
 }
 
-// Why a number refuses, in words.
+// Why a number refuses, in words. 37 is left to the last arm: no summary that comes from a card is given it.
 fn explain(number: u8) {
     match number {
         12 => io::write_all(
