@@ -1,19 +1,7 @@
 -- The promises, a folder for each crate that they speak of and a file for each promise.
--- What one outcome is, said of every call.
-pub mod One
--- Polls and replies.
-pub mod frame
 -- The month sheet, and the view of one that is lent.
 pub mod sheet
--- The board.
-pub mod board
 -- The listing of a sheet.
 pub mod listing
--- The lines heard.
-pub mod lines
--- Item records.
-pub mod enraf
--- Areas.
-pub mod areas
 -- The desk summary.
 pub mod summary

@@ -7,7 +7,7 @@ use Rattle.sheet.specs.Record.{Entry}
 use Rattle.listing.specs.Text.{ascii, decimal}
 use Rattle.listing.specs.Lines.{replyText, recordText}
 use Rattle.promises.specs.listing.Faults.{ListingFaults}
-use Rattle.promises.proofs.frame.Unreadable.{unreadable-digit}
+use Rattle.promises_frame.proofs.Unreadable.{unreadable-digit}
 
 abbrev by : Entry → Reply → List ℕ
 by e got = decimal (e .minute) ++ ascii " " ++ decimal (e .address) ++ ascii " " ++ replyText got

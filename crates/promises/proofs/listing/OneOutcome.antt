@@ -5,9 +5,9 @@ use mathlib.Core.List.{List}
 use Prim.Native.Nat.{ℕ}
 use Rattle.frame.specs.declared.Written.{Written}
 use Rattle.listing.specs.Calls.{Writes}
-use Rattle.promises.specs.One.{One}
+use Rattle.promises_frame.specs.One.{One}
 use Rattle.promises.specs.listing.OneOutcome.{ListingOutcome}
-use Rattle.promises.proofs.frame.OneOutcome.{pair}
+use Rattle.promises_frame.proofs.OneOutcome.{pair}
 
 one-write : (there : Bool) (needed : ℕ) (text out : List ℕ) → One (Written × List ℕ) (λ o. Writes there needed text out (o .0) (o .1))
 one-write there needed text out =

@@ -23,7 +23,7 @@ use Rattle.frame.proofs.Verdict.{place-small}
 use Rattle.listing.specs.Text.{ascii, decimal, digitsUpTo}
 use Rattle.listing.specs.Lines.{temperatureText, alarmText, readingText, replyText}
 use Rattle.listing.proofs.Numbers.{few-digits}
-use Rattle.promises.proofs.frame.Temperatures.{magnitude-signed}
+use Rattle.promises_frame.proofs.Temperatures.{magnitude-signed}
 
 -- tests whose numbers are from 1 to 99
 abbrev numbered : List Test → Bool

@@ -14,7 +14,7 @@ use Rattle.sheet.specs.Slots.{Slot, blank, spoiled, foreign, holds, sizeAllowed
 use Rattle.sheet.specs.Save.{saveFault, savedNumber}
 use Rattle.sheet.specs.Look.{bare, told, lookOf, foundNumber}
 use Rattle.promises.specs.sheet.FirstFault.{saveTable, saveOrder, lookTable, SheetFault}
-use Rattle.promises.proofs.frame.FirstFault.{asked, given}
+use Rattle.promises_frame.proofs.FirstFault.{asked, given}
 
 save-asks : (s : List ℕ) (e : Entry) → saveFault s e ≡ firstOf (asked (saveTable s e) saveOrder)
 unfolding saveFault

@@ -20,7 +20,7 @@ use Rattle.sheet.proofs.Numbers.{number-back}
 use Rattle.sheet.proofs.Same.{same-self}
 use Rattle.sheet.proofs.Records.{passes-all, passes-formed, formed-few}
 use Rattle.sheet.proofs.Storing.{made-append, made-length, ascending-length}
-use Rattle.promises.proofs.Cases.{both}
+use Rattle.promises_frame.proofs.Cases.{both}
 use Rattle.promises.proofs.sheet.StorePlaces.{Places, places-take, places-append, places-weaker, Between, ascending-between, made-keeps}
 
 -- A blank slot.

@@ -19,7 +19,7 @@ use Rattle.summary.specs.Handed.{misshapen, over, handedFault}
 use Rattle.summary.specs.Calls.{madeOf, keptOf, afresh, keepFault}
 use Rattle.promises.specs.sheet.FirstFault.{saveTable, saveOrder}
 use Rattle.promises.specs.summary.FirstFault.{keepTable, keepOrder, SummaryFault}
-use Rattle.promises.proofs.frame.FirstFault.{asked, given}
+use Rattle.promises_frame.proofs.FirstFault.{asked, given}
 
 save-asks : (s : List ℕ) (e : Entry) → saveFault s e ≡ firstOf (asked (saveTable s e) saveOrder)
 unfolding saveFault

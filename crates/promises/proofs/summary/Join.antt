@@ -29,11 +29,11 @@ use Rattle.summary.proofs.PutAll.{rises-all}
 use Rattle.summary.proofs.Shaped.{shaped-page, told-none}
 use Rattle.summary.proofs.LinesAdded.{count-of}
 use Rattle.summary.proofs.JoinTests.{fault-by, refused-join, made-join}
-use Rattle.promises.specs.One.{One}
-use Rattle.promises.specs.frame.FirstFault.{FirstThatApplies}
+use Rattle.promises_frame.specs.One.{One}
+use Rattle.promises_frame.specs.FirstFault.{FirstThatApplies}
 use Rattle.promises.specs.summary.OwnFigures.{lineIn}
 use Rattle.promises.specs.summary.Join.{Handed, Clean, bothLines, joinTable, Join}
-use Rattle.promises.proofs.frame.FirstFault.{asked, given}
+use Rattle.promises_frame.proofs.FirstFault.{asked, given}
 use Rattle.promises.proofs.summary.JoinLines.{held-all, AllNarrow, all-narrow, lines-turned}
 use Rattle.promises.proofs.summary.EndToEnd.{end-lines}
 use Rattle.promises.proofs.summary.JoinPassed.{number-is, Passed, passed, narrow-lines}

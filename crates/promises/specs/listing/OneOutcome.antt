@@ -3,7 +3,7 @@ use mathlib.Core.List.{List}
 use Prim.Native.Nat.{ℕ}
 use Rattle.frame.specs.declared.Written.{Written}
 use Rattle.listing.specs.Calls.{WritesHead, WritesSlot, WritesLast, WritesListing}
-use Rattle.promises.specs.One.{One}
+use Rattle.promises_frame.specs.One.{One}
 
 -- The outcome is the answer and the output after it.
 pub record ListingOutcome : Type 0 where

@@ -11,7 +11,7 @@ use Rattle.sheet.specs.Record.{Entry}
 use Rattle.sheet.specs.Slots.{sizeAllowed, slots, next}
 use Rattle.sheet.specs.Save.{Saves, savedNumber}
 use Rattle.sheet.specs.Look.{Looks, foundNumber}
-use Rattle.promises.specs.frame.FirstFault.{FirstThatApplies}
+use Rattle.promises_frame.specs.FirstFault.{FirstThatApplies}
 
 abbrev pub saveTable : List ℕ → Entry → List Test
 saveTable s e =

@@ -6,7 +6,7 @@ use Rattle.sheet.specs.declared.Saved.{Saved}
 use Rattle.sheet.specs.Record.{Entry}
 use Rattle.sheet.specs.Save.{Saves}
 use Rattle.sheet.specs.Look.{Looks}
-use Rattle.promises.specs.One.{One}
+use Rattle.promises_frame.specs.One.{One}
 
 -- Of a save the outcome is its answer and the sheet after it.
 pub record SheetOutcome : Type 0 where

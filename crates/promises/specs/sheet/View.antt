@@ -11,7 +11,7 @@ use Rattle.sheet.specs.declared.view.Counted.{Counted}
 use Rattle.sheet.specs.Slots.{sizeAllowed, slots, slotAt, slotOf}
 use Rattle.sheet.specs.Look.{Looks, told, bare}
 use Rattle.sheet.specs.View.{Opens, Sees, Counts, countedNumber, slotsTold}
-use Rattle.promises.specs.One.{One}
+use Rattle.promises_frame.specs.One.{One}
 
 pub record SheetView : Type 0 where
   -- One that was opened.

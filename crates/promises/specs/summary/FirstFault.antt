@@ -10,7 +10,7 @@ use Rattle.summary.specs.declared.Made.{Made}
 use Rattle.summary.specs.declared.Kept.{Kept}
 use Rattle.summary.specs.Handed.{misshapen, over}
 use Rattle.summary.specs.Calls.{MakesSummary, SavesWith}
-use Rattle.promises.specs.frame.FirstFault.{FirstThatApplies}
+use Rattle.promises_frame.specs.FirstFault.{FirstThatApplies}
 use Rattle.promises.specs.sheet.FirstFault.{saveTable, saveOrder}
 
 abbrev pub keepTable : List ℕ → Summary → Entry → List Test

@@ -17,8 +17,8 @@ use Rattle.summary.specs.Worked.{summaryOf}
 use Rattle.summary.specs.Handed.{linesOf, lineAt, misshapen, linesOver}
 use Rattle.summary.specs.Calls.{madeOf}
 use Rattle.summary.specs.Joined.{unkept, joinOver, joinOf, JoinsSummaries}
-use Rattle.promises.specs.One.{One}
-use Rattle.promises.specs.frame.FirstFault.{FirstThatApplies}
+use Rattle.promises_frame.specs.One.{One}
+use Rattle.promises_frame.specs.FirstFault.{FirstThatApplies}
 use Rattle.promises.specs.summary.OwnFigures.{lineIn}
 
 -- A summary as a host hands it in: 30 lines, and settings of 16 bits.

@@ -6,7 +6,7 @@ use Rattle.summary.specs.declared.Summary.{Summary}
 use Rattle.summary.specs.declared.Made.{Made}
 use Rattle.summary.specs.declared.Kept.{Kept}
 use Rattle.summary.specs.Calls.{MakesSummary, SavesWith}
-use Rattle.promises.specs.One.{One}
+use Rattle.promises_frame.specs.One.{One}
 
 pub record SummaryOutcome : Type 0 where
   pub afresh : (sheet : List ℕ) → One Made (MakesSummary sheet)

@@ -1,0 +1,3 @@
+-- The proofs of the promises, in the folders of their statements.
+pub mod enraf
+pub mod areas

@@ -1,0 +1,223 @@
+-- What stands in a free row is not read. A search on cleared rows stops at the same place, since both tests say the same of a row and of it cleared; the
+-- row of an address is in use, so that clearing leaves it as it is; and a row set in cleared rows is a row set, cleared.
+use mathlib.Core.Path.{_≡_, refl, sym, _∙_, ap}
+use mathlib.Core.Bool.{Bool, true, false, not, _&&_}
+use mathlib.Core.List.{List, [], _∷_, _++_, map, append-nil}
+use Prim.Native.Nat.{ℕ, zero, suc, _<_, _≤_, min}
+use native.Mathlib.Omega.{arith}
+use lib.Dec.{eqb, ltb}
+use lib.ListN.{length, set, getD, length-map, length-set, length-take, drop-of-length-le, List·getD-map, List·getD-eq-default}
+use lib.Seq.{take-at, take-all}
+use borrow.Author.Tests.{ltb-true, ltb-false}
+use Rattle.frame.specs.Faults.{_gives_, firstOf}
+use Rattle.frame.proofs.Both.{both-left}
+use Rattle.frame.specs.Line.{line, formed}
+use Rattle.frame.specs.Pick.{pick}
+use Rattle.frame.specs.Level.{levelOf, placeLost}
+use Rattle.frame.specs.Reply.{modeIn, replyFault, readingAt}
+use Rattle.board.specs.declared.Row.{Row}
+use Rattle.board.specs.Row.{isFree, inUse, freeRow, newRow, withReading, withFault, setsFault, heardAt}
+use Rattle.board.specs.Rows.{boardOf, beyond, holds, placeBy, placeOf, placeFree, rowOf, onBoard, hasFree}
+use Rattle.board.specs.Calls.{enrolNumber, enrolRows, hearNumber, hearPlace, hearRows, heardAs, findNumber, removeRows, lookedAt, told, refusedLook}
+use Rattle.board.proofs.Places.{place-at}
+use Rattle.promises_board.specs.Free.{cleared, Alike, BoardFree}
+
+-- A row cleared is free where the row is, and holds an address where the row does.
+clear-by : (t : Bool) (row : Row) → isFree row ≡ t → isFree (pick t freeRow row) ≡ t
+clear-by true row e = refl
+clear-by false row e = e
+
+clear-free : (row : Row) → isFree (cleared row) ≡ isFree row
+clear-free row = clear-by (isFree row) row refl
+
+holds-by : (address : ℕ) (t : Bool) (row : Row) → isFree row ≡ t → holds address (pick t freeRow row) ≡ holds address row
+holds-by address true row e = sym (ap (λ (b : Bool). not b && eqb (row .address) address) e)
+holds-by address false row e = refl
+
+clear-holds : (address : ℕ) (row : Row) → holds address (cleared row) ≡ holds address row
+clear-holds address row = holds-by address (isFree row) row refl
+
+-- A search on cleared rows.
+place-clear : (test : Row → Bool) → ((row : Row) → test (cleared row) ≡ test row) → (rows : List Row) → placeBy test (map cleared rows) ≡ placeBy test rows
+unfolding placeBy
+place-clear test same [] = refl
+place-clear test same (row ∷ rows) = ap (λ (t : Bool). pick t zero (suc (placeBy test (map cleared rows)))) (same row) ∙ ap (λ (n : ℕ). pick (test row) zero (suc n)) (place-clear test same rows)
+
+-- A row set among cleared rows.
+map-set : (rows : List Row) (i : ℕ) (row : Row) → map cleared (set rows i row) ≡ set (map cleared rows) i (cleared row)
+map-set [] i row = refl
+map-set (old ∷ rows) zero row = refl
+map-set (old ∷ rows) (suc i) row = ap (λ (zs : List Row). cleared old ∷ zs) (map-set rows i row)
+
+in-use-same : (t : Bool) (row : Row) → not t ≡ true → pick t freeRow row ≡ row
+in-use-same true row e = let bad : _≡_ {A = ℕ} 0 1 = cc in absurd (omega arith)
+in-use-same false row e = refl
+
+-- Two boards alike.
+module _ (x y : List Row) (alike : map cleared x ≡ map cleared y) where
+  same-length : length x ≡ length y
+  same-length = sym (length-map x cleared) ∙ ap length alike ∙ length-map y cleared
+
+  same-free : placeFree x ≡ placeFree y
+  same-free = sym (place-clear isFree clear-free x) ∙ ap (placeBy isFree) alike ∙ place-clear isFree clear-free y
+
+  module _ (address : ℕ) where
+    same-place : placeOf address x ≡ placeOf address y
+    same-place = sym (place-clear (holds address) (clear-holds address) x) ∙ ap (placeBy (holds address)) alike ∙ place-clear (holds address) (clear-holds address) y
+
+    same-cleared : cleared (rowOf address x) ≡ cleared (rowOf address y)
+    same-cleared =
+        sym (List·getD-map cleared x (placeOf address x) freeRow) ∙ ap (λ (zs : List Row). getD zs (placeOf address x) freeRow) alike ∙ ap (λ (k : ℕ). getD (map cleared y) k freeRow) same-place
+        ∙ List·getD-map cleared y (placeOf address y) freeRow
+
+    as-it-is : (zs : List Row) → placeOf address zs < length zs → cleared (rowOf address zs) ≡ rowOf address zs
+    as-it-is zs l = in-use-same (isFree (rowOf address zs)) (rowOf address zs) (both-left (inUse (rowOf address zs)) (eqb (rowOf address zs .address) address) (place-at (holds address) zs l))
+
+    same-row : rowOf address x ≡ rowOf address y
+    same-row = go (ltb (placeOf address x) (length x)) refl
+      where
+        go : (t : Bool) → ltb (placeOf address x) (length x) ≡ t → rowOf address x ≡ rowOf address y
+        go true e =
+            let l : placeOf address x < length x = ltb-true (placeOf address x) (length x) e in
+            sym (as-it-is x l) ∙ same-cleared ∙ as-it-is y (omega (arith, same-place, same-length))
+        go false e =
+            let l : length x ≤ placeOf address x = ltb-false (placeOf address x) (length x) e in
+            let m : length y ≤ placeOf address y = omega (arith, same-place, same-length) in
+            List·getD-eq-default x freeRow l ∙ sym (List·getD-eq-default y freeRow m)
+
+    same-on : onBoard address x ≡ onBoard address y
+    same-on = ap (λ (k : ℕ). ltb k (length x)) same-place ∙ ap (λ (n : ℕ). ltb (placeOf address y) n) same-length
+
+    same-find : findNumber x address ≡ findNumber y address
+    unfolding findNumber
+    same-find = ap (λ (t : Bool). firstOf (ltb 999 address gives 11 ∷ not t gives 17 ∷ [])) same-on
+
+    same-looked : lookedAt x address ≡ lookedAt y address
+    unfolding lookedAt
+    same-looked = ap (λ (n : ℕ). pick (eqb n 0) (told (rowOf address x)) (refusedLook n)) same-find ∙ ap (λ (r : Row). pick (eqb (findNumber y address) 0) (told r) (refusedLook (findNumber y address))) same-row
+
+    -- the rows at a place set to the same row
+    set-alike : (i j : ℕ) (row : Row) → i ≡ j → map cleared (set x i row) ≡ map cleared (set y j row)
+    set-alike i j row e = map-set x i row ∙ ap (λ (zs : List Row). set zs i (cleared row)) alike ∙ ap (λ (k : ℕ). set (map cleared y) k (cleared row)) e ∙ sym (map-set y j row)
+
+    pick-alike : (t : Bool) (p q : List Row) → map cleared p ≡ map cleared q → map cleared (pick t p x) ≡ map cleared (pick t q y)
+    pick-alike true p q e = e
+    pick-alike false p q e = alike
+
+    remove-alike : map cleared (removeRows x address) ≡ map cleared (removeRows y address)
+    unfolding removeRows
+    remove-alike =
+        pick-alike (eqb (findNumber x address) 0) (set x (placeOf address x) freeRow) (set y (placeOf address y) freeRow) (set-alike (placeOf address x) (placeOf address y) freeRow same-place)
+        ∙ ap (λ (n : ℕ). map cleared (pick (eqb n 0) (set y (placeOf address y) freeRow) y)) same-find
+
+    module _ (settings : ℕ) where
+      same-enrol : enrolNumber x settings address ≡ enrolNumber y settings address
+      unfolding enrolNumber
+      same-enrol =
+          ap (λ (t : Bool). firstOf (ltb 15 settings gives 10 ∷ ltb 999 address gives 11 ∷ t gives 18 ∷ not (hasFree x) gives 19 ∷ [])) same-on
+          ∙ ap (λ (t : Bool). firstOf (ltb 15 settings gives 10 ∷ ltb 999 address gives 11 ∷ onBoard address y gives 18 ∷ not t gives 19 ∷ []))
+          (ap (λ (k : ℕ). ltb k (length x)) same-free ∙ ap (λ (n : ℕ). ltb (placeFree y) n) same-length)
+
+      enrol-alike : map cleared (enrolRows x settings address) ≡ map cleared (enrolRows y settings address)
+      unfolding enrolRows
+      enrol-alike =
+          pick-alike (eqb (enrolNumber x settings address) 0) (set x (placeFree x) (newRow settings address)) (set y (placeFree y) (newRow settings address)) (set-alike (placeFree x) (placeFree y) (newRow settings address) same-free)
+          ∙ ap (λ (n : ℕ). map cleared (pick (eqb n 0) (set y (placeFree y) (newRow settings address)) y)) same-enrol
+
+    module _ (minute count : ℕ) (reply : List ℕ) where
+      same-hear : hearNumber x address count reply ≡ hearNumber y address count reply
+      unfolding hearNumber
+      same-hear =
+          ap (λ (t : Bool). firstOf (ltb 999 address gives 11 ∷ not (formed count reply) gives 14 ∷ not t gives 17 ∷ true gives replyFault (rowOf address x .settings) address count reply ∷ [])) same-on
+          ∙ ap (λ (r : Row). firstOf (ltb 999 address gives 11 ∷ not (formed count reply) gives 14 ∷ not (onBoard address y) gives 17 ∷ true gives replyFault (r .settings) address count reply ∷ [])) same-row
+
+      -- the place that a number names
+      abbrev named : Row → ℕ → ℕ
+      named row n = pick (eqb n 7) (placeLost (levelOf (modeIn (row .settings)) (line reply))) 0
+
+      same-named : hearPlace x address count reply ≡ hearPlace y address count reply
+      unfolding hearPlace
+      same-named = ap (λ (n : ℕ). named (rowOf address x) n) same-hear ∙ ap (λ (r : Row). named r (hearNumber y address count reply)) same-row
+
+      -- what a hearing leaves, by its number
+      abbrev left : List Row → Row → ℕ → ℕ → List Row
+      left zs row i n = pick (eqb n 0) (set zs i (withReading (heardAt row minute) (readingAt (row .settings) count (line reply)) minute)) (pick (setsFault n) (set zs i (withFault (heardAt row minute) n (named row n))) zs)
+
+      left-alike : (row : Row) (i j n : ℕ) → i ≡ j → map cleared (left x row i n) ≡ map cleared (left y row j n)
+      left-alike row i j n e = go (eqb n 0) (setsFault n)
+        where
+          go : (s t : Bool) → map cleared (pick s (set x i (withReading (heardAt row minute) (readingAt (row .settings) count (line reply)) minute)) (pick t (set x i (withFault (heardAt row minute) n (named row n))) x)) ≡ map cleared (pick s (set y j (withReading (heardAt row minute) (readingAt (row .settings) count (line reply)) minute)) (pick t (set y j (withFault (heardAt row minute) n (named row n))) y))
+          go true t = set-alike i j (withReading (heardAt row minute) (readingAt (row .settings) count (line reply)) minute) e
+          go false true = set-alike i j (withFault (heardAt row minute) n (named row n)) e
+          go false false = alike
+
+      hear-alike : map cleared (hearRows x minute address count reply) ≡ map cleared (hearRows y minute address count reply)
+      unfolding hearRows hearPlace
+      hear-alike =
+          left-alike (rowOf address x) (placeOf address x) (placeOf address y) (hearNumber x address count reply) same-place
+          ∙ ap (λ (r : Row). map cleared (left y r (placeOf address y) (hearNumber x address count reply))) same-row
+          ∙ ap (λ (n : ℕ). map cleared (left y (rowOf address y) (placeOf address y) n)) same-hear
+
+-- The board after a call is what the call left of the board.
+pub board-of : (rows now : List Row) → length now ≡ length (boardOf rows) → boardOf (now ++ beyond rows) ≡ now
+board-of rows now e = go (ltb (length rows) 30) refl
+  where
+    few : length now ≡ min 30 (length rows)
+    few = e ∙ length-take 30 rows
+
+    go : (t : Bool) → ltb (length rows) 30 ≡ t → boardOf (now ++ beyond rows) ≡ now
+    go true s =
+        let l : length rows < 30 = ltb-true (length rows) 30 s in
+        let m : length rows ≤ 30 = omega arith in
+        ap (λ (zs : List Row). boardOf (now ++ zs)) (drop-of-length-le rows m) ∙ ap boardOf (append-nil now) ∙ take-all 30 now (omega (arith, few))
+    go false s =
+        let l : 30 ≤ length rows = ltb-false (length rows) 30 s in
+        take-at now (beyond rows) 30 (omega (arith, few))
+
+pick-length : (t : Bool) (p q : List Row) → length p ≡ length q → length (pick t p q) ≡ length q
+pick-length true p q e = e
+pick-length false p q e = refl
+
+-- The boards after two calls are alike where what the calls made of the boards is, and is as long.
+after-alike : (Made : List Row → List Row) → ((board : List Row) → length (Made board) ≡ length board) → (rows others after later : List Row) → after ≡ Made (boardOf rows) ++ beyond rows → later ≡ Made (boardOf others) ++ beyond others → map cleared (Made (boardOf rows)) ≡ map cleared (Made (boardOf others)) → Alike after later
+after-alike Made long rows others after later e f same =
+    ap (λ (zs : List Row). map cleared (boardOf zs)) e ∙ ap (map cleared) (board-of rows (Made (boardOf rows)) (long (boardOf rows))) ∙ same ∙ sym (ap (map cleared) (board-of others (Made (boardOf others)) (long (boardOf others))))
+    ∙ sym (ap (λ (zs : List Row). map cleared (boardOf zs)) f)
+
+enrol-length : (settings address : ℕ) (board : List Row) → length (enrolRows board settings address) ≡ length board
+unfolding enrolRows
+enrol-length settings address board = pick-length (eqb (enrolNumber board settings address) 0) (set board (placeFree board) (newRow settings address)) board (length-set board (placeFree board) (newRow settings address))
+
+remove-length : (address : ℕ) (board : List Row) → length (removeRows board address) ≡ length board
+unfolding removeRows
+remove-length address board = pick-length (eqb (findNumber board address) 0) (set board (placeOf address board) freeRow) board (length-set board (placeOf address board) freeRow)
+
+pub hear-length : (minute address count : ℕ) (reply : List ℕ) (board : List Row) → length (hearRows board minute address count reply) ≡ length board
+unfolding hearRows
+hear-length minute address count reply board = go (eqb (hearNumber board address count reply) 0) (setsFault (hearNumber board address count reply))
+  where
+    go : (s t : Bool) → length (pick s (set board (placeOf address board) (withReading (heardAt (rowOf address board) minute) (readingAt (rowOf address board .settings) count (line reply)) minute)) (pick t (set board (placeOf address board) (withFault (heardAt (rowOf address board) minute) (hearNumber board address count reply) (hearPlace board address count reply))) board)) ≡ length board
+    go true t = length-set board _ _
+    go false true = length-set board _ _
+    go false false = refl
+
+pub board-free : BoardFree
+board-free =
+    record {
+      enrol = λ rows others after later settings address a b same e f. (
+        e .answers ∙ same-enrol (boardOf rows) (boardOf others) same address settings ∙ sym (f .answers),
+        after-alike (λ board. enrolRows board settings address) (enrol-length settings address) rows others after later (e .leaves) (f .leaves) (enrol-alike (boardOf rows) (boardOf others) same address settings),
+      );
+      hear = λ rows others after later minute address count reply a b same e f. (
+        e .answers
+            ∙ ap (λ (n : ℕ). heardAs n (hearPlace (boardOf rows) address count reply)) (same-hear (boardOf rows) (boardOf others) same address minute count reply)
+            ∙ ap (heardAs (hearNumber (boardOf others) address count reply)) (same-named (boardOf rows) (boardOf others) same address minute count reply)
+            ∙ sym (f .answers),
+        after-alike (λ board. hearRows board minute address count reply) (hear-length minute address count reply) rows others after later (e .leaves) (f .leaves) (hear-alike (boardOf rows) (boardOf others) same address minute count reply),
+      );
+      remove = λ rows others after later address a b same e f. (
+        e .answers ∙ same-find (boardOf rows) (boardOf others) same address ∙ sym (f .answers),
+        after-alike (λ board. removeRows board address) (remove-length address) rows others after later (e .leaves) (f .leaves) (remove-alike (boardOf rows) (boardOf others) same address),
+      );
+      look-up = λ rows others address a b same e f. e .answers ∙ same-looked (boardOf rows) (boardOf others) same address ∙ sym (f .answers);
+    }

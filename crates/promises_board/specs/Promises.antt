@@ -1,0 +1,17 @@
+-- All that is promised of the board.
+use Rattle.promises_board.specs.Calls.{BoardCalls, BoardCases, BoardOneOutcome}
+use Rattle.promises_board.specs.Readings.{BoardReadings}
+use Rattle.promises_board.specs.History.{BoardHistory}
+use Rattle.promises_board.specs.Since.{BoardSince}
+use Rattle.promises_board.specs.Free.{BoardFree}
+use Rattle.promises_board.specs.View.{BoardView}
+
+pub record BoardPromises : Type 0 where
+  pub calls : BoardCalls
+  pub cases : BoardCases
+  pub one-outcome : BoardOneOutcome
+  pub readings : BoardReadings
+  pub history : BoardHistory
+  pub since : BoardSince
+  pub free : BoardFree
+  pub view : BoardView
