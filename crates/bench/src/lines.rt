@@ -1,5 +1,5 @@
 // The bench checks of polls and replies.
-use crate::print;
+use crate::shown;
 use frame::Reading;
 use frame::Temperature;
 use frame::Written;
@@ -24,11 +24,11 @@ pub(crate) fn temperature(settings: u8, tenths: i16) {
         &mut out,
     ) {
         Written::Bytes(_) => {
-            print::temperature_bits(&out);
+            shown::temperature_bits(&out);
             print::words(b" reads as ");
-            print::reply(frame::read_reply(settings, 7, 56, &out));
+            shown::reply(frame::read_reply(settings, 7, 56, &out));
         }
-        Written::Refused(n) => print::fault(n),
+        Written::Refused(n) => shown::fault(n),
     }
 }
 
@@ -37,7 +37,7 @@ pub(crate) fn count(bits: usize, bytes: &[u8]) {
     print::words(b"count ");
     print::number(bits as u64);
     print::words(b": ");
-    print::reply(frame::read_reply(1, 7, bits, bytes));
+    shown::reply(frame::read_reply(1, 7, bits, bytes));
 }
 
 // A poll of this address, and a reply asked of it.
@@ -53,13 +53,13 @@ pub(crate) fn address(asked: u16, reply: &[u8]) {
         }
         Written::Refused(n) => {
             print::words(b" ");
-            print::fault(n);
+            shown::fault(n);
         }
     }
     print::words(b"address ");
     print::number(asked as u64);
     print::words(b": reply ");
-    print::reply(frame::read_reply(1, asked, 40, reply));
+    shown::reply(frame::read_reply(1, asked, 40, reply));
 }
 
 // Reads these bytes as a reply of 40 bits in this mode, two digits at a time.
@@ -67,7 +67,7 @@ fn by_pairs(mode: u8, reply: &[u8]) {
     print::words(b"by pairs, mode ");
     print::number(mode as u64);
     print::words(b": ");
-    print::reply(frame::read_reply_by_pairs(mode, 7, 40, reply));
+    shown::reply(frame::read_reply_by_pairs(mode, 7, 40, reply));
 }
 
 // The second reader on levels that turn, on a digit in no chart at each place, and on both ends of a range.

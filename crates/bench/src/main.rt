@@ -1,6 +1,6 @@
 // Runs the bench checks of document 01 that are not proved as one table, through the public calls, and prints what each call answered.
 mod lines;
-mod print;
+mod shown;
 mod slots;
 mod steps;
 
@@ -17,7 +17,7 @@ fn main() {
     lines::temperature(5, -1000);
     let good: &[u8] = b"\x80\x0e\x50\x00\x00";
     print::words(b"last byte 01: ");
-    print::reply(frame::read_reply(1, 7, 40, b"\x80\x0e\x50\x00\x01"));
+    shown::reply(frame::read_reply(1, 7, 40, b"\x80\x0e\x50\x00\x01"));
     lines::count(0, &good[..0]);
     lines::count(39, good);
     lines::count(40, good);

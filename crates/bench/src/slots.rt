@@ -1,5 +1,5 @@
 // The bench checks of the sheet.
-use crate::print;
+use crate::shown;
 use frame::Written;
 use sheet::Found;
 use sheet::Saved;
@@ -17,7 +17,7 @@ fn found(f: Found) {
             print::number(head.address as u64);
             print::words(b"\n");
         }
-        Found::Refused(n) => print::fault(n),
+        Found::Refused(n) => shown::fault(n),
     }
 }
 
@@ -39,7 +39,7 @@ pub(crate) fn save(sheet: &mut [u8], allowance: usize) {
             print::number(n as u64);
             print::words(b" stores:");
         }
-        Saved::Refused(n) => print::fault(n),
+        Saved::Refused(n) => shown::fault(n),
     }
     print::bytes(sheet);
     print::words(b"\n");
@@ -62,6 +62,6 @@ fn listed(sheet: &[u8]) {
     let mut out = [0u8; 200];
     match listing::whole_listing(sheet, &mut out) {
         Written::Bytes(k) => print::front(&out, k),
-        Written::Refused(n) => print::fault(n),
+        Written::Refused(n) => shown::fault(n),
     }
 }

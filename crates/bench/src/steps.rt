@@ -1,5 +1,5 @@
 // Neighbouring levels: a reply of each from address 7 in even parity, and which of bits 16 to 37 differ.
-use crate::print;
+use crate::shown;
 use frame::Reading;
 use frame::Temperature;
 use frame::Written;
@@ -19,13 +19,13 @@ fn reply(mode: u8, level: u16, temperature: Temperature, out: &mut [u8]) {
     };
     match frame::write_reply(mode, 7, reading, out) {
         Written::Bytes(_) => print::bytes(out),
-        Written::Refused(n) => print::fault(n),
+        Written::Refused(n) => shown::fault(n),
     }
 }
 
 // Prints the number of a bit that differs.
 fn compare(one: &[u8], next: &[u8], i: usize) {
-    if print::mark_at(one, i) != print::mark_at(next, i) {
+    if shown::mark_at(one, i) != shown::mark_at(next, i) {
         print::words(b" ");
         print::number(i as u64);
     }

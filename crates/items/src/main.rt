@@ -1,6 +1,5 @@
 // Item records as a person at the gauge's line would see them: a request and its answer, each kind both ways, and what is refused. The vectors of
 // document 002 and the edges of request 13 are among them; `stdout` holds what each call has to answer.
-mod print;
 mod show;
 mod vectors;
 

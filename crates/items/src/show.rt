@@ -1,5 +1,4 @@
 // An item record shown: the bytes that it is written as, and what they read as.
-use crate::print;
 use enraf::ItemTold;
 
 fn fault(number: u8) {
@@ -20,6 +19,11 @@ fn kind(kind: u8) {
     }
 }
 
+// The first k characters of an item's data.
+fn data(characters: [u8; 16], k: usize) {
+    print::front(&characters, k);
+}
+
 // What an accepted record tells, in words.
 fn told(t: ItemTold) {
     let letters = [t.first, t.second];
@@ -33,7 +37,7 @@ fn told(t: ItemTold) {
     kind(t.kind);
     if t.length != 0 {
         print::words(b" \"");
-        print::characters(characters, t.length as usize);
+        data(characters, t.length as usize);
         print::words(b"\"");
     }
     if t.kind == 6 {

@@ -1,21 +1,15 @@
 // What the program says.
+use libc::STDOUT_FILENO;
 use lines::LinesTold;
 use lines::SoFar;
 
-const OUT: i32 = 1;
-
 pub(crate) fn title(text: &[u8]) {
-    io::write_all(OUT, text);
+    print::words(text);
 }
 
 fn after(text: &[u8], n: u64) {
-    io::write_all(OUT, text);
-    io::print_decimal(OUT, n);
-}
-
-fn byte(b: u8) {
-    io::write_all(OUT, b" ");
-    io::print_hex(OUT, b as u64, 2);
+    print::words(text);
+    print::number(n);
 }
 
 // The bytes of a message.
@@ -27,7 +21,7 @@ fn message(told: LinesTold) {
         if bits <= 8 * i {
             return;
         }
-        byte(bytes[i]);
+        print::byte(bytes[i]);
         i += 1;
     }
 }
@@ -39,31 +33,31 @@ pub(crate) fn told(told: LinesTold) {
         return;
     }
     if told.count == 0 {
-        io::write_all(OUT, b"nothing");
+        print::words(b"nothing");
         return;
     }
     after(b"", told.count as u64);
     if told.count == 1 {
-        io::write_all(OUT, b" bit:");
+        print::words(b" bit:");
     } else {
-        io::write_all(OUT, b" bits:");
+        print::words(b" bits:");
     }
     message(told);
 }
 
 pub(crate) fn state(s: SoFar) {
-    io::write_all(OUT, b"; ");
-    io::print_hex(OUT, s.bits, 16);
+    print::words(b"; ");
+    io::print_hex(STDOUT_FILENO, s.bits, 16);
     after(b" ", s.run as u64);
     after(b" ", s.count as u64);
     after(b" ", s.line as u64);
     after(b" ", s.fault as u64);
-    io::write_all(OUT, b"\n");
+    print::words(b"\n");
 }
 
 pub(crate) fn taken(n: usize) {
     after(b", after ", n as u64);
-    io::write_all(OUT, b" samples\n");
+    print::words(b" samples\n");
 }
 
 pub(crate) fn taken_of(n: usize, all: usize) {
@@ -75,5 +69,5 @@ pub(crate) fn numbers(least: usize, most: usize, gap: usize) {
     after(b"", least as u64);
     after(b" ", most as u64);
     after(b" ", gap as u64);
-    io::write_all(OUT, b": ");
+    print::words(b": ");
 }

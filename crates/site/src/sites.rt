@@ -1,5 +1,5 @@
 // The sites that are shown. A transmitter is feet times 65,536 and tenths of an ohm.
-use crate::print;
+use crate::plans;
 
 fn one(feet: u32, tenths: u32) -> u32 {
     (feet % 65536) * 65536 + tenths % 65536
@@ -8,7 +8,7 @@ fn one(feet: u32, tenths: u32) -> u32 {
 fn named(name: &[u8], site: &[u32]) {
     print::words(name);
     print::words(b":");
-    print::plan(site);
+    plans::plan(site);
 }
 
 pub(crate) fn small() {
@@ -44,9 +44,9 @@ pub(crate) fn alike() {
 
 fn draw(site: &[u32], plan: &[u8]) {
     print::words(b"[");
-    print::bytes(plan);
+    plans::bytes(plan);
     print::words(b" ]:");
-    print::verdict(areas::sisal_check_areas(site, plan));
+    plans::verdict(areas::sisal_check_areas(site, plan));
     print::words(b"\n");
 }
 

@@ -1,12 +1,12 @@
--- `site::print::checked` is safe: the part that is checked has the length asked for. Assumes nothing.
+-- `site::plans::checked` is safe: the part that is checked has the length asked for. Assumes nothing.
 use mathlib.Core.Path.{sym}
 use Prim.Native.Nat.{_≤_}
 use native.Mathlib.Omega.{arith}
 use lib.ListN.{length}
 use lib.Seq.{length-take-le}
 use borrow.Author.Needs.{needs}
-use Rattle.site.proofs.print.checked.Statement.{statement}
-use Rattle.site.proofs.print.checked.Tie as tie
+use Rattle.site.proofs.plans.checked.Statement.{statement}
+use Rattle.site.proofs.plans.checked.Tie as tie
 
 array-share-prefix-sizes : tie.Need-array-share-prefix-sizes
 array-share-prefix-sizes c = search needs

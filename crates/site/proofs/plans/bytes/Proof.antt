@@ -1,9 +1,9 @@
--- `site::print::bytes` is safe and ends: the index stays within the bytes. Assumes nothing.
+-- `site::plans::bytes` is safe and ends: the index stays within the bytes. Assumes nothing.
 use Prim.Native.Nat.{_≤_, _-_}
 use native.Mathlib.Omega.{arith}
 use lib.ListN.{length}
-use Rattle.site.proofs.print.bytes.Statement.{statement}
-use Rattle.site.proofs.print.bytes.Tie as tie
+use Rattle.site.proofs.plans.bytes.Statement.{statement}
+use Rattle.site.proofs.plans.bytes.Tie as tie
 
 abbrev Inv-loop : tie.InvT-loop
 Inv-loop s i₀ i = i ≤ length s

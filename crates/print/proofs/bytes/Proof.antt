@@ -1,9 +1,9 @@
--- `items::print::bytes` is safe and ends: the index stays within the bytes. Assumes nothing.
+-- `print::bytes` is safe and ends: the index stays within the bytes. Assumes nothing.
 use Prim.Native.Nat.{_≤_, _-_}
 use native.Mathlib.Omega.{arith}
 use lib.ListN.{length}
-use Rattle.items.proofs.print.bytes.Statement.{statement}
-use Rattle.items.proofs.print.bytes.Tie as tie
+use Rattle.print.proofs.bytes.Statement.{statement}
+use Rattle.print.proofs.bytes.Tie as tie
 
 abbrev Inv-loop : tie.InvT-loop
 Inv-loop s i₀ i = i ≤ length s

@@ -1,9 +1,9 @@
--- `items::print::front_bytes` is safe: the part that is printed has the length asked for. Assumes nothing.
+-- `print::front_bytes` is safe: the part that is printed has the length asked for. Assumes nothing.
 use mathlib.Core.Path.{sym}
 use lib.Seq.{length-take-le}
 use borrow.Author.Needs.{needs}
-use Rattle.items.proofs.print.front_bytes.Statement.{statement}
-use Rattle.items.proofs.print.front_bytes.Tie as tie
+use Rattle.print.proofs.front_bytes.Statement.{statement}
+use Rattle.print.proofs.front_bytes.Tie as tie
 
 slice-aggregate-bytes : tie.Need-slice-aggregate-bytes
 slice-aggregate-bytes c = sym (length-take-le _ _ (c .before .if1 .taken))

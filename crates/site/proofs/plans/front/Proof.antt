@@ -1,12 +1,12 @@
--- `site::print::front` is safe: the part that is printed has the length asked for. Assumes nothing.
+-- `site::plans::front` is safe: the part that is printed has the length asked for. Assumes nothing.
 use mathlib.Core.Path.{sym}
 use Prim.Native.Nat.{_≤_}
 use native.Mathlib.Omega.{arith}
 use lib.ListN.{length}
 use lib.Seq.{length-take-le}
 use borrow.Author.Needs.{needs}
-use Rattle.site.proofs.print.front.Statement.{statement}
-use Rattle.site.proofs.print.front.Tie as tie
+use Rattle.site.proofs.plans.front.Statement.{statement}
+use Rattle.site.proofs.plans.front.Tie as tie
 
 slice-aggregate-words : tie.Need-slice-aggregate-words
 slice-aggregate-words c = search needs

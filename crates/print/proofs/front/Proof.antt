@@ -1,15 +1,18 @@
--- `bench::print::front` is safe: the part that is written has the length asked for. Assumes nothing.
+-- `print::front` is safe: the part that is written has the length asked for. Assumes nothing.
 use mathlib.Core.Path.{sym}
 use lib.Seq.{length-take-le}
 use borrow.Author.Needs.{needs}
-use Rattle.bench.proofs.print.front.Statement.{statement}
-use Rattle.bench.proofs.print.front.Tie as tie
+use Rattle.print.proofs.front.Statement.{statement}
+use Rattle.print.proofs.front.Tie as tie
 
 slice-aggregate-words : tie.Need-slice-aggregate-words
 slice-aggregate-words c = sym (length-take-le _ _ (c .before .if1 .taken))
 
 words-requires : tie.Need-words-requires
 words-requires c κs = search needs
+
+words-requires-2 : tie.Need-words-requires-2
+words-requires-2 c κs = search needs
 
 returns : tie.Need-returns
 returns c = search needs
@@ -18,4 +21,5 @@ returns-2 : tie.Need-returns-2
 returns-2 c = search needs
 
 pub front-spec : {M : Type 1} → statement M
-front-spec = tie.close (tie.spec slice-aggregate-words words-requires returns returns-2)
+front-spec =
+    tie.close (tie.spec slice-aggregate-words words-requires words-requires-2 returns returns-2)

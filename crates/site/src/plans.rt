@@ -1,17 +1,7 @@
-// What the program prints with: words, numbers, transmitters and plans.
-const OUT: i32 = 1;
-
-pub(crate) fn words(text: &[u8]) {
-    io::write_all(OUT, text);
-}
-
-pub(crate) fn number(n: u64) {
-    io::print_decimal(OUT, n);
-}
-
+// What the program shows: plans, and what the checker says of them.
 fn size(n: u8) {
-    words(b" ");
-    number(n as u64);
+    print::words(b" ");
+    print::number(n as u64);
 }
 
 // The numbers of a plan, each after a space.
@@ -26,7 +16,7 @@ pub(crate) fn bytes(s: &[u8]) {
 // The first k of them, or all where there are fewer.
 fn front(sizes: [u8; 8], k: usize) {
     if k == 0 {
-        words(b" no areas");
+        print::words(b" no areas");
     }
     if k <= 8 {
         bytes(&sizes[..k]);
@@ -36,8 +26,8 @@ fn front(sizes: [u8; 8], k: usize) {
 }
 
 fn fault(n: u8) {
-    words(b" fault ");
-    number(n as u64);
+    print::words(b" fault ");
+    print::number(n as u64);
 }
 
 // A proposed plan, and what the checker says of it.
@@ -49,10 +39,10 @@ pub(crate) fn plan(site: &[u32]) {
         fault(p.number);
     } else {
         front(sizes, areas);
-        words(b", checked:");
+        print::words(b", checked:");
         checked(site, sizes, areas);
     }
-    words(b"\n");
+    print::words(b"\n");
 }
 
 fn checked(site: &[u32], sizes: [u8; 8], k: usize) {
@@ -63,7 +53,7 @@ fn checked(site: &[u32], sizes: [u8; 8], k: usize) {
 
 pub(crate) fn verdict(n: u8) {
     if n == 0 {
-        words(b" accepted");
+        print::words(b" accepted");
     } else {
         fault(n);
     }
