@@ -2,8 +2,11 @@
 //! once over the traits of the calls and runs on every core, on the independent reading here and
 //! on the proved library in its own tests.
 
+pub mod areas;
 pub mod digits;
+pub mod items;
 pub mod joins;
+pub mod lines;
 pub mod since;
 pub mod summaries;
 
@@ -170,6 +173,56 @@ macro_rules! tests_on {
         #[test]
         fn two_lists_joined_and_end_to_end() {
             $crate::vectors::joins::end_to_end(&$core);
+        }
+
+        #[test]
+        fn messages_heard_in_parts() {
+            $crate::vectors::lines::messages(&$core);
+        }
+
+        #[test]
+        fn messages_spoiled() {
+            $crate::vectors::lines::spoiled(&$core);
+        }
+
+        #[test]
+        fn sixty_four_bits_and_one_more() {
+            $crate::vectors::lines::sixty_fifth_bit(&$core);
+        }
+
+        #[test]
+        fn a_state_that_no_call_leaves() {
+            $crate::vectors::lines::strange_state(&$core);
+        }
+
+        #[test]
+        fn the_bench_reply_drawn() {
+            $crate::vectors::lines::bench_reply(&$core);
+        }
+
+        #[test]
+        fn item_records_both_ways() {
+            $crate::vectors::items::both_ways(&$core);
+        }
+
+        #[test]
+        fn item_records_refused() {
+            $crate::vectors::items::refused_records(&$core);
+        }
+
+        #[test]
+        fn items_not_written() {
+            $crate::vectors::items::refused_writes(&$core);
+        }
+
+        #[test]
+        fn plans_proposed() {
+            $crate::vectors::areas::plans(&$core);
+        }
+
+        #[test]
+        fn plans_drawn_by_a_fitter() {
+            $crate::vectors::areas::drawn(&$core);
         }
     };
 }
