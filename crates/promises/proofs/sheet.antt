@@ -7,6 +7,7 @@ pub mod Fates
 -- The promises.
 pub mod OneSave
 pub mod ListAndFull
+pub mod SlotsInOrder
 pub mod LookAndList
 pub mod FirstFault
 pub mod OneOutcome

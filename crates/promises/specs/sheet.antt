@@ -2,6 +2,7 @@
 pub mod History
 pub mod ListAndFull
 pub mod OneSave
+pub mod SlotsInOrder
 pub mod LookAndList
 pub mod FirstFault
 pub mod OneOutcome

@@ -2,6 +2,7 @@
 use Rattle.promises.specs.sheet.DemandThree.{DemandThree}
 use Rattle.promises.proofs.sheet.ListAndFull.{list-and-full}
 use Rattle.promises.proofs.sheet.OneSave.{one-save}
+use Rattle.promises.proofs.sheet.SlotsInOrder.{slots-in-order}
 use Rattle.promises.proofs.sheet.LookAndList.{look-and-list}
 use Rattle.promises.proofs.sheet.FirstFault.{sheet-fault}
 use Rattle.promises.proofs.sheet.OneOutcome.{sheet-outcome}
@@ -11,6 +12,7 @@ demand-three =
     record {
       list-and-full = list-and-full;
       one-save = one-save;
+      slots-in-order = slots-in-order;
       look-and-list = look-and-list;
       first-fault = sheet-fault;
       one-outcome = sheet-outcome;

@@ -156,7 +156,7 @@ take-replicate zero m h = refl
 take-replicate (suc n) zero h = absurd (omega arith)
 take-replicate (suc n) (suc m) h = ap (λ (l : List ℕ). FF ∷ l) (take-replicate n m (omega arith))
 
-blank-slots : (n : ℕ) → BlankFrom (blankSheet n) 0 n
+pub blank-slots : (n : ℕ) → BlankFrom (blankSheet n) 0 n
 blank-slots n k from below =
     ap (λ (x : List ℕ). allBlank (take 32 x)) (drop-replicate (32 * k) (32 * n)) ∙ ap allBlank (take-replicate 32 (32 * n - 32 * k) (omega arith))
     ∙ blank-row 32
@@ -198,10 +198,10 @@ module _ (n : ℕ) (few : n ≤ 2048) where
   long-blank : length (blankSheet n) ≡ 32 * n
   long-blank = length-replicate (32 * n) FF
 
-  slots-of : (s : List ℕ) → length s ≡ 32 * n → slots s ≡ n
+  pub slots-of : (s : List ℕ) → length s ≡ 32 * n → slots s ≡ n
   slots-of s e = ap (λ (k : ℕ). k / 32) e ∙ (omega arith)
 
-  next-first : next (blankSheet n) ≡ 0
+  pub next-first : next (blankSheet n) ≡ 0
   next-first = ap (nextUpTo (blankSheet n)) (slots-of (blankSheet n) long-blank) ∙ next-zero (blankSheet n) n (blank-slots n)
 
   list-empty : listOf (blankSheet n) ≡ []
@@ -209,7 +209,7 @@ module _ (n : ℕ) (few : n ≤ 2048) where
   list-empty = ap (listUpTo (blankSheet n)) (slots-of (blankSheet n) long-blank) ∙ list-blank (blankSheet n) 0 n (omega arith) (blank-slots n)
 
   module _ (h : List Save) (s : List ℕ) (hist : History (blankSheet n) h s) where
-    long-so : length s ≡ 32 * n
+    pub long-so : length s ≡ 32 * n
     long-so = long hist ∙ long-blank
 
     sized : sizeAllowed s ≡ true

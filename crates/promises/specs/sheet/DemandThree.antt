@@ -1,6 +1,7 @@
 -- Demand 3 whole: each promise, by the name that it has in its own file.
 use Rattle.promises.specs.sheet.ListAndFull.{ListAndFull}
 use Rattle.promises.specs.sheet.OneSave.{OneSave}
+use Rattle.promises.specs.sheet.SlotsInOrder.{SlotsInOrder}
 use Rattle.promises.specs.sheet.LookAndList.{LookAndList}
 use Rattle.promises.specs.sheet.FirstFault.{SheetFault}
 use Rattle.promises.specs.sheet.OneOutcome.{SheetOutcome}
@@ -8,6 +9,7 @@ use Rattle.promises.specs.sheet.OneOutcome.{SheetOutcome}
 pub record DemandThree : Type 0 where
   pub list-and-full : ListAndFull
   pub one-save : OneSave
+  pub slots-in-order : SlotsInOrder
   pub look-and-list : LookAndList
   pub first-fault : SheetFault
   pub one-outcome : SheetOutcome
