@@ -212,7 +212,7 @@ module _ (n : ℕ) (few : n ≤ 2048) where
     pub long-so : length s ≡ 32 * n
     long-so = long hist ∙ long-blank
 
-    sized : sizeAllowed s ≡ true
+    pub sized : sizeAllowed s ≡ true
     sized = sized-as n s few long-so
 
     used : next s ≡ closedIn h + brokenIn h

@@ -4,9 +4,9 @@ use mathlib.Core.Path.{_≡_, refl, sym, ap, _∙_}
 use mathlib.Core.Logic.{_≢_}
 use mathlib.Core.Bool.{Bool, true, false}
 use mathlib.Core.List.{List, [], _∷_, _++_, append-nil}
-use Prim.Native.Nat.{ℕ, zero, suc, _+_, _<_, _≤_}
+use Prim.Native.Nat.{ℕ, _+_, _<_, _≤_}
 use native.Mathlib.Omega.{arith}
-use borrow.Author.Tests.{eq-eqb, ne-eqb, eqb-true, eqb-false, lt-ltb, le-ltb}
+use borrow.Author.Tests.{eq-eqb, ne-eqb, eqb-true, eqb-false, lt-ltb}
 use lib.Dec.{eqb, ltb}
 use lib.ListN.{length, getD, length-append, List·getD-eq-default, List·getD-append}
 use lib.Seq.{getD-at}
@@ -15,7 +15,7 @@ use Rattle.sheet.specs.Bytes.{allBlank}
 use Rattle.sheet.specs.Slots.{Slot, blank, spoiled, holds, slots, slotAt, slotOf, next}
 use Rattle.sheet.specs.Save.{storesMade}
 use Rattle.promises_frame.proofs.Cases.{by-lt}
-use Rattle.promises.specs.sheet.History.{Save, Takes, History, begun, saved, SheetAfter, blankSheet, allStores}
+use Rattle.promises.specs.sheet.History.{Save, Takes, History, begun, saved, blankSheet, allStores}
 use Rattle.promises.specs.sheet.SlotsInOrder.{hasSlot, slotOfSave, slotsOfSaves, SlotsInOrder}
 use Rattle.promises.proofs.sheet.LastUsedSlot.{next-le}
 use Rattle.promises.proofs.sheet.SaveMade as made-law

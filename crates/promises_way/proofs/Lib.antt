@@ -1,0 +1,9 @@
+-- The proofs of the whole way: bits and the bytes that hold them; what the lines tell; a recording taken apart; records on a sheet; the listing by slots.
+pub mod Messages
+pub mod Told
+pub mod Parts
+pub mod Rows
+pub mod Listed
+-- The promises.
+pub mod Damaged
+pub mod WireToListing
