@@ -225,6 +225,38 @@ fn lines() {
 }
 
 #[test]
+fn way() {
+    use Misheard::*;
+    const WAY: &[&str] = &["way, wire to listing, right"];
+    Account {
+        checks: compare::way::checks,
+        mirrored: compare::way::checks,
+        core: |mistake| Damaged(mistake.unwrap_or(Nothing)),
+        found_by: &[
+            (RefusesEverySave, WAY),
+            (SavesNothing, WAY),
+            (FeignsAllButFirst, WAY),
+            (LengthFirst, WAY),
+            (FullTooEarly, WAY),
+            (SpoiledCalledForeign, WAY),
+            (FaultyNotCounted, WAY),
+            (NoLastLine, WAY),
+            (Mishears(MarkAndSpaceSwapped), WAY),
+            (Mishears(BitsFromTheLowest), WAY),
+            (Mishears(ClosesOneSampleLate), WAY),
+            (Mishears(ReportedTwice), WAY),
+            (Mishears(IdleForgottenAtEntry), WAY),
+            (Mishears(PulseEndsWithTheBatch), WAY),
+            (Mishears(OneSampleMoreTaken), WAY),
+            (Mishears(OneBothLowForgiven), WAY),
+            (Mishears(ChangeOfLineEndsPulse), WAY),
+            (Mishears(LongestPulseRefused), WAY),
+        ],
+    }
+    .settle();
+}
+
+#[test]
 fn items() {
     use Mistold::*;
     const SHORT: &str = "items, all short texts";

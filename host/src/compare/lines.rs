@@ -43,7 +43,7 @@ fn hear<L: Lines, R: Lines>(
 }
 
 /// Samples as runs, for a difference to be read.
-fn in_runs(samples: &[u8]) -> String {
+pub(super) fn in_runs(samples: &[u8]) -> String {
     let runs = samples.chunk_by(|one, next| one == next);
     let words: Vec<String> = runs
         .map(|run| format!("{}x{}", run[0], run.len()))
@@ -53,11 +53,11 @@ fn in_runs(samples: &[u8]) -> String {
 
 /// What a stream came to: each thing told with the samples taken of the whole stream until then,
 /// and the state at the end.
-type Outcome = (Vec<(usize, LinesTold)>, SoFar);
+pub(super) type Outcome = (Vec<(usize, LinesTold)>, SoFar);
 
 /// Hears a whole stream, handed over in batches that end where `ends` says; what a call does not
 /// take is handed over again.
-fn in_batches(
+pub(super) fn in_batches(
     start: SoFar,
     ends: &[usize],
     mut hear: impl FnMut(SoFar, usize, usize) -> Result<LinesTold, Difference>,

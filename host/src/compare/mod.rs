@@ -15,6 +15,7 @@ pub mod lines;
 pub mod rounds;
 pub mod sheets;
 pub mod summaries;
+pub mod way;
 
 use crate::calls::Core;
 use crate::random::SEED;
@@ -64,6 +65,8 @@ pub struct Plan {
     /// Rounds of any kind, and as many that are cut after every store.
     pub rounds: usize,
     pub cut_rounds: usize,
+    /// Months of replies, from the lines to the listing.
+    pub months: usize,
 }
 
 impl Plan {
@@ -89,6 +92,7 @@ impl Plan {
             joins: 15_000,
             rounds: 100_000,
             cut_rounds: 10_000,
+            months: 20_000,
         }
     }
 
@@ -114,6 +118,7 @@ impl Plan {
             joins: 10_000,
             rounds: 10_000,
             cut_rounds: 2_000,
+            months: 200,
         }
     }
 }

@@ -181,6 +181,11 @@ impl Drawn {
 
     fn message(&mut self, random: &mut Random, times: PulseTimes) {
         let bits = bits(random, times);
+        self.message_of(random, times, bits);
+    }
+
+    /// A message of these bits.
+    pub fn message_of(&mut self, random: &mut Random, times: PulseTimes, bits: Vec<bool>) {
         for &mark in &bits {
             self.pulse(random, times, mark);
         }
@@ -189,11 +194,18 @@ impl Drawn {
 
     /// A message with damage in it, anything between two gaps.
     fn spoiled(&mut self, random: &mut Random, times: PulseTimes) {
+        let before = match times.gap {
+            1 => Vec::new(),
+            _ => bits(random, times),
+        };
+        self.spoiled_after(random, times, before);
+    }
+
+    /// The same after these bits, of which a gap of 1 allows none.
+    pub fn spoiled_after(&mut self, random: &mut Random, times: PulseTimes, before: Vec<bool>) {
         let can_go_on = times.gap > 1;
-        if can_go_on {
-            for mark in bits(random, times) {
-                self.pulse(random, times, mark);
-            }
+        for mark in before {
+            self.pulse(random, times, mark);
         }
         let mut number = self.damage(random, times);
         while can_go_on && !random.one_in(3) {

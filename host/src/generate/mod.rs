@@ -9,6 +9,7 @@ mod replies;
 mod rounds;
 mod sheets;
 mod summaries;
+mod way;
 
 pub use areas::{fitters_plan, site};
 pub use boards::{board_call, rows, BoardCall};
@@ -21,6 +22,7 @@ pub use sheets::{
     allowance, hostile_sheet, hostile_slot, month, record_bytes, save_case, SaveCase,
 };
 pub use summaries::{handed_in, pair_save, pairs, summarised_sheet, summary};
+pub use way::{reply_times, sayable, sent, Came, Sent};
 
 use crate::random::Random;
 use crate::types::LARGEST_ADDRESS;

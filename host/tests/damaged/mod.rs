@@ -7,7 +7,10 @@ pub mod lines;
 pub mod rounds;
 pub mod summaries;
 
+use lines::{Listener, Misheard};
+use sisalcove_host::calls::Lines;
 use sisalcove_host::reading::{board, IndependentReading};
+use sisalcove_host::types::lines::{LinesTold, PulseTimes, SoFar};
 use sisalcove_host::types::{BLANK, SLOT};
 use sisalcove_host::{
     Answer, Core, Entry, Fault, Poll, Reading, Record, Row, Slot, Standing, Temperature,
@@ -69,6 +72,8 @@ pub enum Damage {
     RemovalKeepsAddress,
     UnknownBeforeForm,
     SettingsOfRowNotAsked,
+    /// A mistake of the lines, where a core is to hear, save and list.
+    Mishears(Misheard),
 }
 
 use Damage::*;
@@ -440,5 +445,15 @@ impl Core for Damaged {
 
     fn says(&self, row: &Row) -> Row {
         *row
+    }
+}
+
+impl Lines for Damaged {
+    fn hear_lines(&self, so_far: SoFar, times: PulseTimes, samples: &[u8]) -> LinesTold {
+        let mistake = match self.0 {
+            Mishears(mistake) => Some(mistake),
+            _ => None,
+        };
+        Listener(mistake).hear_lines(so_far, times, samples)
     }
 }
