@@ -1,13 +1,18 @@
 /*
  * A small host over libsisalcove.a: a month at a depot with two made-up transmitters. Twice a day it polls both, hears each reply from
  * samples of the two lines, saves it on the card and lets the board hear it. One reply is damaged on the line, one does not come, one is
- * spoiled by a spike and asked for again, once the power fails in the middle of a save, and once right after its last store. At the end it prints the listing of the card and how the transmitters stand on the board.
+ * spoiled by a spike and asked for again, once the power fails in the middle of a save, and once right after its last store. At the end
+ * it prints the listing of the card and how the transmitters stand on the board.
+ *
+ * It is the promise "from the wire to the listing" run once: beside the card it keeps what the listing is to say, from what the
+ * transmitters said and where the power went alone, and compares the two at the end.
  * examples/desk.c is a day of the board's own calls.
  *
  * ./build-library && examples/run
  */
 #include "sisalcove.h"
 
+#include <stdarg.h>
 #include <stdio.h>
 #include <stdlib.h>
 #include <string.h>
@@ -32,10 +37,11 @@ static const struct transmitter site[] = {
 
 enum { TRANSMITTERS = sizeof site / sizeof site[0], DAYS = 31 };
 
-/* What comes back on the line. */
+/* What comes back on the line, and what the listing is to say of it after the address. */
 struct line {
     uint8_t bytes[SISAL_REPLY_MOST_BYTES];
     size_t count; /* bits */
+    char says[32];
 };
 
 static size_t bytes_of(const struct line *line) { return (line->count + 7) / 8; }
@@ -49,18 +55,24 @@ static void want(int holds, const char *what)
     }
 }
 
-/* A transmitter answers a poll of its own address, and no other. */
+/* A transmitter answers a poll of its own address, and no other. An 1800 says "above" where it is warmer than it can tell. */
 static struct line answer(const struct transmitter *t, const uint8_t poll[SISAL_POLL_BYTES], int day, int dusk)
 {
-    struct line line = {{0}, 0};
+    struct line line = {{0}, 0, "fault 1"};
     struct sisal_poll asked = sisal_read_poll(poll, SISAL_POLL_BYTES);
     if (asked.number == SISAL_OK && asked.address == t->address) {
         uint16_t level = (uint16_t)(t->level - day * t->a_day);
         int16_t tenths = (int16_t)(t->tenths + (dusk ? t->by_dusk : 0));
+        int above = (t->settings & SISAL_TYPE_1800) && tenths > 1999;
         uint8_t low = level < 1500;
-        struct sisal_done sent = sisal_write_reply(t->settings, t->address, level, SISAL_KIND_DEGREES, tenths, 0, low, line.bytes, sizeof line.bytes);
+        uint8_t kind = above ? SISAL_KIND_ABOVE : SISAL_KIND_DEGREES;
+        struct sisal_done sent = sisal_write_reply(t->settings, t->address, level, kind, tenths, 0, low, line.bytes, sizeof line.bytes);
         want(sent.number == SISAL_OK, "no reply");
         line.count = 8 * sent.count;
+        if (above)
+            snprintf(line.says, sizeof line.says, "%u above 0 %u", level, low);
+        else
+            snprintf(line.says, sizeof line.says, "%u %d 0 %u", level, tenths, low);
     }
     return line;
 }
@@ -102,7 +114,7 @@ static uint8_t hear(const struct sampled *lines, struct line *line)
 {
     struct sisal_lines_so_far so_far = {0, 0, 0, 0, 0};
     size_t batch = 1;
-    memset(line, 0, sizeof *line);
+    line->count = 0;
     for (size_t at = 0; at < lines->count;) {
         size_t have = batch < lines->count - at ? batch : lines->count - at;
         struct sisal_lines_told told = sisal_hear_lines(so_far, LEAST, MOST, GAP, lines->samples + at, have);
@@ -138,12 +150,17 @@ static struct line ask(const struct transmitter *t, uint32_t minute, int day, in
     uint8_t poll[SISAL_POLL_BYTES];
     want(sisal_write_poll(t->address, 0, 0, poll, sizeof poll).number == SISAL_OK, "no poll");
     struct line sent = answer(t, poll, day, dusk);
-    if (t->address == 310 && day == 4 && dusk)
-        sent.bytes[2] ^= 0x10; /* a bit turned over by the transmitter */
-    if (t->address == 7 && day == 11 && !dusk)
+    if (t->address == 310 && day == 4 && dusk) {
+        sent.bytes[2] ^= 0x10; /* a bit turned over by the transmitter: no reading any more */
+        strcpy(sent.says, "fault 5");
+    }
+    if (t->address == 7 && day == 11 && !dusk) {
         sent.count = 0; /* nothing came */
+        strcpy(sent.says, "fault 1");
+    }
 
-    struct line line;
+    struct line line = {{0}, 0, ""};
+    memcpy(line.says, sent.says, sizeof line.says);
     struct sampled lines = sample(&sent, t->address == 310 && day == 20 && !dusk);
     uint8_t number = hear(&lines, &line);
     if (number != SISAL_OK) {
@@ -154,9 +171,24 @@ static struct line ask(const struct transmitter *t, uint32_t minute, int day, in
     return line;
 }
 
+/* What the listing is to be: the card is not looked at for it. */
+static char expected[SISAL_LISTING_BYTES(SISAL_SHEET_BYTES)];
+static size_t expected_bytes;
+static unsigned slots, records;
+
+static void expect(const char *format, ...)
+{
+    va_list values;
+    va_start(values, format);
+    int put = vsnprintf(expected + expected_bytes, sizeof expected - expected_bytes, format, values);
+    va_end(values);
+    want(put > 0, "nothing to expect");
+    expected_bytes += (size_t)put;
+}
+
 /*
  * Polls one transmitter and saves what came, with power for so many stores; then the board hears it, if the power held. A save is cut
- * where it made fewer stores than its record has: power for just so many is enough to close the record.
+ * where it may make fewer stores than its record has: power for just so many is enough to close the record.
  */
 static void poll_one(const struct transmitter *t, int day, int dusk, size_t stores)
 {
@@ -164,8 +196,14 @@ static void poll_one(const struct transmitter *t, int day, int dusk, size_t stor
     struct line line = ask(t, minute, day, dusk);
     struct sisal_done saved = sisal_save(card, sizeof card, t->settings, minute, t->address, line.count, line.bytes, bytes_of(&line), stores);
     want(saved.number == SISAL_OK, "not saved");
+    int cut = stores < SISAL_STORES(bytes_of(&line));
+    if (cut)
+        expect("%u spoiled\n", slots);
+    else
+        expect("%u %u %u %s\n", slots, minute, t->address, line.says);
+    slots++;
+    records += !cut;
     if (stores != SISAL_ALL_STORES) {
-        int cut = saved.count < SISAL_STORES(bytes_of(&line));
         printf("minute %u: power gone after %zu stores, %s\n", minute, saved.count, cut ? "a record is lost" : "the record is closed");
         power_on();
         return;
@@ -213,6 +251,16 @@ static void print_listing(void)
     print_line(sisal_last_line(card, sizeof card, line, sizeof line), line);
 }
 
+/* The whole listing at once, held to what was expected. */
+static void compare_listing(void)
+{
+    static uint8_t listing[SISAL_LISTING_BYTES(SISAL_SHEET_BYTES)];
+    struct sisal_done written = sisal_listing(card, sizeof card, listing, sizeof listing);
+    want(written.number == SISAL_OK, "no listing");
+    want(written.count == expected_bytes && memcmp(listing, expected, expected_bytes) == 0, "the listing is another than the readings");
+    printf("the listing is the one made from the readings\n");
+}
+
 static void print_board(void)
 {
     for (int i = 0; i < TRANSMITTERS; i++) {
@@ -236,8 +284,11 @@ int main(void)
     want(sisal_version() == SISAL_VERSION, "the archive belongs to another header");
     memset(card, 0xff, sizeof card);
     power_on();
+    expect("sheet %zu\n", sizeof card / SISAL_SLOT_BYTES);
     month();
+    expect("records %u\n", records);
     print_listing();
+    compare_listing();
     print_board();
     return 0;
 }
