@@ -21,10 +21,10 @@ use Rattle.promises_frame.proofs.Parity.{parity-kept}
 use Rattle.promises_lines.proofs.Runs.{runs}
 use Rattle.promises.specs.listing.Calls.{Wrote}
 use Rattle.promises.proofs.listing.Written.{wrote}
-use Rattle.promises_way.specs.Wire.{Sent, Message, Answer, message, report, answerOf, wireOf}
+use Rattle.promises_way.specs.Wire.{Sent, Message, Answer, message, report, polledFor, answerOf, wireOf}
 use Rattle.promises_way.specs.Expected.{Known, listingFor}
 use Rattle.promises_way.specs.Damaged.{knownMessage, knownOf, DamagedOnTheWay}
-use Rattle.promises_way.proofs.Told.{pollFor, told-by-wire}
+use Rattle.promises_way.proofs.Told.{told-by-wire}
 use Rattle.promises_way.proofs.Parts.{Order, Stored, orderOf, ordersOf, same-orders, recorded}
 use Rattle.promises_way.proofs.Listed.{knownOrder, listed-as}
 
@@ -46,7 +46,7 @@ known-all : (xs : List Answer) → map knownOrder (ordersOf xs) ≡ knownOf xs
 unfolding knownOf
 known-all [] = refl
 known-all (message m ∷ xs) = ap₂ (λ (a : Known) (l : List Known). a ∷ l) (known-message m) (known-all xs)
-known-all (report q number ∷ xs) = known-all xs
+known-all (report q number some ∷ xs) = known-all xs
 
 -- The listing of a sheet on which the records of answers were stored.
 listing-of : (n : ℕ) → n ≤ 2048 → (ys : List Answer) (sheet : List ℕ) → Stored n (ordersOf ys) sheet → (listing : List ℕ) → Wrote (WritesListing sheet) listing
@@ -80,8 +80,8 @@ pub damaged-on-the-way : DamagedOnTheWay
 damaged-on-the-way =
     record {
       listed = λ t fine n few xs still s sheet r listing w.
-          let k = recorded t fine n (wireOf xs ++ replicate still 0) (map pollFor xs) s sheet r in
-          let same = same-orders (k .answers) xs (k .said-so ∙ told-by-wire t fine xs still (k .told) s (k .heard)) (k .polled) in
+          let k = recorded t fine n (wireOf xs ++ replicate still 0) (map polledFor (map answerOf xs)) s sheet r in
+          let same = same-orders (k .answers) (map answerOf xs) (k .said-so ∙ told-by-wire t fine xs still (k .told) s (k .heard)) (k .polled) in
           listing-of n few (map answerOf xs) sheet (subst (λ (os : List Order). Stored n os sheet) same (k .stores)) listing w;
       whatever = λ t fine n few rs apart samples e polls s sheet r listing w.
           let k = recorded t fine n samples polls s sheet r in
@@ -91,5 +91,6 @@ damaged-on-the-way =
             polled = k .polled;
             listed = listing-of n few (k .answers) sheet (k .stores) listing w;
           };
+      fixed = λ xs ys e q. sym (known-all xs) ∙ ap (map knownOrder) (same-orders xs ys e q) ∙ known-all ys;
       one-bit = λ t x. one-fault x;
     }

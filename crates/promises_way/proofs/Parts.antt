@@ -25,9 +25,9 @@ use Rattle.promises_lines.specs.Form.{bytesIn}
 use Rattle.promises_lines.proofs.Form.{form}
 use Rattle.promises.specs.sheet.History.{blankSheet}
 use Rattle.promises_way.specs.Recording.{Polled, entryFor, Recording, begun, silence, lost, kept}
-use Rattle.promises_way.specs.Wire.{Message, Answer, message, report, polledFor, saidBy, Came, bits, spoilt, answerOf}
+use Rattle.promises_way.specs.Wire.{Message, Answer, message, report, polledFor, saidBy}
 use Rattle.promises_way.proofs.Messages.{bits-long, same-bytes, handed-bytes, handed-bits, no-bits, no-number}
-use Rattle.promises_way.proofs.Told.{saidFor, pollFor, reported, some-bit, tells-number, tells-bits, tells-nothing}
+use Rattle.promises_way.proofs.Told.{reported, tells-number, tells-bits, tells-nothing}
 
 -- A record to be saved.
 pub record Order : Type 0 where
@@ -64,6 +64,7 @@ record Good (i : Item) : Type 0 where
   are-bytes : AreBytes (bytesIn (i .answer))
   in-form : (i .answer .count ≡ 0 → ⊥) → formed (i .answer .count) (bytesIn (i .answer)) ≡ true
   unnumbered : (i .answer .count ≡ 0 → ⊥) → i .answer .number ≡ 0
+  numbered : i .answer .count ≡ 0 → i .answer .number ≡ 0 → ⊥
 
 abbrev AllGood : List Item → Type 0
 AllGood [] = 0 ≤ 0
@@ -90,12 +91,14 @@ record Parts (t : Timing) (n : ℕ) (samples : List ℕ) (polls : List Polled) (
   saves : Stored n (ordersIn items) sheet
 
 module _ (t : Timing) (fine : badTiming t ≡ false) (n : ℕ) where
-  item-good : (s : SoFar) (batch : List ℕ) (a : LinesTold) (q : Polled) → HearsLines s (t .least) (t .most) (t .gap) batch a → Good (record { polled = q; answer = a })
-  item-good s batch a q c =
+  item-good : (s : SoFar) (batch : List ℕ) (a : LinesTold) (q : Polled) → HearsLines s (t .least) (t .most) (t .gap) batch a
+      → (a .count ≡ 0 → a .number ≡ 0 → ⊥) → Good (record { polled = q; answer = a })
+  item-good s batch a q c told =
       record {
         are-bytes = handed-bytes s (t .least) (t .most) (t .gap) batch a c;
         in-form = λ some. form .formed s (t .least) (t .most) (t .gap) batch a fine c some .2;
         unnumbered = no-number s t batch a fine c;
+        numbered = told;
       }
 
   module _ {samples : List ℕ} {polls : List Polled} {s : SoFar} {sheet : List ℕ} (p : Parts t n samples polls s sheet) (batch : List ℕ) (a : LinesTold)
@@ -111,16 +114,16 @@ module _ (t : Timing) (fine : badTiming t ≡ false) (n : ℕ) where
           saves = p .saves;
         }
 
-    more-told : (q : Polled) (after : List ℕ) → tellings a ≡ said a ∷ [] → Stored n (ordersIn (p .items) ++ orderIn (record { polled = q; answer = a })) after
+    more-told : (q : Polled) (after : List ℕ) → tellings a ≡ said a ∷ [] → (a .count ≡ 0 → a .number ≡ 0 → ⊥) → Stored n (ordersIn (p .items) ++ orderIn (record { polled = q; answer = a })) after
         → Parts t n (samples ++ take (a .taken) batch) (polls ++ q ∷ []) (a .«so_far») after
-    more-told q after e st =
+    more-told q after e told st =
         let i : Item = record { polled = q; answer = a } in
         record {
           items = p .items ++ i ∷ [];
           heard = subst (λ (ts : List Said). History t atRest (samples ++ take (a .taken) batch) ts (a .«so_far»))
               (ap (λ (ts : List Said). map itemSaid (p .items) ++ ts) e ∙ sym (map-more itemSaid (p .items) i)) (called batch a (p .heard) c);
           polled = map-more itemPoll (p .items) i ∙ ap (λ (l : List Polled). l ++ q ∷ []) (p .polled);
-          good = good-more (p .items) i (p .good) (item-good s batch a q c);
+          good = good-more (p .items) i (p .good) (item-good s batch a q c told);
           saves = subst (λ (os : List Order). Stored n os after) (sym (orders-more (p .items) i)) st;
         }
 
@@ -130,15 +133,15 @@ module _ (t : Timing) (fine : badTiming t ≡ false) (n : ℕ) where
   parts (lost {s = s} {sheet = sheet} batch a q r c h) =
       let p = parts r in
       let none : orderIn (record { polled = q; answer = a }) ≡ [] = rw (eq-eqb (a .count) 0 (no-bits s t batch a fine c h)) in
-      more-told p batch a c q sheet (tells-number a h)
+      more-told p batch a c q sheet (tells-number a h) (λ z. h)
       (subst (λ (os : List Order). Stored n os sheet) (sym (ap (λ (l : List Order). ordersIn (p .items) ++ l) none ∙ append-nil (ordersIn (p .items)))) (p .saves))
   parts (kept {s = s} batch a q answer after r c h m) =
       let p = parts r in
       let o : Order = record { polled = q; count = a .count; bytes = bytesIn a } in
       let one : orderIn (record { polled = q; answer = a }) ≡ o ∷ [] = rw (ne-eqb (a .count) 0 h) in
-      more-told p batch a c q after (tells-bits a (no-number s t batch a fine c h) h)
+      more-told p batch a c q after (tells-bits a (no-number s t batch a fine c h) h) (λ z e. h z)
       (subst (λ (os : List Order). Stored n (ordersIn (p .items) ++ os) after) (sym one)
-      (stored o answer after (p .saves) (item-good s batch a q c .in-form h) m))
+      (stored o answer after (p .saves) (item-good s batch a q c (λ z e. h z) .in-form h) m))
 
 -- The records that answers give.
 abbrev pub orderOf : Message → Order
@@ -147,7 +150,7 @@ orderOf m = record { polled = m .polled; count = m .count; bytes = m .bytes }
 abbrev pub ordersOf : List Answer → List Order
 ordersOf [] = []
 ordersOf (message m ∷ xs) = orderOf m ∷ ordersOf xs
-ordersOf (report q number ∷ xs) = ordersOf xs
+ordersOf (report q number some ∷ xs) = ordersOf xs
 
 -- An item is an answer: a message where it has a bit, else a report.
 record Answered (is : List Item) : Type 0 where
@@ -176,7 +179,7 @@ answered-by (i ∷ is) g = go (eqb (i .answer .count) 0) refl (answered-by is (g
     go true e r =
         let none : i .answer .count ≡ 0 = eqb-true (i .answer .count) 0 e in
         record {
-          answers = report (i .polled) (i .answer .number) ∷ r .answers;
+          answers = report (i .polled) (i .answer .number) (g .0 .numbered none) ∷ r .answers;
           said-so = λ k. sym (reported (i .answer) none) k ∷ r .said-so k;
           polls = ap (λ (l : List Polled). i .polled ∷ l) (r .polls);
           orders = ap (λ (b : Bool). pick b [] (record { polled = i .polled; count = i .answer .count; bytes = bytesIn (i .answer) } ∷ []) ++ ordersIn is) e ∙ r .orders;
@@ -203,21 +206,18 @@ same-order m x e q =
     (ap (λ (k : ℕ). bitsOf k (m .bytes)) (sym count) ∙ e) in
     λ k. record { polled = q k; count = count k; bytes = same k }
 
--- Answers that tell what came are of the same records.
-pub same-orders : {t : Timing} (ys : List Answer) (xs : List (Came t)) → map saidBy ys ≡ map saidFor xs → map polledFor ys ≡ map pollFor xs → ordersOf ys ≡ ordersOf (map answerOf xs)
+-- Answers that tell the same for the same polls are of the same records.
+pub same-orders : (xs ys : List Answer) → map saidBy xs ≡ map saidBy ys → map polledFor xs ≡ map polledFor ys → ordersOf xs ≡ ordersOf ys
 same-orders [] [] e q = refl
-same-orders [] (x ∷ xs) e q = absurd (nil≢cons e)
-same-orders (a ∷ ys) [] e q = absurd (cons≢nil e)
-same-orders (message m ∷ ys) (bits x ∷ xs) e q =
-    let first = same-order m (x .message) (ap (λ (s : Said). s .bits) (head-eq-of-cons-eq e)) (head-eq-of-cons-eq q) in
-    let others = same-orders ys xs (tail-eq-of-cons-eq e) (tail-eq-of-cons-eq q) in
+same-orders [] (y ∷ ys) e q = absurd (nil≢cons e)
+same-orders (x ∷ xs) [] e q = absurd (cons≢nil e)
+same-orders (message m ∷ xs) (message x ∷ ys) e q =
+    let first = same-order m x (ap (λ (s : Said). s .bits) (head-eq-of-cons-eq e)) (head-eq-of-cons-eq q) in
+    let others = same-orders xs ys (tail-eq-of-cons-eq e) (tail-eq-of-cons-eq q) in
     λ k. first k ∷ others k
-same-orders (message m ∷ ys) (spoilt x ∷ xs) e q = absurd (x .number (sym (ap (λ (s : Said). s .number) (head-eq-of-cons-eq e))))
-same-orders (report p number ∷ ys) (bits x ∷ xs) e q =
-    let none : 0 ≡ x .message .count
-    = ap (λ (s : Said). length (s .bits)) (head-eq-of-cons-eq e) ∙ bits-long (x .message .count) (x .message .bytes) in
-    absurd (omega (arith, some-bit x))
-same-orders (report p number ∷ ys) (spoilt x ∷ xs) e q = same-orders ys xs (tail-eq-of-cons-eq e) (tail-eq-of-cons-eq q)
+same-orders (message m ∷ xs) (report p number some ∷ ys) e q = absurd (some (sym (ap (λ (s : Said). s .number) (head-eq-of-cons-eq e))))
+same-orders (report p number some ∷ xs) (message x ∷ ys) e q = absurd (some (ap (λ (s : Said). s .number) (head-eq-of-cons-eq e)))
+same-orders (report p number some ∷ xs) (report r other more ∷ ys) e q = same-orders xs ys (tail-eq-of-cons-eq e) (tail-eq-of-cons-eq q)
 
 -- What a recording comes to: the lines told answers, and their records were stored.
 pub record Recorded (t : Timing) (n : ℕ) (samples : List ℕ) (polls : List Polled) (s : SoFar) (sheet : List ℕ) : Type 0 where

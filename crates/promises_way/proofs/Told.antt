@@ -28,15 +28,11 @@ use Rattle.promises_lines.proofs.Runs.{rest-idle}
 use Rattle.promises_lines.proofs.States.{begun-again, every-state}
 use Rattle.promises_lines.proofs.Batches.{batches}
 use Rattle.promises_lines.proofs.Drawn.{drawn-then-heard}
-use Rattle.promises_way.specs.Recording.{Polled}
-use Rattle.promises_way.specs.Wire.{Drawing, samplesOf, polledFor, saidBy, Bits, Spoilt, Came, bits, spoilt, answerOf, carried, wireOf}
+use Rattle.promises_way.specs.Wire.{Drawing, samplesOf, saidBy, Bits, Spoilt, Came, bits, spoilt, answerOf, carried, wireOf}
 use Rattle.promises_way.proofs.Messages.{bits-long, no-bits}
 
-abbrev pub saidFor : {t : Timing} → Came t → Said
+abbrev saidFor : {t : Timing} → Came t → Said
 saidFor x = saidBy (answerOf x)
-
-abbrev pub pollFor : {t : Timing} → Came t → Polled
-pollFor x = polledFor (answerOf x)
 
 -- A call that tells a number or bits tells them once.
 pub tells-number : (a : LinesTold) → (a .number ≡ 0 → ⊥) → tellings a ≡ said a ∷ []
@@ -167,7 +163,7 @@ module _ (t : Timing) (fine : badTiming t ≡ false) where
       subst (λ (z : SoFar). History t atRest ys us z) e
       (subst (λ (z : List Said). History t atRest ys z s) q (subst (λ (z : List ℕ). History t atRest z ts s) p h))
 
-  chain : (xs : List (Came t)) {pre : List ℕ} {told : List Said} → History t atRest pre told atRest → History t atRest (pre ++ wireOf xs) (told ++ map saidFor xs) atRest
+  chain : (xs : List (Came t)) {pre : List ℕ} {told : List Said} → History t atRest pre told atRest → History t atRest (pre ++ wireOf xs) (told ++ map saidBy (map answerOf xs)) atRest
   unfolding wireOf
   chain [] {pre} {told} h = moved (sym (append-nil pre)) (sym (append-nil told)) refl h
   chain (x ∷ xs) {pre} {told} h =
@@ -175,17 +171,17 @@ module _ (t : Timing) (fine : badTiming t ≡ false) where
       let one : History t atRest (pre ++ carried x) (told ++ saidFor x ∷ []) atRest
       = moved (ap (λ (l : List ℕ). pre ++ l) (take-all (c .answer .taken) (carried x) (omega (arith, c .took)))) (ap (λ (l : List Said). told ++ l) (c .tells)) (c .at-rest)
       (called (carried x) (c .answer) h (c .hears)) in
-      moved (append-assoc pre (carried x) (wireOf xs)) (append-assoc told (saidFor x ∷ []) (map saidFor xs)) refl (chain xs one)
+      moved (append-assoc pre (carried x) (wireOf xs)) (append-assoc told (saidFor x ∷ []) (map saidBy (map answerOf xs))) refl (chain xs one)
 
-  whole : (xs : List (Came t)) (still : ℕ) → History t atRest (wireOf xs ++ replicate still 0) (map saidFor xs) atRest
+  whole : (xs : List (Came t)) (still : ℕ) → History t atRest (wireOf xs ++ replicate still 0) (map saidBy (map answerOf xs)) atRest
   whole xs still =
       let e = idle-heard still in
       moved
       (ap (λ (l : List ℕ). wireOf xs ++ l)
       (ap (λ (a : LinesTold). take (a .taken) (replicate still 0)) e ∙ take-all still (replicate still 0) (omega (arith, length-replicate {A = ℕ} still 0))))
-      (ap (λ (a : LinesTold). map saidFor xs ++ tellings a) e ∙ append-nil (map saidFor xs)) (ap (λ (a : LinesTold). a .«so_far») e)
+      (ap (λ (a : LinesTold). map saidBy (map answerOf xs) ++ tellings a) e ∙ append-nil (map saidBy (map answerOf xs))) (ap (λ (a : LinesTold). a .«so_far») e)
       (called (replicate still 0) (answerTo (replicate still 0)) (chain xs begun) (answers (replicate still 0)))
 
-  pub told-by-wire : (xs : List (Came t)) (still : ℕ) (told : List Said) (end : SoFar) → History t atRest (wireOf xs ++ replicate still 0) told end → told ≡ map saidFor xs
+  pub told-by-wire : (xs : List (Came t)) (still : ℕ) (told : List Said) (end : SoFar) → History t atRest (wireOf xs ++ replicate still 0) told end → told ≡ map saidBy (map answerOf xs)
   told-by-wire xs still told end h =
-      batches .same t atRest fine (every-state .beginning) (wireOf xs ++ replicate still 0) told (map saidFor xs) end atRest h (whole xs still) .0
+      batches .same t atRest fine (every-state .beginning) (wireOf xs ++ replicate still 0) told (map saidBy (map answerOf xs)) end atRest h (whole xs still) .0

@@ -22,11 +22,11 @@ use Rattle.promises_frame.proofs.WrittenThenRead.{left-first}
 use Rattle.promises_lines.specs.Form.{bytesIn}
 use Rattle.promises.proofs.sheet.OneOutcome.{sheet-outcome}
 use Rattle.promises_way.specs.Recording.{Polled, entryFor, Recording, begun, kept}
-use Rattle.promises_way.specs.Wire.{Sent, Bits, Came, bits, samplesOf, wire, answerOf, wireOf}
+use Rattle.promises_way.specs.Wire.{Sent, Bits, Came, bits, samplesOf, wire, polledFor, answerOf, wireOf}
 use Rattle.promises_way.specs.Expected.{Known, listingFor}
 use Rattle.promises_way.specs.Damaged.{knownOf}
 use Rattle.promises_way.specs.WireToListing.{known, WireToListing}
-use Rattle.promises_way.proofs.Told.{pollFor, call-bits, some-told}
+use Rattle.promises_way.proofs.Told.{call-bits, some-told}
 use Rattle.promises_way.proofs.Damaged.{sent-bytes, sent-reads, damaged-on-the-way}
 
 -- A reply of 40 or 56 bits fills its 5 or 7 bytes.
@@ -74,7 +74,7 @@ unfolding wire wireOf
 same-wire [] = refl
 same-wire (x ∷ xs) = ap (λ (l : List ℕ). samplesOf (x .drawing) ++ l) (same-wire xs)
 
-same-polls : {t : Timing} (xs : List (Sent t)) → map (λ x. x .polled) xs ≡ map pollFor (undamaged xs)
+same-polls : {t : Timing} (xs : List (Sent t)) → map (λ x. x .polled) xs ≡ map polledFor (map answerOf (undamaged xs))
 same-polls [] = refl
 same-polls (x ∷ xs) = ap (λ (l : List Polled). x .polled ∷ l) (same-polls xs)
 

@@ -36,7 +36,7 @@ knownMessage m =
 unfoldable pub knownOf : List Answer → List Known
 knownOf [] = []
 knownOf (message m ∷ xs) = knownMessage m ∷ knownOf xs
-knownOf (report q number ∷ xs) = knownOf xs
+knownOf (report q number some ∷ xs) = knownOf xs
 
 -- Answers that the lines told by these words, for these polls, and of which the listing is made.
 pub record ListedFor (told : List Said) (polls : List Polled) (n : ℕ) (listing : List ℕ) : Type 0 where
@@ -48,7 +48,7 @@ pub record ListedFor (told : List Said) (polls : List Polled) (n : ℕ) (listing
 pub record DamagedOnTheWay : Type 0 where
   -- Any messages and any spoiled ones.
   pub listed : (t : Timing) → badTiming t ≡ false → (n : ℕ) → n ≤ 2048 → (xs : List (Came t)) (still : ℕ) (s : SoFar) (sheet : List ℕ)
-      → Recording t n (wireOf xs ++ replicate still 0) (map (λ x. polledFor (answerOf x)) xs) s sheet
+      → Recording t n (wireOf xs ++ replicate still 0) (map polledFor (map answerOf xs)) s sheet
       → (listing : List ℕ) → Wrote (WritesListing sheet) listing
       → listing ≡ listingFor n (knownOf (map answerOf xs))
   -- Any samples at all: as runs they tell messages and reports, in the paper's own words, and the listing is made of just these.
@@ -57,6 +57,8 @@ pub record DamagedOnTheWay : Type 0 where
       → (polls : List Polled) (s : SoFar) (sheet : List ℕ) → Recording t n samples polls s sheet
       → (listing : List ℕ) → Wrote (WritesListing sheet) listing
       → ListedFor (byRuns t [] runs) polls n listing
+  -- What was told and what was asked fix what is listed: there are no other answers that a listing could be made of.
+  pub fixed : (xs ys : List Answer) → map saidBy xs ≡ map saidBy ys → map polledFor xs ≡ map polledFor ys → knownOf xs ≡ knownOf ys
   -- One bit of a reply changed.
   pub one-bit : (t : Timing) (x : Sent t) (other : List ℕ) → AreBytes other → (j : ℕ) → OneWrong (x .bytes) other (countFor (x .reading)) j
       → (says : Reply) → ReadsReply (x .polled .settings) (x .polled .address) (countFor (x .reading)) other says

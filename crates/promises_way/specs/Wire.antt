@@ -61,15 +61,15 @@ pub record Message : Type 0 where
 -- What comes for a poll, damaged or not: a message, or a report of a spoiled one, by its number.
 pub data Answer : Type 0 where
   message : Message → Answer
-  report : Polled → (number : ℕ) → Answer
+  report : Polled → (number : ℕ) → (number ≡ 0 → ⊥) → Answer
 
 abbrev pub polledFor : Answer → Polled
 polledFor (message m) = m .polled
-polledFor (report q number) = q
+polledFor (report q number some) = q
 
 abbrev pub saidBy : Answer → Said
 saidBy (message m) = record { number = 0; bits = bitsOf (m .count) (m .bytes) }
-saidBy (report q number) = record { number = number; bits = [] }
+saidBy (report q number some) = record { number = number; bits = [] }
 
 -- How it came over the lines: the bits were drawn within the timing; or samples came at whose end the lines tell of a spoiled message.
 pub record Bits (t : Timing) : Type 0 where
@@ -91,7 +91,7 @@ pub data Came (t : Timing) : Type 0 where
 
 abbrev pub answerOf : {t : Timing} → Came t → Answer
 answerOf (bits x) = message (x .message)
-answerOf (spoilt x) = report (x .polled) (x .told .number)
+answerOf (spoilt x) = report (x .polled) (x .told .number) (x .number)
 
 abbrev pub carried : {t : Timing} → Came t → List ℕ
 carried (bits x) = samplesOf (x .drawing)
