@@ -9,7 +9,7 @@ use Rattle.frame.specs.declared.Reply.the-variants.{Read, Refused, Unreadable}
 use Rattle.frame.specs.Temperature.{isAbsent}
 use Rattle.frame.specs.Reply.{ReadsReply, replyOf, countFor, sizeFor, replyLine}
 use Rattle.listing.specs.Text.{ascii, decimal}
-use Rattle.listing.specs.Lines.{replyText, listingOf}
+use Rattle.listing.specs.Lines.{listingOf}
 use Rattle.listing.specs.Calls.{WritesListing}
 use Rattle.lines.specs.Timing.{Timing}
 use Rattle.promises_frame.specs.Bits.{AreBytes}
@@ -23,7 +23,7 @@ use Rattle.promises.specs.listing.Calls.{Wrote}
 use Rattle.promises.proofs.listing.Written.{wrote}
 use Rattle.promises_way.specs.Wire.{Sent, Message, Answer, message, report, polledFor, answerOf, wireOf}
 use Rattle.promises_way.specs.Expected.{Known, listingFor}
-use Rattle.promises_way.specs.Damaged.{knownMessage, knownOf, DamagedOnTheWay}
+use Rattle.promises_way.specs.Damaged.{knownMessage, knownOf, SaysFault, DamagedOnTheWay}
 use Rattle.promises_way.proofs.Told.{told-by-wire}
 use Rattle.promises_way.proofs.Parts.{Order, Stored, orderOf, ordersOf, same-orders, recorded}
 use Rattle.promises_way.proofs.Listed.{knownOrder, listed-as}
@@ -69,7 +69,7 @@ sent-reads x =
 
 one-fault : {t : Timing} (x : Sent t) (other : List ℕ) → AreBytes other → (j : ℕ) → OneWrong (x .bytes) other (countFor (x .reading)) j
     → (says : Reply) → ReadsReply (x .polled .settings) (x .polled .address) (countFor (x .reading)) other says
-    → (rest : List ℕ) × (replyText says ≡ ascii "fault " ++ rest)
+    → SaysFault says
 one-fault x other ok j w (Read q) h =
     absurd
     (parity-kept .one-wrong (x .polled .settings) (x .polled .address) (countFor (x .reading)) (x .bytes) other (sent-bytes x) ok (x .reading) (sent-reads x) j w q h)

@@ -45,6 +45,10 @@ pub record ListedFor (told : List Said) (polls : List Polled) (n : ℕ) (listing
   pub polled : map polledFor answers ≡ polls
   pub listed : listing ≡ listingFor n (knownOf answers)
 
+-- What is listed of a reply begins with "fault".
+abbrev pub SaysFault : Reply → Type 0
+SaysFault says = (rest : List ℕ) × (replyText says ≡ ascii "fault " ++ rest)
+
 pub record DamagedOnTheWay : Type 0 where
   -- Any messages and any spoiled ones.
   pub listed : (t : Timing) → badTiming t ≡ false → (n : ℕ) → n ≤ 2048 → (xs : List (Came t)) (still : ℕ) (s : SoFar) (sheet : List ℕ)
@@ -62,4 +66,4 @@ pub record DamagedOnTheWay : Type 0 where
   -- One bit of a reply changed.
   pub one-bit : (t : Timing) (x : Sent t) (other : List ℕ) → AreBytes other → (j : ℕ) → OneWrong (x .bytes) other (countFor (x .reading)) j
       → (says : Reply) → ReadsReply (x .polled .settings) (x .polled .address) (countFor (x .reading)) other says
-      → (rest : List ℕ) × (replyText says ≡ ascii "fault " ++ rest)
+      → SaysFault says
