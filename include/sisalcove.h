@@ -1,7 +1,7 @@
 /*
  * The core of a tank gauge recorder: polls and replies of the Mark/Space line (Model 1900 and Model 1800), the month sheet, the board
- * of last good readings, the listing of a sheet, the lines heard sample by sample, the desk summary, item records of the 854 gauge,
- * and areas.
+ * of last good readings, the listing of a sheet, the lines heard sample by sample, the desk summary, whole rounds saved, item records of
+ * the 854 gauge, and areas.
  *
  * Link target/libsisalcove.a, which `./build-library` makes. This header wants C11 or C++11, and x86-64 with the System V calling
  * convention, which is all that the archive is compiled for. The archive keeps no state, allocates nothing, never fails otherwise than
@@ -17,8 +17,8 @@
  * written by anybody else while the call runs. Buffers lent to one call for writing overlap nothing else that is lent to it.
  *
  * Some answers have padding (struct sisal_poll, sisal_reply and sisal_item one byte, sisal_slot two, sisal_made three, sisal_lines_told
- * six, sisal_done and sisal_kept seven). It holds anything: compare answers field by field. Rows, summaries and what is heard of the
- * lines so far have none.
+ * six, sisal_done, sisal_kept, sisal_rounded and sisal_rounded_page seven). It holds anything: compare answers field by field. Rows,
+ * summaries, rounds and what is heard of the lines so far have none.
  */
 #ifndef SISALCOVE_H
 #define SISALCOVE_H
@@ -85,6 +85,7 @@ enum sisal_number {
     SISAL_FAULT_TIMING = 20,        /* timing numbers: least above most, or one out of its range */
     SISAL_FAULT_SPOILED = 21,       /* a spoiled message on the lines; it comes with the samples taken */
     SISAL_FAULT_FOREIGN_SAMPLE = 22, /* a spoiled message in which a sample above 3 came; likewise */
+    SISAL_FAULT_ROUND = 23,         /* a round of more than 30 replies */
     SISAL_FAULT_COUNT = 24,         /* a count of a summary is above 1,000,000 */
     SISAL_FAULT_PAIRS = 25,         /* a join has more than 30 pairs, or a side has records of pairs that it does not keep */
     SISAL_FAULT_FRAMING = 29,       /* an item record has under 10 bytes, or STX, B, Z or ETX is not in its place */
@@ -453,6 +454,67 @@ SISAL_ANSWER struct sisal_kept sisal_summary_save(uint8_t *sheet, size_t sheet_b
  * with a blank summary. Refuses 37 in either, 25, 24 in either or in the join; with a blank summary.
  */
 SISAL_ANSWER struct sisal_made sisal_summary_join(struct sisal_summary a, struct sisal_summary b);
+
+/* ---- a whole round in one save --------------------------------------------------------------------------------------------------- */
+
+enum { SISAL_ROUND_REPLIES = 30 };
+
+/*
+ * A reply of a round, as sisal_save takes it: `bytes` says how many of the eight it lends; those behind are not read. More than 8 are out
+ * of form, as more than 64 bits are.
+ */
+struct sisal_polled {
+    uint32_t minute;
+    uint32_t count; /* bits of the reply, 0 for a silent one */
+    uint32_t bytes; /* (count + 7) / 8 */
+    uint16_t address;
+    uint8_t settings;
+    uint8_t unused; /* not read */
+    uint8_t reply[8];
+};
+
+/* A round: its first `count` replies, in the order in which they are saved. */
+struct sisal_round {
+    struct sisal_polled replies[SISAL_ROUND_REPLIES];
+    size_t count;
+};
+
+/* How many replies were closed, the stores made, and the number that stopped the round, 0 where none did. */
+struct sisal_rounded {
+    size_t closed;
+    size_t stores;
+    uint8_t number;
+};
+
+/* The same, with the summary as it then is. */
+struct sisal_rounded_page {
+    struct sisal_summary summary;
+    size_t closed;
+    size_t stores;
+    uint8_t number;
+};
+
+static_assert(sizeof(struct sisal_polled) == 24, "struct sisal_polled");
+static_assert(sizeof(struct sisal_round) == 728, "struct sisal_round");
+static_assert(sizeof(struct sisal_rounded) == 24, "struct sisal_rounded");
+static_assert(sizeof(struct sisal_rounded_page) == 512, "struct sisal_rounded_page");
+
+/*
+ * Saves the replies one by one as sisal_save does, each with what is left of the allowance, up to the first refused one or until no
+ * stores are left. With no stores left the next reply is not tried, so that its refusal is not told. The first `closed` replies are
+ * closed; stores beyond theirs are those of the next one, which was cut. Refuses 23 before all others, with closed and stores 0 and no
+ * byte changed; then 12, 10, 11, 14, 13 of the reply behind the closed ones, which changed nothing: closed and stores are those of the
+ * replies before it.
+ */
+SISAL_ANSWER struct sisal_rounded sisal_save_round(uint8_t *sheet, size_t sheet_bytes, struct sisal_round round, size_t allowance);
+
+/*
+ * The same with a summary, each reply being saved as sisal_summary_save does. Refuses 23 before all others; then 37, 24, 12, 10, 11, 14, 13
+ * of the reply behind the closed ones. The summary is always that of the replies closed so far, beside a refusal too: where none was
+ * closed, the one handed in. So `page = rounded.summary` is always right.
+ */
+SISAL_ANSWER struct sisal_rounded_page sisal_summary_save_round(uint8_t *sheet, size_t sheet_bytes, struct sisal_summary summary,
+                                                                struct sisal_round round, size_t allowance);
 
 /* ---- item records of the 854 gauge on a CIU -------------------------------------------------------------------------------------- */
 

@@ -7,6 +7,7 @@ pub mod digits;
 pub mod items;
 pub mod joins;
 pub mod lines;
+pub mod rounds;
 pub mod since;
 pub mod summaries;
 
@@ -223,6 +224,27 @@ macro_rules! tests_on {
         #[test]
         fn plans_drawn_by_a_fitter() {
             $crate::vectors::areas::drawn(&$core);
+        }
+
+        #[test]
+        fn rounds_and_the_same_one_by_one() {
+            $crate::vectors::rounds::worked(&$core);
+        }
+
+        #[test]
+        fn rounds_with_a_summary() {
+            $crate::vectors::rounds::with_a_summary(&$core);
+        }
+
+        #[test]
+        fn rounds_with_a_summary_that_is_refused() {
+            $crate::vectors::rounds::a_refused_summary(&$core);
+            $crate::vectors::rounds::a_summary_over_on_the_way(&$core);
+        }
+
+        #[test]
+        fn replies_of_a_round_out_of_form() {
+            $crate::vectors::rounds::forms(&$core);
         }
     };
 }

@@ -5,3 +5,5 @@ pub mod sheet
 pub mod listing
 -- The desk summary.
 pub mod summary
+-- A whole round in one save.
+pub mod round

@@ -41,6 +41,7 @@ fn main() -> ExitCode {
     benchmarks.areas(|timing| println!("{timing}"));
     benchmarks.summaries(|timing| println!("{timing}"));
     benchmarks.joins(|timing| println!("{timing}"));
+    benchmarks.rounds(|timing| println!("{timing}"));
     ExitCode::SUCCESS
 }
 

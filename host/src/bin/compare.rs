@@ -31,6 +31,7 @@ fn main() -> ExitCode {
         run(compare::summaries::checks(), left, right, &plan, &only),
         run(compare::joins::checks(), left, right, &plan, &only),
         run(compare::way::checks(), left, right, &plan, &only),
+        run(compare::rounds::checks(), left, right, &plan, &only),
     ];
     let passed: usize = verdicts.iter().map(|(passed, _)| passed).sum();
     let failed: usize = verdicts.iter().map(|(_, failed)| failed).sum();

@@ -9,6 +9,7 @@ mod ffi;
 mod items;
 mod joins;
 mod lines;
+mod rounds;
 mod summaries;
 #[cfg(test)]
 mod tests;

@@ -182,7 +182,7 @@ counts begun = omega arith
 counts (saved {s = s} {t = t} x hist m) = omega (arith, next-step s t x m, counts hist)
 
 -- The list is the closed records.
-records : {from : List ℕ} {h : List Save} {s : List ℕ} (n : ℕ) → n ≤ 2048 → length from ≡ 32 * n → History from h s
+pub records : {from : List ℕ} {h : List Save} {s : List ℕ} (n : ℕ) → n ≤ 2048 → length from ≡ 32 * n → History from h s
     → listOf s ≡ listOf from ++ recordsOf h
 unfolding recordsOf
 records {from} n few e begun = sym (append-nil (listOf from))

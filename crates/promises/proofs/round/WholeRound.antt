@@ -1,0 +1,19 @@
+-- A whole round in one save, whole: each promise is proved in its own file. Assumes nothing.
+use Rattle.promises.specs.round.WholeRound.{WholeRound}
+use Rattle.promises.proofs.round.OneByOne.{one-by-one}
+use Rattle.promises.proofs.round.Told.{told}
+use Rattle.promises.proofs.round.DemandThree.{over-rounds}
+use Rattle.promises.proofs.round.AtAnyMoment.{rounds-at-any-moment}
+use Rattle.promises.proofs.round.Stops.{round-stops}
+use Rattle.promises.proofs.round.OneOutcome.{round-outcome}
+
+pub whole-round : WholeRound
+whole-round =
+    record {
+      one-by-one = one-by-one;
+      told = told;
+      over-rounds = over-rounds;
+      at-any-moment = rounds-at-any-moment;
+      stops = round-stops;
+      one-outcome = round-outcome;
+    }
