@@ -14,5 +14,7 @@ pub mod GoodLevel
 pub mod Shaped
 pub mod RecordAdded
 pub mod PutAll
+pub mod Merging
 pub mod LinesAdded
+pub mod Entering
 pub mod JoinTests

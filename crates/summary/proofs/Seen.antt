@@ -58,15 +58,15 @@ module _ (s : List ℕ) (k : ℕ) (looked : Looked) (size : sizeAllowed s ≡ tr
   seen : Tells (slotOf (slotAt s k)) looked
   seen = rw (looks .answers, look-within s k size near) (tells (slotAt s k))
 
+  pub seen-record : recordTold (looked .found) (looked .reply) ≡ recordIn (slotOf (slotAt s k))
+  seen-record = seen .records
+
   pub seen-bits : (h : Head) → looked .found ≡ Record h → h .count ≤ 64
   seen-bits h e = rw (ap bitsTold e) at (seen .bits)
 
-  -- the list, one slot more, by what was found
-  pub list-more : (f : Found) → looked .found ≡ f → listUpTo s (k + 1) ≡ listUpTo s k ++ recordTold f (looked .reply)
-  list-more f e = one-more ∙ ap (λ (r : List Entry). listUpTo s k ++ r) (sym (seen .records) ∙ ap (λ (g : Found). recordTold g (looked .reply)) e)
-    where
-      one-more : listUpTo s (k + 1) ≡ listUpTo s k ++ recordIn (slotOf (slotAt s k))
-      one-more = unfold listUpTo in ap (listUpTo s) (add-one k)
+-- the list, one slot more
+pub list-more : (s : List ℕ) (k : ℕ) → listUpTo s (k + 1) ≡ listUpTo s k ++ recordIn (slotOf (slotAt s k))
+list-more s k = unfold listUpTo in ap (listUpTo s) (add-one k)
 
 -- a slot holds one record or none
 one-or-none : (t : Slot) → length (recordIn t) ≤ 1

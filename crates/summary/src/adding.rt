@@ -1,22 +1,21 @@
-// A line added to a summary: one pass over its lines, which finds the line's place and moves those behind it on by one.
+// A line added to a summary: its pair is found among the pairs of the lines, and that line alone changes; a new one goes to its place, and those behind it
+// move on by one.
 use crate::Line;
 use crate::Summary;
 use crate::figures::pair_of;
 use crate::figures::together;
 ghost use mathlib.Core.Path.{_≡_};
+ghost use mathlib.Core.Bool.{false};
+ghost use mathlib.Core.List.{map};
 ghost use Prim.Native.Nat.{_+_, _^_, _<_, _≤_};
+ghost use Rattle.summary.specs.Line.{pairOf};
 ghost use Rattle.summary.specs.Handed.{linesOf};
-ghost use Rattle.summary.specs.Updated.{withLine};
-ghost use Rattle.summary.specs.inside.Placed.{placeIn, standsAt, movedOn, Sound, Room, addedTo};
-
-// The summary with a line added, or as it was where the line does not fit.
-pub(crate) struct Added {
-    pub(crate) summary: Summary,
-    pub(crate) fits: bool,
-}
+ghost use Rattle.summary.specs.Updated.{hasLine, withLine};
+ghost use Rattle.summary.specs.inside.Placed.{placeIn, movedOn, Sound, Room};
+ghost use Rattle.summary.specs.inside.Entering.{Finds};
 
 // How many lines stand before the place of a pair.
-pub(crate) fn place(s: Summary, pair: u32) -> usize
+fn place(s: Summary, pair: u32) -> usize
     requires { ⌜ s .count ≤ 30 ⌝ }
     ensures { λ r. ⌜ r ≡ placeIn pair (linesOf s) ⌝ }
 {
@@ -33,17 +32,34 @@ pub(crate) fn place(s: Summary, pair: u32) -> usize
     n
 }
 
-// The used line at a place is that of a pair.
-pub(crate) fn stands_at(s: Summary, at: usize, pair: u32) -> bool
-    requires { ⌜ s .count ≤ 30 ⌝ }
-    ensures { λ r. ⌜ r ≡ standsAt s at pair ⌝ }
+// The pairs of all 30 lines, one number each: what a search goes over, so that it copies no line.
+pub(crate) fn pairs_in(lines: [Line; 30]) -> [u32; 30]
+    ensures { λ r. ⌜ r ≡ map pairOf lines ⌝ }
 {
-    if s.count as usize <= at {
-        return false;
+    let mut pairs = [0u32; 30];
+    let mut i: usize = 0;
+    while i < 30 {
+        let line = lines[i];
+        pairs[i] = pair_of(line);
+        i += 1;
     }
-    let lines = s.lines;
-    let there = lines[at];
-    pair_of(there) == pair
+    pairs
+}
+
+// Where a pair stands among the first of some pairs; 30 where it is none of them.
+pub(crate) fn find(pairs: &[u32; 30], count: u32, pair: u32) -> usize
+    requires { ⌜ count ≤ 30 ⌝ }
+    ensures { λ r. ⌜ Finds (now (pairs .entry)) count pair r ⌝ }
+{
+    let n = count as usize;
+    let mut i: usize = 0;
+    while i < n {
+        if pairs[i] == pair {
+            return i;
+        }
+        i += 1;
+    }
+    30
 }
 
 // A new line at a place, those behind it moved on.
@@ -63,42 +79,21 @@ fn insert(lines: [Line; 30], at: usize, n: usize, line: Line) -> [Line; 30]
     out
 }
 
-// Adds a line: together with the line of its pair, or as a new one while fewer than 30 are used.
-pub(crate) fn add_line(s: Summary, line: Line) -> Added
+// A line of a new pair, while fewer than 30 are used.
+pub(crate) fn with_new_line(s: Summary, line: Line) -> Summary
     requires { ⌜ Sound s ⌝ }
-    requires { ⌜ Room line s ⌝ }
-    ensures { λ r. ⌜ r ≡ addedTo line s ⌝ }
+    requires { ⌜ s .count < 30 ⌝ }
+    requires { ⌜ hasLine (pairOf line) (linesOf s) ≡ false ⌝ }
+    ensures { λ r. ⌜ r ≡ withLine line s ⌝ }
 {
     let n = s.count as usize;
-    let pair = pair_of(line);
-    let at = place(s, pair);
-    let mut lines = s.lines;
-    if stands_at(s, at, pair) {
-        let there = lines[at];
-        lines[at] = together(there, line);
-        return Added {
-            summary: Summary {
-                count: s.count,
-                others: s.others,
-                lines: lines,
-            },
-            fits: true,
-        };
-    }
-    if n < 30 {
-        let moved = insert(lines, at, n, line);
-        return Added {
-            summary: Summary {
-                count: s.count + 1,
-                others: s.others,
-                lines: moved,
-            },
-            fits: true,
-        };
-    }
-    Added {
-        summary: s,
-        fits: false,
+    let lines = s.lines;
+    let at = place(s, pair_of(line));
+    let moved = insert(lines, at, n, line);
+    Summary {
+        count: s.count + 1,
+        others: s.others,
+        lines: moved,
     }
 }
 
@@ -109,15 +104,26 @@ pub(crate) fn with_line(s: Summary, line: Line) -> Summary
     requires { ⌜ s .others + 1 < 2 ^ 32 ⌝ }
     ensures { λ r. ⌜ r ≡ withLine line s ⌝ }
 {
-    let added = add_line(s, line);
-    if added.fits {
-        let summary = added.summary;
-        return summary;
+    let count = s.count;
+    let others = s.others;
+    let mut lines = s.lines;
+    let pairs = pairs_in(lines);
+    let at = find(&pairs, count, pair_of(line));
+    if at < 30 {
+        let there = lines[at];
+        lines[at] = together(there, line);
+        return Summary {
+            count,
+            others,
+            lines,
+        };
     }
-    let lines = s.lines;
-    Summary {
-        count: s.count,
-        others: s.others + 1,
-        lines: lines,
+    if count == 30 {
+        return Summary {
+            count,
+            others: others + 1,
+            lines,
+        };
     }
+    with_new_line(s, line)
 }

@@ -3,9 +3,9 @@ use crate::Line;
 use crate::Summary;
 use crate::figures::pair_of;
 ghost use mathlib.Core.Path.{_≡_};
-ghost use Prim.Native.Nat.{_<_};
-ghost use Rattle.summary.specs.Handed.{isBlank, levelsRight, risesAt, placeRight, countsOver, linesOver, handedFault};
+ghost use Rattle.summary.specs.Handed.{isBlank, levelsRight, countsOver, linesOver, handedFault};
 ghost use Rattle.summary.specs.Handed as said;
+ghost use Rattle.summary.specs.inside.Entering.{rightFrom};
 
 fn is_blank(line: Line) -> bool
     ensures { λ r. ⌜ r ≡ isBlank line ⌝ }
@@ -44,30 +44,14 @@ fn levels_right(line: Line) -> bool
     line.highest != 0xffff
 }
 
-// A line rises above the one before it.
-fn rises_at(s: Summary, i: usize) -> bool
-    requires { ⌜ i < 30 ⌝ }
-    ensures { λ r. ⌜ r ≡ risesAt s i ⌝ }
+// What is asked of the line at a place, whose pair must be at least one number where it is used.
+fn place_right(count: u32, i: usize, least: u64, line: Line) -> bool
+    ensures { λ r. ⌜ r ≡ rightFrom count i least line ⌝ }
 {
-    if i == 0 {
-        return true;
-    }
-    let lines = s.lines;
-    let before = lines[i - 1];
-    let line = lines[i];
-    pair_of(before) < pair_of(line)
-}
-
-fn place_right(s: Summary, i: usize) -> bool
-    requires { ⌜ i < 30 ⌝ }
-    ensures { λ r. ⌜ r ≡ placeRight s i ⌝ }
-{
-    let lines = s.lines;
-    let line = lines[i];
-    if s.count as usize <= i {
+    if count as usize <= i {
         return is_blank(line);
     }
-    if !rises_at(s, i) {
+    if (pair_of(line) as u64) < least {
         return false;
     }
     levels_right(line)
@@ -76,14 +60,19 @@ fn place_right(s: Summary, i: usize) -> bool
 pub(crate) fn misshapen(s: Summary) -> bool
     ensures { λ r. ⌜ r ≡ said.misshapen s ⌝ }
 {
-    if 30 < s.count {
+    let count = s.count;
+    if 30 < count {
         return true;
     }
+    let lines = s.lines;
+    let mut least: u64 = 0;
     let mut i: usize = 0;
     while i < 30 {
-        if !place_right(s, i) {
+        let line = lines[i];
+        if !place_right(count, i, least, line) {
             return true;
         }
+        least = (pair_of(line) as u64) + 1;
         i += 1;
     }
     false

@@ -1,53 +1,72 @@
-// Two summaries put together. How many pairs the join has is counted before anything is added up, since counts that are over could not be summed.
-use crate::Line;
+// Two summaries put together, as two rows of lines that rise are merged: one pass over both. How many pairs the join has is counted before anything is
+// added up, since counts that are over could not be summed.
 use crate::Summary;
-use crate::adding::add_line;
-use crate::adding::place;
-use crate::adding::stands_at;
-use crate::figures::pair_of;
+use crate::adding::pairs_in;
+use crate::blank;
+use crate::figures::together;
 ghost use mathlib.Core.Path.{_≡_};
-ghost use Prim.Native.Nat.{_≤_};
+ghost use Prim.Native.Nat.{_+_, _<_, _≤_};
 ghost use lib.ListN.{length};
-ghost use Rattle.frame.specs.Pick.{pick};
-ghost use Rattle.summary.specs.Line.{page, pairOf};
-ghost use Rattle.summary.specs.Handed.{linesOf};
-ghost use Rattle.summary.specs.Updated.{hasLine};
+ghost use Rattle.summary.specs.Line.{page};
 ghost use Rattle.summary.specs.Joined.{joinLines};
 ghost use Rattle.summary.specs.inside.Placed.{Sound};
-ghost use Rattle.summary.specs.inside.Joining.{Few};
+ghost use Rattle.summary.specs.inside.Joining.{Few, Turn};
 
-// 1 where the pair of a line has no line in a summary, else 0.
-fn missing(s: Summary, line: Line) -> usize
-    requires { ⌜ Sound s ⌝ }
-    ensures { λ r. ⌜ r ≡ pick (hasLine (pairOf line) (linesOf s)) 0 1 ⌝ }
+// Whose line is next, of the first n and the first m of two rows of pairs, from places i and j on: 0 the first row's, 1 the second's, 2 that of both.
+fn turn(a: &[u32; 30], i: usize, n: usize, b: &[u32; 30], j: usize, m: usize) -> u8
+    requires { ⌜ n ≤ 30 ⌝ }
+    requires { ⌜ m ≤ 30 ⌝ }
+    requires { ⌜ i ≤ n ⌝ }
+    requires { ⌜ i + j < n + m ⌝ }
+    ensures { λ r. ⌜ Turn (now (a .entry)) i n (now (b .entry)) j m r ⌝ }
 {
-    let pair = pair_of(line);
-    if stands_at(s, place(s, pair), pair) {
-        0
-    } else {
-        1
+    if m <= j {
+        return 0;
     }
+    if n <= i {
+        return 1;
+    }
+    let first = a[i];
+    let second = b[j];
+    if first < second {
+        return 0;
+    }
+    if second < first { 1 } else { 2 }
 }
 
-// How many pairs two summaries have together: those of the first, and each of the second that the first has not.
+// How many pairs two summaries have together.
 pub(crate) fn count_pairs(a: Summary, b: Summary) -> usize
     requires { ⌜ Sound a ⌝ }
     requires { ⌜ Sound b ⌝ }
     ensures { λ r. ⌜ r ≡ length (joinLines a b) ⌝ }
 {
-    let mut pairs = a.count as usize;
-    let n = b.count as usize;
-    let lines = b.lines;
+    let n = a.count as usize;
+    let m = b.count as usize;
+    let left = a.lines;
+    let right = b.lines;
+    let first = pairs_in(left);
+    let second = pairs_in(right);
     let mut i: usize = 0;
-    while i < n {
-        let line = lines[i];
-        pairs += missing(a, line);
+    let mut j: usize = 0;
+    let mut pairs: usize = 0;
+    while i + j < n + m {
+        let whose = turn(&first, i, n, &second, j, m);
+        pairs += 1;
+        if whose == 0 {
+            i += 1;
+            continue;
+        }
+        if whose == 1 {
+            j += 1;
+            continue;
+        }
         i += 1;
+        j += 1;
     }
     pairs
 }
 
-// Adds the lines of the second summary to the first, one after another.
+// The lines of both, merged.
 pub(crate) fn add_lines(a: Summary, b: Summary) -> Summary
     requires { ⌜ Sound a ⌝ }
     requires { ⌜ Sound b ⌝ }
@@ -56,16 +75,42 @@ pub(crate) fn add_lines(a: Summary, b: Summary) -> Summary
     requires { ⌜ length (joinLines a b) ≤ 30 ⌝ }
     ensures { λ r. ⌜ r ≡ page (a .others) (joinLines a b) ⌝ }
 {
-    let n = b.count as usize;
-    let lines = b.lines;
-    let mut joined = a;
+    let n = a.count as usize;
+    let m = b.count as usize;
+    let left = a.lines;
+    let right = b.lines;
+    let first = pairs_in(left);
+    let second = pairs_in(right);
+    let none = blank();
+    let mut lines = none.lines;
     let mut i: usize = 0;
-    while i < n {
-        let line = lines[i];
-        let added = add_line(joined, line);
-        let next = added.summary;
-        joined = next;
+    let mut j: usize = 0;
+    let mut count: u32 = 0;
+    while i + j < n + m {
+        let whose = turn(&first, i, n, &second, j, m);
+        let at = count as usize;
+        count += 1;
+        if whose == 0 {
+            let line = left[i];
+            lines[at] = line;
+            i += 1;
+            continue;
+        }
+        if whose == 1 {
+            let line = right[j];
+            lines[at] = line;
+            j += 1;
+            continue;
+        }
+        let one = left[i];
+        let other = right[j];
+        lines[at] = together(one, other);
         i += 1;
+        j += 1;
     }
-    joined
+    Summary {
+        count: count,
+        others: a.others,
+        lines: lines,
+    }
 }

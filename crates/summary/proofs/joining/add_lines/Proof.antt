@@ -1,97 +1,269 @@
--- `summary::joining::add_lines` meets its contract. The invariant: the lines passed are put among the first's, and counts are at most 1,000,000 for each turn.
+-- `summary::joining::add_lines` meets its contract. The invariant: the lines stored are the first of the two rows merged, and the rest is left of the rows.
 use mathlib.Core.Path.{_≡_, refl, sym, ap, _∙_}
-use mathlib.Core.List.{List}
-use Prim.Native.Nat.{ℕ, suc, _+_, _-_, _*_, _<_, _≤_}
+use mathlib.Core.List.{List, _∷_}
+use Prim.Native.Nat.{ℕ, suc, _+_, _-_, _<_, _≤_}
 use native.Mathlib.Omega.{arith}
 use native.Mathlib.Numerals.{add-one}
 use borrow.Author.Needs.{needs}
-use lib.ListN.{length, take}
+use lib.ListN.{length, getD, take, drop, set}
 use Rattle.summary.specs.declared.Line.{Line}
 use Rattle.summary.specs.declared.Summary.{Summary}
-use Rattle.summary.specs.declared.adding.Added.{Added}
-use Rattle.summary.specs.Line.{page}
+use Rattle.summary.specs.Line.{page, blankLine, together}
 use Rattle.summary.specs.Handed.{linesOf, lineAt, most}
-use Rattle.summary.specs.Joined.{putAll}
-use Rattle.summary.specs.inside.Placed.{addedTo}
-use Rattle.summary.proofs.PutAll.{AllFew}
-use Rattle.summary.proofs.LinesAdded.{few-lines, start-page, start-lines, end-lines, sound-so, next-page, next-few, room-so}
+use Rattle.summary.specs.Joined.{joinLines}
+use Rattle.summary.specs.inside.Joining.{merged, Turn}
+use Rattle.summary.proofs.LineAdded.{page-is}
+use Rattle.summary.proofs.LinesAdded.{count-of, line-of}
+use Rattle.summary.proofs.Merging.{Merging, PairsOf, pairs-of, turn-first, turn-second, turn-both, none-merged, place-free, one-merged, all-done, join-merged}
 use Rattle.summary.proofs.joining.add_lines.Statement.{statement}
 use Rattle.summary.proofs.joining.add_lines.Tie as tie
 use Rattle.summary.proofs.joining.add_lines.Reads as reads
 use Rattle.summary.proofs.joining.add_lines.Lts as lts
-use Rattle.summary.proofs.adding.add_line.Reads as add-line-reads
+use Rattle.summary.proofs.adding.pairs_in.Reads as pairs-in-reads
+use Rattle.summary.proofs.blank.Reads as blank-reads
+use Rattle.summary.proofs.figures.together.Reads as together-reads
+use Rattle.summary.proofs.joining.turn.Reads as turn-reads
 
 abbrev Inv-loop : tie.InvT-loop
-Inv-loop n lines joined₀ i₀ joined i = (i ≤ n) × ((joined ≡ page (joined₀ .others) (putAll (linesOf joined₀) (take i (take n lines)))) × AllFew (most * (i + 1)) (putAll (linesOf joined₀) (take i (take n lines))))
+Inv-loop a n m left right first second lines₀ i₀ j₀ count₀ lines i j count =
+    (i ≤ n) × ((j ≤ m) × Merging (take n left) (take m right) lines count i j)
 
 abbrev μ-loop : tie.MeasureT-loop
-μ-loop n lines joined₀ i₀ joined i = n - i
+μ-loop a n m left right first second lines₀ i₀ j₀ count₀ lines i j count = n + m - (i + j)
+
+-- one turn
+module _ (t : tie.After-turn Inv-loop μ-loop) where
+  abbrev start : tie.Start Inv-loop μ-loop
+  start = t .before .before .before .before .before .before .before .before .before .before .before .before .before
+
+  abbrev a : Summary
+  a = start .args .a
+
+  abbrev b : Summary
+  b = start .args .b
+
+  abbrev i : ℕ
+  i = t .before .before .before .before .loop .i
+
+  abbrev j : ℕ
+  j = t .before .before .before .before .loop .j
+
+  abbrev at : ℕ
+  at = t .before .before .before .before .loop .count
+
+  abbrev out : List Line
+  out = t .before .before .before .before .loop .lines
+
+  abbrev whose : ℕ
+  whose = t .turn .result
+
+  abbrev first : List ℕ
+  first = t .before .before .before .before .before .before .before .before .pairs-in .result
+
+  abbrev second : List ℕ
+  second = t .before .before .before .before .before .before .before .pairs-in2 .result
+
+  turned : Turn first i (a .count) second j (b .count) whose
+  turned = t .turn .ensures
+
+  of-a : PairsOf first (a .count) (linesOf a)
+  of-a = pairs-of a first (start .pre .0) (t .before .before .before .before .before .before .before .before .pairs-in .ensures)
+
+  of-b : PairsOf second (b .count) (linesOf b)
+  of-b = pairs-of b second (start .pre .1 .0) (t .before .before .before .before .before .before .before .pairs-in2 .ensures)
+
+  so-far : Merging (linesOf a) (linesOf b) out at i j
+  so-far = t .before .before .before .before .loop .inv .1 .1
+
+  small : length (merged (linesOf a) (linesOf b)) ≤ 30
+  small = omega (arith, start .pre .1 .1 .1 .1, ap length (join-merged a b (start .pre .1 .0)))
+
+  -- the line that is next, and where it goes
+  next-0 : whose ≡ 0 → merged (drop i (linesOf a)) (drop j (linesOf b)) ≡ lineAt a i ∷ merged (drop (i + 1) (linesOf a)) (drop j (linesOf b))
+  next-0 e =
+      turn-first first (a .count) (linesOf a) second (b .count) (linesOf b) of-a of-b i j whose turned e
+      ∙ ap (λ (x : Line). x ∷ merged (drop (i + 1) (linesOf a)) (drop j (linesOf b))) (line-of a i (turned .first e .0))
+
+  next-1 : whose ≡ 1 → merged (drop i (linesOf a)) (drop j (linesOf b)) ≡ lineAt b j ∷ merged (drop i (linesOf a)) (drop (j + 1) (linesOf b))
+  next-1 e =
+      turn-second first (a .count) (linesOf a) second (b .count) (linesOf b) of-a of-b i j whose turned e
+      ∙ ap (λ (x : Line). x ∷ merged (drop i (linesOf a)) (drop (j + 1) (linesOf b))) (line-of b j (turned .second e .0))
+
+  next-2 : (whose ≡ 0 → ⊥) → (whose ≡ 1 → ⊥)
+      → merged (drop i (linesOf a)) (drop j (linesOf b)) ≡ together (lineAt a i) (lineAt b j) ∷ merged (drop (i + 1) (linesOf a)) (drop (j + 1) (linesOf b))
+  next-2 d e =
+      let f = turned .same d e in
+      turn-both first (a .count) (linesOf a) second (b .count) (linesOf b) of-a of-b i j whose turned d e
+      ∙ ap (λ (x : Line). together x (getD (linesOf b) j blankLine) ∷ merged (drop (i + 1) (linesOf a)) (drop (j + 1) (linesOf b))) (line-of a i (f .0))
+      ∙ ap (λ (x : Line). together (lineAt a i) x ∷ merged (drop (i + 1) (linesOf a)) (drop (j + 1) (linesOf b))) (line-of b j (f .1 .0))
+
+  free : (x : Line) (i′ j′ : ℕ) → merged (drop i (linesOf a)) (drop j (linesOf b)) ≡ x ∷ merged (drop i′ (linesOf a)) (drop j′ (linesOf b)) → at < 30
+  free x i′ j′ e = place-free (linesOf a) (linesOf b) out at i j so-far x i′ j′ e small
+
+  grown : (x : Line) (i′ j′ : ℕ) → merged (drop i (linesOf a)) (drop j (linesOf b)) ≡ x ∷ merged (drop i′ (linesOf a)) (drop j′ (linesOf b))
+      → Merging (linesOf a) (linesOf b) (set out at x) (at + 1) i′ j′
+  grown x i′ j′ e = rw (add-one at) (one-merged (linesOf a) (linesOf b) out at i j so-far x i′ j′ e small)
+
+-- where the two are of one pair
+module _ (c : tie.Else2 Inv-loop μ-loop) where
+  abbrev t2 : tie.After-turn Inv-loop μ-loop
+  t2 = c .before .before
+
+  both : (i t2 < a t2 .count) × (j t2 < b t2 .count)
+  both = let f = turned t2 .same (c .before .if1 .left) (c .if2 .left) in (f .0, f .1 .0)
+
+  then : merged (drop (i t2) (linesOf (a t2))) (drop (j t2) (linesOf (b t2)))
+      ≡ together (lineAt (a t2) (i t2)) (lineAt (b t2) (j t2)) ∷ merged (drop (i t2 + 1) (linesOf (a t2))) (drop (j t2 + 1) (linesOf (b t2)))
+  then = next-2 t2 (c .before .if1 .left) (c .if2 .left)
+
+  room : at t2 < 30
+  room = free t2 (together (lineAt (a t2) (i t2)) (lineAt (b t2) (j t2))) (i t2 + 1) (j t2 + 1) then
 
 cast-n : tie.Need-cast-n Inv-loop μ-loop
 cast-n c = search needs
 
+cast-m : tie.Need-cast-m Inv-loop μ-loop
+cast-m c = search needs
+
+pairs-in-requires : tie.Need-pairs-in-requires Inv-loop μ-loop
+pairs-in-requires c κs = search needs
+
+pairs-in-requires-2 : tie.Need-pairs-in-requires-2 Inv-loop μ-loop
+pairs-in-requires-2 c κs = search needs
+
+blank-requires : tie.Need-blank-requires Inv-loop μ-loop
+blank-requires c κs = search needs
+
 loop-holds : tie.Need-loop-holds Inv-loop μ-loop
-loop-holds c =
-    let s = c .before .before in
-    let a = s .args .a in
-    let p = s .pre in
-    (omega arith, (start-page a (s .args .b) (p .0) (p .1 .0), rw (start-lines a (s .args .b) (p .0) (p .1 .0)) (few-lines a (p .0) (p .1 .1 .0))))
+loop-holds c = (omega arith, (omega arith, none-merged _ _ _ (ap (λ (s : Summary). s .lines) (c .before .blank .ensures))))
+
+add-loop : tie.Need-add-loop Inv-loop μ-loop
+add-loop c = omega arith
+
+add-loop-2 : tie.Need-add-loop-2 Inv-loop μ-loop
+add-loop-2 c = omega arith
+
+turn-requires : tie.Need-turn-requires Inv-loop μ-loop
+turn-requires c κs =
+    let s = c .before .before .before .before .before .before .before .before .before .before .before .before in
+    (s .pre .0 .few, (s .pre .1 .0 .few, (c .before .before .before .loop .inv .0, omega arith)))
+
+cast-at : tie.Need-cast-at Inv-loop μ-loop
+cast-at c = omega (arith, so-far c .few)
+
+add-count : tie.Need-add-count Inv-loop μ-loop
+add-count c = omega (arith, so-far c .few)
 
 mul-line : tie.Need-mul-line Inv-loop μ-loop
-mul-line c =
-    let s = c .before .before .before .before in
-    omega (arith, s .pre .1 .0 .few)
+mul-line c = omega (arith, turned (c .before) .first (c .if1 .taken) .0, start (c .before) .pre .0 .few)
 
 array-copy-out-line : tie.Need-array-copy-out-line Inv-loop μ-loop
-array-copy-out-line c =
-    let s = c .before .before .before .before in
-    omega (arith, s .pre .1 .0 .few)
+array-copy-out-line c = omega (arith, turned (c .before) .first (c .if1 .taken) .0, start (c .before) .pre .0 .few)
 
-add-line-requires : tie.Need-add-line-requires Inv-loop μ-loop
-add-line-requires c κs =
-    let l = c .before .before in
-    let s = l .before .before .before in
-    let a = s .args .a in
-    let b = s .args .b in
-    let p = s .pre in
-    let i = l .loop .i in
-    let near : i < b .count = omega arith in
-    let low : i < 30 = omega (arith, p .1 .0 .few) in
-    let inv = l .loop .inv .1 in
-    rw (inv .0) (sound-so a b (p .0) (p .1 .0) i near (p .1 .1 .1 .0) (p .1 .1 .1 .1) (a .others), room-so a b (p .0) (p .1 .0) i near (p .1 .1 .1 .0) (p .1 .1 .1 .1) (a .others) low (inv .1))
+mul-lines : tie.Need-mul-lines Inv-loop μ-loop
+mul-lines c =
+    let t = c .before .before in
+    omega (arith, free t (lineAt (a t) (i t)) (i t + 1) (j t) (next-0 t (c .before .if1 .taken)))
+
+array-set-from-lines : tie.Need-array-set-from-lines Inv-loop μ-loop
+array-set-from-lines c =
+    let t = c .before .before in
+    omega (arith, free t (lineAt (a t) (i t)) (i t + 1) (j t) (next-0 t (c .before .if1 .taken)))
 
 add-i : tie.Need-add-i Inv-loop μ-loop
-add-i c = search needs
+add-i c = omega arith
 
 loop-less : tie.Need-loop-less Inv-loop μ-loop
-loop-less c = search needs
+loop-less c = omega arith
 
 loop-again : tie.Need-loop-again Inv-loop μ-loop
 loop-again c =
-    let d = c .before in
-    let l = d .before .before .before in
-    let s = l .before .before .before in
-    let a = s .args .a in
-    let b = s .args .b in
-    let p = s .pre in
-    let i = l .loop .i in
-    let near : i < b .count = omega arith in
-    let inv = l .loop .inv .1 in
-    let next : d .add-line .result .summary ≡ page (a .others) (putAll (linesOf a) (take (i + 1) (linesOf b))) =
-    ap (λ (x : Added). x .summary) (d .add-line .ensures) ∙ ap (λ (t : Summary). addedTo (lineAt b i) t .summary) (inv .0)
-    ∙ next-page a b (p .0) (p .1 .0) i near (p .1 .1 .1 .0) (p .1 .1 .1 .1) (a .others)
-    ∙ ap (λ (k : ℕ). page (a .others) (putAll (linesOf a) (take k (linesOf b)))) (sym (add-one i)) in
-    (omega arith, (next, rw (add-one i) (rw (add-one i) at (next-few a b (p .0) (p .1 .0) i near (p .1 .1 .1 .0) (p .1 .1 .1 .1) (a .others) (inv .1)))))
+    let t = c .before .before in
+    let e = c .before .if1 .taken in
+    (omega (arith, turned t .first e .0), (t .before .before .before .before .loop .inv .1 .0, grown t (lineAt (a t) (i t)) (i t + 1) (j t) (next-0 t e)))
+
+mul-line-2 : tie.Need-mul-line-2 Inv-loop μ-loop
+mul-line-2 c = omega (arith, turned (c .before .before) .second (c .if2 .taken) .0, start (c .before .before) .pre .1 .0 .few)
+
+array-copy-out-line-2 : tie.Need-array-copy-out-line-2 Inv-loop μ-loop
+array-copy-out-line-2 c = omega (arith, turned (c .before .before) .second (c .if2 .taken) .0, start (c .before .before) .pre .1 .0 .few)
+
+mul-lines-2 : tie.Need-mul-lines-2 Inv-loop μ-loop
+mul-lines-2 c =
+    let t = c .before .before .before in
+    omega (arith, free t (lineAt (b t) (j t)) (i t) (j t + 1) (next-1 t (c .before .if2 .taken)))
+
+array-set-from-lines-2 : tie.Need-array-set-from-lines-2 Inv-loop μ-loop
+array-set-from-lines-2 c =
+    let t = c .before .before .before in
+    omega (arith, free t (lineAt (b t) (j t)) (i t) (j t + 1) (next-1 t (c .before .if2 .taken)))
+
+add-j : tie.Need-add-j Inv-loop μ-loop
+add-j c = omega arith
+
+loop-less-2 : tie.Need-loop-less-2 Inv-loop μ-loop
+loop-less-2 c = omega arith
+
+loop-again-2 : tie.Need-loop-again-2 Inv-loop μ-loop
+loop-again-2 c =
+    let t = c .before .before .before in
+    let e = c .before .if2 .taken in
+    (t .before .before .before .before .loop .inv .0, (omega (arith, turned t .second e .0), grown t (lineAt (b t) (j t)) (i t) (j t + 1) (next-1 t e)))
+
+mul-one : tie.Need-mul-one Inv-loop μ-loop
+mul-one c = omega (arith, both c .0, start (t2 c) .pre .0 .few)
+
+array-copy-out-one : tie.Need-array-copy-out-one Inv-loop μ-loop
+array-copy-out-one c = omega (arith, both c .0, start (t2 c) .pre .0 .few)
+
+mul-other : tie.Need-mul-other Inv-loop μ-loop
+mul-other c = omega (arith, both (c .before) .1, start (t2 (c .before)) .pre .1 .0 .few)
+
+array-copy-out-other : tie.Need-array-copy-out-other Inv-loop μ-loop
+array-copy-out-other c = omega (arith, both (c .before) .1, start (t2 (c .before)) .pre .1 .0 .few)
+
+together-requires : tie.Need-together-requires Inv-loop μ-loop
+together-requires c κs =
+    let e = c .before .before in
+    let l = both e in
+    let fa = start (t2 e) .pre .1 .1 .0 in
+    let fb = start (t2 e) .pre .1 .1 .1 .0 in
+    (omega (arith, fa .good (i (t2 e)) (l .0), fb .good (j (t2 e)) (l .1)), omega (arith, fa .faulty (i (t2 e)) (l .0), fb .faulty (j (t2 e)) (l .1)))
+
+mul-lines-3 : tie.Need-mul-lines-3 Inv-loop μ-loop
+mul-lines-3 c = omega (arith, room (c .before .before .before))
+
+array-set-from-lines-3 : tie.Need-array-set-from-lines-3 Inv-loop μ-loop
+array-set-from-lines-3 c = omega (arith, room (c .before .before .before))
+
+add-i-2 : tie.Need-add-i-2 Inv-loop μ-loop
+add-i-2 c = omega arith
+
+add-j-2 : tie.Need-add-j-2 Inv-loop μ-loop
+add-j-2 c = omega arith
+
+loop-less-3 : tie.Need-loop-less-3 Inv-loop μ-loop
+loop-less-3 c = omega arith
+
+loop-again-3 : tie.Need-loop-again-3 Inv-loop μ-loop
+loop-again-3 c =
+    let e = c .before .before .before in
+    let t = t2 e in
+    let x = together (lineAt (a t) (i t)) (lineAt (b t) (j t)) in
+    let new : c .together .result ≡ x = c .together .ensures in
+    (omega (arith, both e .0), (omega (arith, both e .1), rw new (grown t x (i t + 1) (j t + 1) (then e))))
 
 returns : tie.Need-returns Inv-loop μ-loop
 returns c =
     let l = c .before in
-    let s = l .before .before .before in
+    let s = l .before .before .before .before .before .before .before .before .before in
     let a = s .args .a in
     let b = s .args .b in
-    let p = s .pre in
-    let all : l .loop .i ≡ b .count = omega arith in
-    l .loop .inv .1 .0 ∙ ap (λ (k : ℕ). page (a .others) (putAll (linesOf a) (take k (linesOf b)))) all ∙ ap (page (a .others)) (end-lines a b (p .0) (p .1 .0))
+    let inv = l .loop .inv in
+    let low-i : length (linesOf a) ≤ l .loop .i = omega (arith, count-of a (s .pre .0), inv .0, inv .1 .0) in
+    let low-j : length (linesOf b) ≤ l .loop .j = omega (arith, count-of b (s .pre .1 .0), inv .0, inv .1 .0) in
+    let d = all-done (linesOf a) (linesOf b) (l .loop .lines) (l .loop .count) (l .loop .i) (l .loop .j) (inv .1 .1) low-i low-j in
+    sym (ap (page (a .others)) (join-merged a b (s .pre .1 .0)) ∙ page-is (a .others) (l .loop .count) (merged (linesOf a) (linesOf b)) (l .loop .lines) (sym (d .0)) (d .1))
 
 pub add-lines-spec : {M : Type 1} → statement M
 add-lines-spec =
@@ -100,11 +272,39 @@ add-lines-spec =
     Inv-loop
     μ-loop
     cast-n
+    cast-m
+    pairs-in-requires
+    pairs-in-requires-2
+    blank-requires
     loop-holds
+    add-loop
+    add-loop-2
+    turn-requires
+    cast-at
+    add-count
     mul-line
     array-copy-out-line
-    add-line-requires
+    mul-lines
+    array-set-from-lines
     add-i
     loop-less
     loop-again
+    mul-line-2
+    array-copy-out-line-2
+    mul-lines-2
+    array-set-from-lines-2
+    add-j
+    loop-less-2
+    loop-again-2
+    mul-one
+    array-copy-out-one
+    mul-other
+    array-copy-out-other
+    together-requires
+    mul-lines-3
+    array-set-from-lines-3
+    add-i-2
+    add-j-2
+    loop-less-3
+    loop-again-3
     returns)

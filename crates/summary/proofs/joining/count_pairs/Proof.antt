@@ -1,96 +1,174 @@
--- `summary::joining::count_pairs` meets its contract. The invariant: the pairs of the first summary and of the lines passed are counted.
+-- `summary::joining::count_pairs` meets its contract. The invariant, of any lines whose pairs these are: the turns made and the lines left are those of
+-- the rows merged.
 use mathlib.Core.Path.{_≡_, refl, sym, ap, _∙_}
-use mathlib.Core.Bool.{Bool, true, false}
-use mathlib.Core.List.{List}
-use Prim.Native.Nat.{ℕ, suc, _+_, _-_, _<_, _≤_}
+use mathlib.Core.List.{List, _∷_}
+use Prim.Native.Nat.{ℕ, _+_, _-_, _<_, _≤_}
 use native.Mathlib.Omega.{arith}
-use native.Mathlib.Numerals.{add-one}
 use borrow.Author.Needs.{needs}
-use lib.ListN.{length, take}
-use Rattle.frame.specs.Pick.{pick}
-use Rattle.summary.specs.Line.{pairOf}
-use Rattle.summary.specs.Handed.{linesOf, lineAt}
-use Rattle.summary.specs.Updated.{hasLine}
-use Rattle.summary.specs.Joined.{putAll}
-use Rattle.summary.proofs.LinesAdded.{count-of, start-lines, next-length, end-lines}
+use lib.ListN.{length, drop}
+use Rattle.summary.specs.declared.Line.{Line}
+use Rattle.summary.specs.Handed.{linesOf}
+use Rattle.summary.specs.inside.Joining.{merged, Turn}
+use Rattle.summary.proofs.LinesAdded.{count-of}
+use Rattle.summary.proofs.Merging.{PairsOf, pairs-of, turn-first, turn-second, turn-both, next-none, join-merged}
 use Rattle.summary.proofs.joining.count_pairs.Statement.{statement}
 use Rattle.summary.proofs.joining.count_pairs.Tie as tie
 use Rattle.summary.proofs.joining.count_pairs.Reads as reads
 use Rattle.summary.proofs.joining.count_pairs.Lts as lts
-use Rattle.summary.proofs.joining.missing.Reads as missing-reads
-
-one-or-none : (b : Bool) → pick b 0 1 ≤ 1
-one-or-none true = omega arith
-one-or-none false = omega arith
+use Rattle.summary.proofs.adding.pairs_in.Reads as pairs-in-reads
+use Rattle.summary.proofs.joining.turn.Reads as turn-reads
 
 abbrev Inv-loop : tie.InvT-loop
-Inv-loop a pairs₀ n lines i₀ pairs i = (i ≤ n) × ((pairs ≤ 30 + i) × (pairs ≡ length (putAll (linesOf a) (take i (take n lines)))))
+Inv-loop n m first second i₀ j₀ pairs₀ i j pairs =
+    (i ≤ n) × ((j ≤ m) × ((pairs ≤ i + j) × ((ls ms : List Line) → PairsOf first n ls → PairsOf second m ms → pairs + length (merged (drop i ls) (drop j ms)) ≡ length (merged ls ms))))
 
 abbrev μ-loop : tie.MeasureT-loop
-μ-loop a pairs₀ n lines i₀ pairs i = n - i
+μ-loop n m first second i₀ j₀ pairs₀ i j pairs = n + m - (i + j)
 
-cast-pairs : tie.Need-cast-pairs Inv-loop μ-loop
-cast-pairs c = search needs
+-- one turn
+module _ (t : tie.After-turn Inv-loop μ-loop) where
+  abbrev start : tie.Start Inv-loop μ-loop
+  start = t .before .before .before .before .before .before .before .before .before .before .before
+
+  abbrev i : ℕ
+  i = t .before .before .before .before .loop .i
+
+  abbrev j : ℕ
+  j = t .before .before .before .before .loop .j
+
+  abbrev whose : ℕ
+  whose = t .turn .result
+
+  abbrev first : List ℕ
+  first = t .before .before .before .before .before .before .pairs-in .result
+
+  abbrev second : List ℕ
+  second = t .before .before .before .before .before .pairs-in2 .result
+
+  abbrev n : ℕ
+  n = start .args .a .count
+
+  abbrev m : ℕ
+  m = start .args .b .count
+
+  turned : Turn first i n second j m whose
+  turned = t .turn .ensures
+
+  -- a line less is left
+  counted : (x : Line) (i′ j′ : ℕ) (ls ms : List Line) → PairsOf first n ls → PairsOf second m ms
+      → merged (drop i ls) (drop j ms) ≡ x ∷ merged (drop i′ ls) (drop j′ ms)
+      → t .before .before .before .before .loop .pairs + 1 + length (merged (drop i′ ls) (drop j′ ms)) ≡ length (merged ls ms)
+  counted x i′ j′ ls ms p q e = omega (arith, t .before .before .before .before .loop .inv .1 .1 .1 ls ms p q, ap length e)
 
 cast-n : tie.Need-cast-n Inv-loop μ-loop
 cast-n c = search needs
 
+cast-m : tie.Need-cast-m Inv-loop μ-loop
+cast-m c = search needs
+
+pairs-in-requires : tie.Need-pairs-in-requires Inv-loop μ-loop
+pairs-in-requires c κs = search needs
+
+pairs-in-requires-2 : tie.Need-pairs-in-requires-2 Inv-loop μ-loop
+pairs-in-requires-2 c κs = search needs
+
 loop-holds : tie.Need-loop-holds Inv-loop μ-loop
-loop-holds c =
-    let s = c .before .before .before in
-    let a = s .args .a in
-    let p = s .pre in
-    (omega arith, (omega (arith, p .0 .few), count-of a (p .0) ∙ ap length (sym (start-lines a (s .args .b) (p .0) (p .1)))))
+loop-holds c = (omega arith, (omega arith, (omega arith, λ ls ms p q. omega arith)))
 
-mul-line : tie.Need-mul-line Inv-loop μ-loop
-mul-line c =
-    let s = c .before .before .before .before .before in
-    omega (arith, s .pre .1 .few)
+add-loop : tie.Need-add-loop Inv-loop μ-loop
+add-loop c = omega arith
 
-array-copy-out-line : tie.Need-array-copy-out-line Inv-loop μ-loop
-array-copy-out-line c =
-    let s = c .before .before .before .before .before in
-    omega (arith, s .pre .1 .few)
+add-loop-2 : tie.Need-add-loop-2 Inv-loop μ-loop
+add-loop-2 c = omega arith
 
-missing-requires : tie.Need-missing-requires Inv-loop μ-loop
-missing-requires c κs = c .before .before .before .before .before .before .pre .0
+turn-requires : tie.Need-turn-requires Inv-loop μ-loop
+turn-requires c κs =
+    let s = c .before .before .before .before .before .before .before .before .before .before in
+    (s .pre .0 .few, (s .pre .1 .few, (c .before .before .before .loop .inv .0, omega arith)))
 
 add-pairs : tie.Need-add-pairs Inv-loop μ-loop
 add-pairs c =
-    let l = c .before .before .before in
-    let s = l .before .before .before .before in
-    omega (arith, c .missing .ensures, one-or-none (hasLine (pairOf (lineAt (s .args .b) (l .loop .i))) (linesOf (s .args .a))), s .pre .1 .few)
+    let l = c .before .before .before .before in
+    omega (arith, l .loop .inv .1 .1 .0, l .loop .inv .0, l .loop .inv .1 .0, start c .pre .0 .few, start c .pre .1 .few)
 
 add-i : tie.Need-add-i Inv-loop μ-loop
-add-i c = search needs
+add-i c = omega arith
 
 loop-less : tie.Need-loop-less Inv-loop μ-loop
-loop-less c = search needs
+loop-less c = omega arith
 
 loop-again : tie.Need-loop-again Inv-loop μ-loop
 loop-again c =
-    let l = c .before .before .before in
-    let s = l .before .before .before .before in
-    let a = s .args .a in
-    let b = s .args .b in
-    let p = s .pre in
-    let i = l .loop .i in
-    let near : i < b .count = omega arith in
-    let one = one-or-none (hasLine (pairOf (lineAt b i)) (linesOf a)) in
-    let sum : l .loop .pairs + c .missing .result ≡ length (putAll (linesOf a) (take (i + 1) (linesOf b))) =
-    ap (λ (n : ℕ). n + c .missing .result) (l .loop .inv .1 .1) ∙ ap (λ (n : ℕ). length (putAll (linesOf a) (take i (linesOf b))) + n) (c .missing .ensures)
-    ∙ sym (next-length a b (p .0) (p .1) i near) ∙ ap (λ (k : ℕ). length (putAll (linesOf a) (take k (linesOf b)))) (sym (add-one i)) in
-    (omega arith, (omega (arith, c .missing .ensures), sum))
+    let t = c .before in
+    let f = turned t .first (c .if1 .taken) in
+    let inv = t .before .before .before .before .loop .inv in (
+      omega (arith, f .0),
+      (
+        inv .1 .0,
+        (
+          omega (arith, inv .1 .1 .0),
+          λ ls ms p q. counted t _ (i t + 1) (j t) ls ms p q (turn-first (first t) (n t) ls (second t) (m t) ms p q (i t) (j t) (whose t) (turned t) (c .if1 .taken)),
+        ),
+      ),
+    )
+
+add-j : tie.Need-add-j Inv-loop μ-loop
+add-j c = omega arith
+
+loop-less-2 : tie.Need-loop-less-2 Inv-loop μ-loop
+loop-less-2 c = omega arith
+
+loop-again-2 : tie.Need-loop-again-2 Inv-loop μ-loop
+loop-again-2 c =
+    let t = c .before .before in
+    let f = turned t .second (c .if2 .taken) in
+    let inv = t .before .before .before .before .loop .inv in (
+      inv .0,
+      (
+        omega (arith, f .0),
+        (
+          omega (arith, inv .1 .1 .0),
+          λ ls ms p q. counted t _ (i t) (j t + 1) ls ms p q (turn-second (first t) (n t) ls (second t) (m t) ms p q (i t) (j t) (whose t) (turned t) (c .if2 .taken)),
+        ),
+      ),
+    )
+
+add-i-2 : tie.Need-add-i-2 Inv-loop μ-loop
+add-i-2 c = omega arith
+
+add-j-2 : tie.Need-add-j-2 Inv-loop μ-loop
+add-j-2 c = omega arith
+
+loop-less-3 : tie.Need-loop-less-3 Inv-loop μ-loop
+loop-less-3 c = omega arith
+
+loop-again-3 : tie.Need-loop-again-3 Inv-loop μ-loop
+loop-again-3 c =
+    let t = c .before .before in
+    let f = turned t .same (c .before .if1 .left) (c .if2 .left) in
+    let inv = t .before .before .before .before .loop .inv in (
+      omega (arith, f .0),
+      (
+        omega (arith, f .1 .0),
+        (
+          omega (arith, inv .1 .1 .0),
+          λ ls ms p q. counted t _ (i t + 1) (j t + 1) ls ms p q (turn-both (first t) (n t) ls (second t) (m t) ms p q (i t) (j t) (whose t) (turned t) (c .before .if1 .left) (c .if2 .left)),
+        ),
+      ),
+    )
 
 returns : tie.Need-returns Inv-loop μ-loop
 returns c =
     let l = c .before in
-    let s = l .before .before .before .before in
+    let s = l .before .before .before .before .before .before .before in
     let a = s .args .a in
     let b = s .args .b in
-    let p = s .pre in
-    let all : l .loop .i ≡ b .count = omega arith in
-    l .loop .inv .1 .1 ∙ ap (λ (k : ℕ). length (putAll (linesOf a) (take k (linesOf b)))) all ∙ ap length (end-lines a b (p .0) (p .1))
+    let inv = l .loop .inv in
+    let all = inv .1 .1 .1 (linesOf a) (linesOf b) (pairs-of a _ (s .pre .0) (l .before .before .pairs-in .ensures)) (pairs-of b _ (s .pre .1) (l .before .pairs-in2 .ensures)) in
+    let low-i : length (linesOf a) ≤ l .loop .i = omega (arith, count-of a (s .pre .0), inv .0, inv .1 .0) in
+    let low-j : length (linesOf b) ≤ l .loop .j = omega (arith, count-of b (s .pre .1), inv .0, inv .1 .0) in
+    let none = next-none (linesOf a) (linesOf b) (l .loop .i) (l .loop .j) low-i low-j in
+    omega (arith, all, ap length none) ∙ ap length (sym (join-merged a b (s .pre .1)))
 
 pub count-pairs-spec : {M : Type 1} → statement M
 count-pairs-spec =
@@ -98,14 +176,23 @@ count-pairs-spec =
     (tie.spec
     Inv-loop
     μ-loop
-    cast-pairs
     cast-n
+    cast-m
+    pairs-in-requires
+    pairs-in-requires-2
     loop-holds
-    mul-line
-    array-copy-out-line
-    missing-requires
+    add-loop
+    add-loop-2
+    turn-requires
     add-pairs
     add-i
     loop-less
     loop-again
+    add-j
+    loop-less-2
+    loop-again-2
+    add-i-2
+    add-j-2
+    loop-less-3
+    loop-again-3
     returns)
