@@ -7,7 +7,6 @@ pub mod BlankWords
 pub mod ReplyWord
 pub mod SlotParts
 pub mod LastUsed
-pub mod Filling
 pub mod Records
 pub mod Storing
 pub mod Refusals

@@ -1,4 +1,4 @@
--- Stores made one after another, and which store comes k-th. Assumes nothing.
+-- Stores made one after another and run after run, and which store comes k-th. Assumes nothing.
 use mathlib.Core.Path.{_≡_, refl, sym, ap, _∙_}
 use mathlib.Core.Bool.{Bool, true, false}
 use mathlib.Core.List.{List, [], _∷_, _++_}
@@ -41,21 +41,13 @@ pub stores-length : (at : ℕ) (e : Entry) → length (stores at e) ≡ lengthOf
 unfolding stores
 stores-length at e = simp (length-append, ascending-length) (omega arith)
 
-ascending-at : (p : ℕ) (bs : List ℕ) (k : ℕ) (d : Store) → k < length bs → getD (ascending p bs) k d ≡ (p + k) puts getD bs k 0
+pub ascending-at : (p : ℕ) (bs : List ℕ) (k : ℕ) (d : Store) → k < length bs → getD (ascending p bs) k d ≡ (p + k) puts getD bs k 0
 unfolding ascending
 ascending-at p [] k d h = absurd (omega arith)
 ascending-at p (b ∷ bs) zero d h = ap (λ (n : ℕ). n puts b) (sym (add-zero p))
 ascending-at p (b ∷ bs) (suc k) d h =
     let further : p + 1 + k ≡ p + suc k = omega arith in
     ascending-at (p + 1) bs k d (omega arith) ∙ ap (λ (n : ℕ). n puts getD bs k 0) further
-
--- The place of a store lies in the record.
-pub turn-in : (size k : ℕ) → k < size + 2 → turnOf size k < size + 2
-turn-in size k h = go (ltb k size) refl
-  where
-    go : (t : Bool) → ltb k size ≡ t → pick t (2 + k) (size + 1 - k) < size + 2
-    go true q = omega (arith, ltb-true k size q)
-    go false q = omega arith
 
 -- No more is taken than there is.
 pub take-min : {A : Type 0} (n : ℕ) (l : List A) → take (min n (length l)) l ≡ take n l
@@ -69,6 +61,41 @@ take-min n l = go (leb n (length l)) refl
         let more : length l < n = leb-false n (length l) q in
         let all : min n (length l) ≡ length l = omega arith in
         rw all (take-length l ∙ sym (take-all n l (omega arith)))
+
+take-append : {A : Type 0} (n : ℕ) (xs ys : List A) → take n (xs ++ ys) ≡ take n xs ++ take (n - length xs) ys
+take-append zero xs ys =
+    let none : 0 ≡ 0 - length xs = omega arith in
+    ap (λ (k : ℕ). take k ys) none
+take-append (suc n) [] ys =
+    let all : suc n ≡ suc n - 0 = omega arith in
+    ap (λ (k : ℕ). take k ys) all
+take-append {A} (suc n) (x ∷ xs) ys =
+    let fewer : n - length xs ≡ suc n - suc (length xs) = omega arith in
+    ap (λ (l : List A). x ∷ l) (take-append n xs ys ∙ ap (λ (k : ℕ). take n xs ++ take k ys) fewer)
+
+-- Some stores and then others, as many as are allowed of both.
+made-on : (s : List ℕ) (n : ℕ) (ps qs : List Store) → made (made s (take n ps)) (take (n - length ps) qs) ≡ made s (take n (ps ++ qs))
+made-on s n ps qs = sym (ap (made s) (take-append n ps qs) ∙ made-append s (take n ps) (take (n - length ps) qs))
+
+ascending-append : (p : ℕ) (xs ys : List ℕ) → ascending p (xs ++ ys) ≡ ascending p xs ++ ascending (p + length xs) ys
+unfolding ascending
+ascending-append p [] ys = ap (λ (n : ℕ). ascending n ys) (sym (add-zero p))
+ascending-append p (x ∷ xs) ys =
+    let further : p + 1 + length xs ≡ p + suc (length xs) = omega arith in
+    ap (λ (l : List Store). p puts x ∷ l) (ascending-append (p + 1) xs ys ∙ ap (λ (n : ℕ). ascending (p + 1) xs ++ ascending n ys) further)
+
+-- Two rows that ascend one behind the other, and then more.
+pub in-runs : (s : List ℕ) (n p : ℕ) (xs ys : List ℕ) (more : List Store)
+    → made (made (made s (take n (ascending p xs))) (take (n - length xs) (ascending (p + length xs) ys))) (take (n - (length xs + length ys)) more)
+    ≡ made s (take n (ascending p (xs ++ ys) ++ more))
+in-runs s n p xs ys more =
+    let a = ascending p xs in
+    let b = ascending (p + length xs) ys in
+    let rows : made (made s (take n a)) (take (n - length xs) b) ≡ made s (take n (ascending p (xs ++ ys))) =
+    ap (λ (k : ℕ). made (made s (take n a)) (take (n - k) b)) (sym (ascending-length p xs)) ∙ made-on s n a b
+    ∙ ap (λ (l : List Store). made s (take n l)) (sym (ascending-append p xs ys)) in
+    let long : length xs + length ys ≡ length (ascending p (xs ++ ys)) = sym (ascending-length p (xs ++ ys) ∙ length-append xs ys) in
+    (λ i. made (rows i) (take (n - long i) more)) ∙ made-on s n (ascending p (xs ++ ys)) more
 
 -- The k-th of stores that ascend from a place and end with two more.
 module _ (at : ℕ) (bs : List ℕ) (low high d : Store) where

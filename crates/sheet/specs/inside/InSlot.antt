@@ -1,24 +1,17 @@
--- How the code makes a record's stores: one row of bytes as they stand in the slot, and which of them is stored when. That these are the stores of
+-- A record's stores one by one: its bytes as they stand in the slot, and which of them is stored when. That these are the stores of
 -- `specs/Stores.antt` is proved.
 use mathlib.Core.Path.{_≡_}
-use mathlib.Core.List.{List, [], _++_}
+use mathlib.Core.List.{List, _++_}
 use Prim.Native.Nat.{ℕ, _+_, _-_, min}
 use lib.Dec.{ltb}
 use lib.ListN.{length, take, replicate}
 use Rattle.frame.specs.Pick.{pick}
-use Rattle.sheet.specs.declared.Head.{Head}
-use Rattle.sheet.specs.Bytes.{bigEndian}
-use Rattle.sheet.specs.Record.{Entry, bodyOf, lengthOf, recordOf}
-use Rattle.sheet.specs.Look.{entryWith}
+use Rattle.sheet.specs.Record.{Entry, lengthOf, recordOf}
 use Rattle.sheet.specs.Stores.{made, stores}
 
 -- The 19 bytes of its slot that a record can take up: the record, and 0 after it.
 abbrev pub inSlot : Entry → List ℕ
 inSlot e = recordOf e ++ replicate (8 - length (e .reply)) 0
-
--- The same before the reply is in its place: a length, what a head says, and 0 after it.
-abbrev pub beforeReply : ℕ → Head → List ℕ
-beforeReply size h = bigEndian 2 size ++ bodyOf (entryWith h []) ++ replicate 8 0
 
 -- Which byte of its slot the k-th store of a record goes to, where so many bytes follow the length: from the version on, ascending; then the low
 -- byte of the length, then the high.

@@ -1,136 +1,137 @@
--- `sheet::stores::make_stores` meets its contract: after k turns the sheet is the one after the first k stores of whichever record has these bytes
--- in its slot. Assumes nothing.
+-- `sheet::stores::make_stores` meets its contract: its three runs, each as long as the allowance lets it be, are the first stores of the record. Assumes
+-- nothing.
 use mathlib.Core.Path.{_≡_, refl, sym, ap, _∙_}
-use mathlib.Core.List.{List}
-use Prim.Native.Nat.{ℕ, _≤_, _<_, _+_, _-_, min}
+use mathlib.Core.List.{List, [], _∷_, _++_}
+use Prim.Native.Nat.{ℕ, _≤_, _<_, _+_, _-_, _/_, _%_, min}
+use native.Mathlib.Nat.{div-one, mod-eq-of-lt, div-eq-of-lt}
 use native.Mathlib.Omega.{arith}
-use borrow.Author.Needs.{needs}
-use lib.ListN.{length, take, getD, set, length-set}
-use Rattle.sheet.specs.Record.{Entry, lengthOf}
-use Rattle.sheet.specs.Stores.{Store, _puts_, made, stores}
-use Rattle.sheet.specs.inside.InSlot.{inSlot, turnOf}
+use lib.ListN.{length, take, getD}
+use Rattle.sheet.specs.declared.Head.{Head}
+use Rattle.sheet.specs.Bytes.{bigEndian}
+use Rattle.sheet.specs.Record.{bodyOf, lengthOf}
+use Rattle.sheet.specs.Stores.{Store, _puts_, made, ascending, lengthStores, stores}
 use Rattle.sheet.specs.Look.{entryWith}
-use Rattle.sheet.proofs.Storing.{turn-in, take-min, made-more, stores-length, store-at}
+use Rattle.sheet.proofs.Storing.{take-min, ascending-length, in-runs}
+use borrow.Author.Needs.{needs}
 use Rattle.sheet.proofs.stores.make_stores.Statement.{statement}
 use Rattle.sheet.proofs.stores.make_stores.Tie as tie
 
-abbrev Inv-loop : tie.InvT-loop
-Inv-loop sheet₀ at reply allowance bytes size many k₀ sheet k =
-    (k ≤ many) × (length sheet ≡ length sheet₀) × ((e : Entry) → bytes ≡ inSlot e → size ≡ lengthOf e → sheet ≡ made sheet₀ (take k (stores at e)))
+-- a row stored as far as it goes
+row : (s t : List ℕ) (at n may : ℕ) (bytes : List ℕ) → n ≡ min may (length bytes) → t ≡ made s (take n (ascending at bytes))
+    → t ≡ made s (take may (ascending at bytes))
+row s t at n may bytes e stored =
+    stored ∙ ap (λ (k : ℕ). made s (take k (ascending at bytes))) (e ∙ ap (min may) (sym (ascending-length at bytes)))
+    ∙ ap (made s) (take-min may (ascending at bytes))
 
-abbrev μ-loop : tie.MeasureT-loop
-μ-loop sheet₀ at reply allowance bytes size many k₀ sheet k = many - k
+-- a length that needs its low byte alone
+low-alone : (at n : ℕ) → n < 256 → (at + 1) puts n ∷ at puts 0 ∷ [] ≡ (at + 1) puts getD (bigEndian 2 n) 1 0 ∷ at puts getD (bigEndian 2 n) 0 0 ∷ []
+low-alone at n h = simp (div-one, div-eq-of-lt h, mod-eq-of-lt h)
 
--- one turn
-step : (s₀ s t : List ℕ) (at k size p : ℕ) (bytes : List ℕ) (e : Entry) → k < size + 2 → bytes ≡ inSlot e → size ≡ lengthOf e
-    → p ≡ turnOf size k → t ≡ set s (at + p) (getD bytes p 0) → s ≡ made s₀ (take k (stores at e)) → t ≡ made s₀ (take (k + 1) (stores at e))
-step s₀ s t at k size p bytes e h own len place now before =
-    let d : Store = 0 puts 0 in
-    let ps = stores at e in
-    now
-    ∙ (λ i. set (before i) (at + place i) (getD (own i) (place i) 0))
-    ∙ ap (λ (n : ℕ). set (made s₀ (take k ps)) (at + turnOf n k) (getD (inSlot e) (turnOf n k) 0)) len
-    ∙ ap (λ (x : Store). set (made s₀ (take k ps)) (x .place) (x .byte)) (sym (store-at at e d k (omega arith)))
-    ∙ sym (made-more s₀ ps k d (rw stores-length (omega arith)))
+-- the three runs
+whole : (s₀ s₁ s₂ s₃ : List ℕ) (at may : ℕ) (head : Head) (reply bytes : List ℕ) (n₁ q n₂ n₃ : ℕ) → length reply ≤ 8
+    → bytes ≡ bodyOf (entryWith head []) → n₁ ≡ min may 9 → q ≡ may - 9 → n₂ ≡ min q (length reply) → n₃ ≡ may - (9 + length reply)
+    → s₁ ≡ made s₀ (take n₁ (ascending (at + 2) bytes)) → s₂ ≡ made s₁ (take n₂ (ascending (at + 11) reply))
+    → s₃ ≡ made s₂ (take n₃ ((at + 1) puts (9 + length reply) ∷ at puts 0 ∷ [])) → s₃ ≡ made s₀ (take may (stores at (entryWith head reply)))
+unfolding stores
+whole s₀ s₁ s₂ s₃ at may head reply bytes n₁ q n₂ n₃ short own e₁ eq e₂ e₃ first second third =
+    let e = entryWith head reply in
+    let h = bodyOf (entryWith head []) in
+    let behind : at + 11 ≡ at + 2 + 9 = omega arith in
+    let size : 9 + length reply ≡ lengthOf e = omega arith in
+    let one : s₁ ≡ made s₀ (take may (ascending (at + 2) h)) =
+    row s₀ s₁ (at + 2) n₁ may h e₁ (first ∙ ap (λ (x : List ℕ). made s₀ (take n₁ (ascending (at + 2) x))) own) in
+    let two : s₂ ≡ made s₁ (take (may - 9) (ascending (at + 2 + 9) reply)) =
+    row s₁ s₂ (at + 2 + 9) n₂ (may - 9) reply (e₂ ∙ ap (λ (k : ℕ). min k (length reply)) eq)
+    (second ∙ ap (λ (p : ℕ). made s₁ (take n₂ (ascending p reply))) behind) in
+    let last : (at + 1) puts (9 + length reply) ∷ at puts 0 ∷ [] ≡ lengthStores at e =
+    low-alone at (9 + length reply) (omega arith)
+    ∙ ap (λ (n : ℕ). (at + 1) puts getD (bigEndian 2 n) 1 0 ∷ at puts getD (bigEndian 2 n) 0 0 ∷ []) size in
+    third ∙ (λ i. made (two i) (take (e₃ i) (last i)))
+    ∙ ap (λ (s : List ℕ). made (made s (take (may - 9) (ascending (at + 2 + 9) reply))) (take (may - (9 + length reply)) (lengthStores at e))) one
+    ∙ in-runs s₀ may (at + 2) h reply (lengthStores at e)
 
--- and where its byte lies
-inside : (size k p : ℕ) → p ≡ turnOf size k → k < size + 2 → p < size + 2
-inside size k p e h = omega (arith, e, turn-in size k h)
+before-reply-requires : tie.Need-before-reply-requires
+before-reply-requires c κs = search needs
 
-in-slot-requires : tie.Need-in-slot-requires Inv-loop μ-loop
-in-slot-requires c κs = (c .before .before .pre .1 .0, c .before .before .pre .1 .1)
+add-size : tie.Need-add-size
+add-size c = search needs
 
-add-size : tie.Need-add-size Inv-loop μ-loop
-add-size c = omega arith
+left-after-requires : tie.Need-left-after-requires
+left-after-requires c κs = search needs
 
-add-smaller : tie.Need-add-smaller Inv-loop μ-loop
-add-smaller c = omega arith
+add-store-row : tie.Need-add-store-row
+add-store-row c = search needs
 
-smaller-requires : tie.Need-smaller-requires Inv-loop μ-loop
+slice-aggregate-store-row : tie.Need-slice-aggregate-store-row
+slice-aggregate-store-row c = search needs
+
+smaller-requires : tie.Need-smaller-requires
 smaller-requires c κs = search needs
 
-loop-holds : tie.Need-loop-holds Inv-loop μ-loop
-unfolding made
-loop-holds c = (omega arith, refl, λ e own len. refl)
+store-row-requires : tie.Need-store-row-requires
+store-row-requires c κs = search needs
 
-turn-requires : tie.Need-turn-requires Inv-loop μ-loop
-turn-requires c κs = (omega arith, omega arith)
+add-store-row-2 : tie.Need-add-store-row-2
+add-store-row-2 c = search needs
 
-add-store : tie.Need-add-store Inv-loop μ-loop
-add-store c =
-    let b = c .before .before .before in
-    let n = 9 + length (b .before .before .before .before .before .args .reply .now) in
-    let i = inside n (b .loop .k) (c .before .turn .result) (c .before .turn .ensures) (omega arith) in
-    omega arith
+smaller-requires-2 : tie.Need-smaller-requires-2
+smaller-requires-2 c κs = search needs
 
-array-read-store : tie.Need-array-read-store Inv-loop μ-loop
-array-read-store c =
-    let b = c .before .before .before in
-    let n = 9 + length (b .before .before .before .before .before .args .reply .now) in
-    let i = inside n (b .loop .k) (c .before .turn .result) (c .before .turn .ensures) (omega arith) in
-    omega arith
+store-row-requires-2 : tie.Need-store-row-requires-2
+store-row-requires-2 c κs = search needs
 
-store-requires : tie.Need-store-requires Inv-loop μ-loop
-store-requires c κs =
-    let b = c .before .before .before in
-    let n = 9 + length (b .before .before .before .before .before .args .reply .now) in
-    let i = inside n (b .loop .k) (c .before .turn .result) (c .before .turn .ensures) (omega arith) in
-    omega arith
+left-after-requires-2 : tie.Need-left-after-requires-2
+left-after-requires-2 c κs = search needs
 
-add-k : tie.Need-add-k Inv-loop μ-loop
-add-k c = omega arith
+store-length-requires : tie.Need-store-length-requires
+store-length-requires c κs = search needs
 
-loop-less : tie.Need-loop-less Inv-loop μ-loop
-loop-less c = omega arith
+add-smaller : tie.Need-add-smaller
+add-smaller c = search needs
 
-loop-again : tie.Need-loop-again Inv-loop μ-loop
-loop-again c =
-    let b = c .before .before .before .before .before .before in
-    let a = b .before .before .before .before .before .args in
-    let st = c .before .before .store in
-    let place = c .before .before .before .before .turn in (
-      omega arith,
-      ap length (st .ensures) ∙ simp length-set (b .loop .inv .1),
-      λ e own len. step (a .sheet .now) (b .loop .sheet) (st .last .0) (a .at) (b .loop .k) (9 + length (a .reply .now)) (place .result)
-          (b .before .before .in-slot .result) e (omega arith) own len (place .ensures) (st .ensures) (b .loop .inv .2 e own len),
-    )
+smaller-requires-3 : tie.Need-smaller-requires-3
+smaller-requires-3 c κs = search needs
 
-same-length : tie.Need-same-length Inv-loop μ-loop
-same-length c = c .before .loop .inv .1
+same-length : tie.Need-same-length
+same-length c = search needs
 
-returns : tie.Need-returns Inv-loop μ-loop
+returns : tie.Need-returns
 returns c =
-    let b = c .before in
-    let a = b .before .before .before .before .before .args in
+    let length-stored = c .before .before .before in
+    let reply-stored = length-stored .before .before .before .before .before in
+    let head-stored = reply-stored .before .before .before .before .before in
+    let b = head-stored .before .before .before .before in
+    let start = b .before .before .before .before in
+    let a = start .args in
     let e = entryWith (a .head) (a .reply .now) in
-    let ps = stores (a .at) e in
     let size : 9 + length (a .reply .now) ≡ lengthOf e = omega arith in
-    let most : b .before .smaller .result ≡ min (a .allowance) (lengthOf e + 2) =
-    b .before .smaller .ensures ∙ ap (λ (n : ℕ). min (a .allowance) (n + 2)) size in
-    let many : b .loop .k ≡ min (a .allowance) (length ps) = rw stores-length (omega arith) in
     record {
-      answers = most;
-      leaves = b .loop .inv .2 e (b .before .before .in-slot .ensures) size ∙ ap (λ (n : ℕ). made (a .sheet .now) (take n ps)) many
-          ∙ ap (made (a .sheet .now)) (take-min (a .allowance) ps);
+      answers = c .smaller3 .ensures ∙ ap (λ (n : ℕ). min (a .allowance) (n + 2)) size;
+      leaves = whole (a .sheet .now) (head-stored .store-row .last .0) (reply-stored .store-row2 .last .0) (length-stored .store-length .last .0)
+          (a .at) (a .allowance) (a .head) (a .reply .now) (b .before .before-reply .result) (head-stored .before .smaller .result)
+          (b .left-after .result) (reply-stored .before .smaller2 .result) (length-stored .before .left-after2 .result) (start .pre .1 .1)
+          (b .before .before-reply .ensures) (head-stored .before .smaller .ensures) (b .left-after .ensures)
+          (reply-stored .before .smaller2 .ensures) (length-stored .before .left-after2 .ensures) (head-stored .store-row .ensures)
+          (reply-stored .store-row2 .ensures) (length-stored .store-length .ensures);
     }
 
 pub make-stores-spec : {M : Type 1} → statement M
 make-stores-spec =
     tie.close
     (tie.spec
-    Inv-loop
-    μ-loop
-    in-slot-requires
+    before-reply-requires
     add-size
-    add-smaller
+    left-after-requires
+    add-store-row
+    slice-aggregate-store-row
     smaller-requires
-    loop-holds
-    turn-requires
-    add-store
-    array-read-store
-    store-requires
-    add-k
-    loop-less
-    loop-again
+    store-row-requires
+    add-store-row-2
+    smaller-requires-2
+    store-row-requires-2
+    left-after-requires-2
+    store-length-requires
+    add-smaller
+    smaller-requires-3
     same-length
     returns)
