@@ -1,6 +1,6 @@
 /*
  * A day at the desk: a board of three rows over libsisalcove.a. It enrols transmitters, hears good and damaged replies, removes and looks
- * up, and says after each call what was answered; at the end it says what stands in the rows.
+ * up, tries a sensor profile and a 6500's poll, and says after each call what was answered; at the end it says what stands in the rows.
  *
  * ./build-library && examples/run
  */
@@ -15,7 +15,7 @@ static struct sisal_row rows[ROWS];
 
 /* ---- in words -------------------------------------------------------------------------------------------------------------------- */
 
-/* Document 01's name of a number. */
+/* The name of a number of document 01, and of the board's numbers of document 02. */
 static const char *name_of(uint8_t number)
 {
     static const char *const names[] = {
@@ -23,7 +23,14 @@ static const char *name_of(uint8_t number)
         "code",   "range",  "temperature", "settings", "asked address", "sheet",  "full",
         "form",   "short",  "poll",        "unknown",  "twice",         "no row",
     };
-    return number < sizeof names / sizeof names[0] ? names[number] : "of no name";
+    if (number < sizeof names / sizeof names[0])
+        return names[number];
+    switch (number) {
+    case SISAL_FAULT_PROFILE: return "temperature outside its profile";
+    case SISAL_FAULT_PROFILE_TYPE: return "profile on an 1800";
+    case SISAL_FAULT_RAISE_RESET: return "raise or reset";
+    default: return "of no name";
+    }
 }
 
 static void say_answer(const char *call, uint16_t address, uint8_t number)
@@ -58,7 +65,10 @@ static void say_standing(const struct sisal_standing *s)
         printf(", at minute %u", s->minute);
     }
     printf("%s%s", s->alarm1 ? ", alarm 1" : "", s->alarm0 ? ", alarm 0" : "");
-    printf(", fault %u %s\n", s->fault, name_of(s->fault));
+    printf(", fault %u %s", s->fault, name_of(s->fault));
+    if (s->gauge & (SISAL_PROFILE_COPPER | SISAL_PROFILE_PLATINUM))
+        printf(", %s", s->gauge & SISAL_PROFILE_COPPER ? "copper" : "platinum");
+    printf("%s\n", s->gauge & SISAL_GAUGE_6500 ? ", 6500" : "");
 }
 
 static void say_row(const struct sisal_row *row)
@@ -73,16 +83,19 @@ static void say_row(const struct sisal_row *row)
     s.kind = row->kind;
     s.alarm1 = row->alarm1;
     s.alarm0 = row->alarm0;
+    s.gauge = row->gauge;
     printf("row: %s, address %u, ", row->used ? "in use" : "free", row->address);
     say_standing(&s);
 }
 
 /* ---- the calls ------------------------------------------------------------------------------------------------------------------- */
 
-static void enrol(uint8_t settings, uint16_t address)
+static void enrol_with(uint8_t settings, uint16_t address, uint8_t gauge)
 {
-    say_answer("enrol", address, sisal_board_enrol(rows, ROWS, settings, address));
+    say_answer("enrol", address, sisal_board_enrol(rows, ROWS, settings, address, gauge));
 }
+
+static void enrol(uint8_t settings, uint16_t address) { enrol_with(settings, address, 0); }
 
 static void take_off(uint16_t address) { say_answer("remove", address, sisal_board_remove(rows, ROWS, address)); }
 
@@ -103,6 +116,24 @@ static void hear(uint16_t address, uint32_t minute, size_t count, const char *re
     struct sisal_heard heard = sisal_board_hear(rows, ROWS, minute, address, count, (const uint8_t *)reply, bytes);
     say_answer("hear", address, heard.number);
     look(address);
+}
+
+/* A reply of level 100 with this temperature, as a decimal 1900 sends it. */
+static void hear_warm(uint16_t address, uint32_t minute, int16_t tenths)
+{
+    uint8_t reply[7];
+    struct sisal_done done = sisal_write_reply(SISAL_MODE_DECIMAL, address, 100, SISAL_KIND_DEGREES, tenths, 0, 0, reply, sizeof reply);
+    hear(address, minute, 8 * done.count, (const char *)reply, done.count);
+}
+
+static void ask(uint16_t address, uint8_t raise, uint8_t reset)
+{
+    uint8_t out[2];
+    uint8_t number = sisal_board_poll(rows, ROWS, address, raise, reset, out, sizeof out);
+    if (number != SISAL_OK)
+        say_answer("poll", address, number);
+    else
+        printf("poll %u: %02x %02x\n", address, out[0], out[1]);
 }
 
 /* ---- the day --------------------------------------------------------------------------------------------------------------------- */
@@ -147,12 +178,31 @@ static void evening(void)
     take_off(999);
 }
 
+/* A copper bulb reports nonsense; then a 6500 takes its place and is moved. */
+static void night(void)
+{
+    enrol_with(SISAL_MODE_DECIMAL | SISAL_TYPE_1800, 20, SISAL_PROFILE_COPPER);
+    enrol_with(SISAL_MODE_DECIMAL, 20, SISAL_PROFILE_COPPER);
+    hear_warm(20, 800, 4000);
+    hear_warm(20, 801, 4001);
+    ask(20, 0, 0);
+    ask(20, 1, 0);
+    take_off(20);
+    enrol_with(SISAL_MODE_DECIMAL, 20, SISAL_GAUGE_6500);
+    hear_warm(20, 802, 4001);
+    ask(20, 1, 0);
+    ask(20, 0, 1);
+    ask(20, 1, 1);
+    take_off(20);
+}
+
 int main(void)
 {
     memset(rows, 0, sizeof rows);
     morning();
     noon();
     evening();
+    night();
     for (int i = 0; i < ROWS; i++)
         say_row(&rows[i]);
     return 0;

@@ -141,7 +141,7 @@ static void power_on(void)
 {
     memset(board, 0, sizeof board);
     for (int i = 0; i < TRANSMITTERS; i++)
-        want(sisal_board_enrol(board, SISAL_ROWS, site[i].settings, site[i].address) == SISAL_OK, "not enrolled");
+        want(sisal_board_enrol(board, SISAL_ROWS, site[i].settings, site[i].address, 0) == SISAL_OK, "not enrolled");
 }
 
 /* Polls one transmitter and hears its reply; a reply that was spoiled on the lines is asked for once more. */

@@ -54,7 +54,7 @@ extern "C" {
 /* ---- the version ----------------------------------------------------------------------------------------------------------------- */
 
 /* It goes up with every change of a struct, of a call's arguments or of a number's meaning. */
-#define SISAL_VERSION 2u
+#define SISAL_VERSION 3u
 
 /* The version of the archive. Refuses nothing. */
 SISAL_ANSWER uint32_t sisal_version(void);
@@ -88,6 +88,9 @@ enum sisal_number {
     SISAL_FAULT_ROUND = 23,         /* a round of more than 30 replies */
     SISAL_FAULT_COUNT = 24,         /* a count of a summary is above 1,000,000 */
     SISAL_FAULT_PAIRS = 25,         /* a join has more than 30 pairs, or a side has records of pairs that it does not keep */
+    SISAL_FAULT_PROFILE = 26,       /* a temperature is outside its row's sensor profile */
+    SISAL_FAULT_PROFILE_TYPE = 27,  /* a sensor profile on a type 1800 */
+    SISAL_FAULT_RAISE_RESET = 28,   /* raise or reset to a row without the mark of a 6500, or both at once */
     SISAL_FAULT_FRAMING = 29,       /* an item record has under 10 bytes, or STX, B, Z or ETX is not in its place */
     SISAL_FAULT_BLOCK_CHECK = 30,   /* its block check is wrong */
     SISAL_FAULT_ADDRESSES = 31,     /* its CIU or transmission address is no plain number: wildcards too */
@@ -108,6 +111,18 @@ enum sisal_settings {
     SISAL_MODE_30_M = 3,       /* level in mm, up to 32,699 */
     SISAL_TYPE_1800 = 4,       /* temperature as the Model 1800 sends it; without this bit, the Model 1900 */
     SISAL_ODD_PARITY = 8       /* odd parity; without this bit, even */
+};
+
+/* ---- gauge: a sensor profile, or none, with the mark added where it applies ------------------------------------------------------- */
+
+/*
+ * A profile is for a type 1900 that reports Fahrenheit, which is the host's to know: no setting says it, and the core compares tenths of a
+ * degree and converts nothing. 0 and 3 in the lowest two bits name no profile, and the bits above the mark are not read.
+ */
+enum sisal_gauge {
+    SISAL_PROFILE_COPPER = 1,   /* 100 ohm copper: -100 to +400 degrees, ends allowed */
+    SISAL_PROFILE_PLATINUM = 2, /* DIN platinum: -234 to +502 degrees, ends allowed */
+    SISAL_GAUGE_6500 = 4        /* a 6500 servo gauge: it may be polled with raise or with reset */
 };
 
 /* ---- kinds of temperature -------------------------------------------------------------------------------------------------------- */
@@ -209,7 +224,7 @@ struct sisal_row {
     uint32_t heard;   /* minute of the latest hearing, good or faulty; it means nothing while kind and fault are both 0 */
     uint16_t faulty;  /* faulty replies since the last good one or since enrolment; it stays at 65,535 */
     uint8_t place;    /* beside fault 7 the first digit in no chart, counted from 0 at the top; not read beside another fault */
-    uint8_t gauge;    /* 0 in a new and in a free row, kept by a hearing, not read */
+    uint8_t gauge;    /* enum sisal_gauge, as enrolling was given it, kept by a hearing; 0 in a free row */
 };
 
 /* A reply that was heard on the board. */
@@ -233,7 +248,7 @@ struct sisal_standing {
     uint32_t heard; /* minute of the latest hearing, good or faulty; 0 where there is none, which kind 0 and fault 0 together say */
     uint16_t faulty; /* faulty replies since the last good one or since enrolment, at most 65,535 */
     uint8_t place;  /* beside fault 7 the first digit in no chart, counted from 0 at the top; 0 beside another fault */
-    uint8_t gauge;  /* 0 */
+    uint8_t gauge;  /* the profile, 0 to 2, and 4 more with the mark of a 6500, whatever else stands in the row */
 };
 
 static_assert(sizeof(struct sisal_poll) == 6, "struct sisal_poll");
@@ -371,14 +386,18 @@ SISAL_ANSWER struct sisal_lines_told sisal_hear_lines(struct sisal_lines_so_far 
 
 /* ---- the board: the first 30 of the rows lent count ------------------------------------------------------------------------------ */
 
-/* Enrols a transmitter in the first free row, with no reading and fault 0: 0; or 10, 11, 18, 19, and no row is changed. */
-SISAL_ANSWER uint8_t sisal_board_enrol(struct sisal_row *rows, size_t row_count, uint8_t settings, uint16_t address);
+/*
+ * Enrols a transmitter in the first free row, with its sensor profile and mark in `gauge`, 0 for neither, no reading and fault 0: 0; or 10,
+ * 11, 27, 18, 19, and no row is changed.
+ */
+SISAL_ANSWER uint8_t sisal_board_enrol(struct sisal_row *rows, size_t row_count, uint8_t settings, uint16_t address, uint8_t gauge);
 
 /*
  * Hears a reply to a poll of `address`: 0, and the row's reading, minute and fault 0 are set. Or 11, 14, 17, 10 (the row's own settings),
- * and no row is changed; or, asked last, 1 to 9, and only the row's fault is set, 7 with its place, which is answered too. Beside every
- * other number `place` is 0. A hearing that answers 0 to 9 sets the minute of the latest hearing; 0 sets the count of faulty replies to 0,
- * and 1 to 9 add one to it.
+ * and no row is changed; or, asked last, 1 to 9, and then 26 where the reply's temperature is outside the row's profile, and only the row's
+ * fault is set, 7 with its place, which is answered too. Beside every other number `place` is 0. A hearing that answers 0 to 9 or 26 sets
+ * the minute of the latest hearing; 0 sets the count of faulty replies to 0, and the others add one to it. An 1800 row and a reply with no
+ * temperature are not checked against a profile.
  */
 SISAL_ANSWER struct sisal_heard sisal_board_hear(struct sisal_row *rows, size_t row_count, uint32_t minute, uint16_t address,
                                                  size_t count, const uint8_t *reply, size_t reply_bytes);
@@ -388,6 +407,14 @@ SISAL_ANSWER uint8_t sisal_board_remove(struct sisal_row *rows, size_t row_count
 
 /* Looks a transmitter up. Refuses 11, 17, with all else 0. */
 SISAL_ANSWER struct sisal_standing sisal_board_look_up(const struct sisal_row *rows, size_t row_count, uint16_t address);
+
+/*
+ * Writes the poll of a transmitter's row into the first 2 bytes, with raise or with reset where they are not 0: 0, and no other byte is
+ * changed; or 11, 17, 28 (raise or reset to a row that is not marked as a 6500, or both at once), 15, and no byte is changed.
+ * sisal_write_poll asks no row.
+ */
+SISAL_ANSWER uint8_t sisal_board_poll(const struct sisal_row *rows, size_t row_count, uint16_t address, uint8_t raise, uint8_t reset,
+                                      uint8_t *out, size_t out_bytes);
 
 /* ---- the desk summary ------------------------------------------------------------------------------------------------------------- */
 

@@ -16,7 +16,7 @@ use crate::calls::Core;
 use crate::generate::{self, ReplyCase, SaveCase};
 use crate::random::Random;
 use crate::stopwatch::{Stopwatch, Timing};
-use crate::types::{Poll, Reading, Row, Temperature, BLANK, LARGEST_SHEET, ROWS, SLOT};
+use crate::types::{Poll, Reading, Row, Temperature, BLANK, LARGEST_SHEET, MARK_6500, ROWS, SLOT};
 use std::hint::black_box;
 
 /// Inputs of one case.
@@ -192,6 +192,10 @@ impl<L: Core, R: Core> Benchmarks<'_, L, R> {
         let left = hears(self.left, &rows, &replies);
         let right = hears(self.right, &rows, &replies);
         self.time(tell, "hear a reply, 30 rows", POOL, left, right);
+        let addresses: Vec<u16> = replies.iter().map(|case| case.address).collect();
+        let left = row_polls(self.left, &rows, &addresses);
+        let right = row_polls(self.right, &rows, &addresses);
+        self.time(tell, "poll of a row, 30 rows", POOL, left, right);
     }
 
     fn lists(&self, tell: &mut impl FnMut(&Timing), sizes: &[usize]) {
@@ -282,6 +286,22 @@ fn hears<'a, C: Core>(core: &'a C, rows: &[Row], replies: &'a [ReplyCase]) -> im
             let rows = black_box(&mut rows);
             let minute = minute as u32;
             let _ = black_box(core.hear(rows, minute, case.address, case.count, case.reply()));
+        }
+    }
+}
+
+/// Each row is a 6500 and is asked to raise.
+fn row_polls<'a, C: Core>(core: &'a C, rows: &[Row], addresses: &'a [u16]) -> impl FnMut() + 'a {
+    let marked = |row: &Row| Row {
+        gauge: MARK_6500,
+        ..*row
+    };
+    let rows: Vec<C::Row> = rows.iter().map(|row| core.row(&marked(row))).collect();
+    move || {
+        let mut out = [0; 2];
+        for &address in addresses {
+            let rows = black_box(&rows);
+            let _ = black_box(core.poll_row(rows, address, 1, 0, black_box(&mut out)));
         }
     }
 }

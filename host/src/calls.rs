@@ -95,10 +95,11 @@ pub trait Core: Sync {
         }
     }
 
-    /// Enrols a transmitter in the first free row. Refusals: 10, 11, 18, 19.
-    fn enrol(&self, rows: &mut [Self::Row], settings: u8, address: u16) -> Answer<()>;
+    /// Enrols a transmitter in the first free row, with its sensor profile and mark.
+    /// Refusals: 10, 11, 27, 18, 19.
+    fn enrol(&self, rows: &mut [Self::Row], settings: u8, address: u16, gauge: u8) -> Answer<()>;
 
-    /// Hears a reply to a poll of `address`. Refusals: 11, 14, 17, 10, then 1 to 9.
+    /// Hears a reply to a poll of `address`. Refusals: 11, 14, 17, 10, then 1 to 9, 26.
     fn hear(
         &self,
         rows: &mut [Self::Row],
@@ -113,6 +114,17 @@ pub trait Core: Sync {
 
     /// Looks a transmitter up. Refusals: 11, 17.
     fn look_up(&self, rows: &[Self::Row], address: u16) -> Answer<Standing>;
+
+    /// Writes a row's poll into the first 2 bytes, with raise or reset where they are not 0.
+    /// Refusals: 11, 17, 28, 15.
+    fn poll_row(
+        &self,
+        rows: &[Self::Row],
+        address: u16,
+        raise: u8,
+        reset: u8,
+        out: &mut [u8],
+    ) -> Answer<()>;
 
     /// This core's row for what a row says.
     fn row(&self, says: &Row) -> Self::Row;

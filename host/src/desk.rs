@@ -3,7 +3,7 @@
 
 use crate::calls::Core;
 use crate::reading::IndependentReading;
-use crate::types::{Answer, Fault, Last, Reading, Row, Standing, Temperature};
+use crate::types::{Answer, Fault, Last, Reading, Row, Standing, Temperature, COPPER, MARK_6500};
 
 /// A board, and whether its calls answer as they must.
 struct Desk<'a, C: Core> {
@@ -13,8 +13,34 @@ struct Desk<'a, C: Core> {
 
 impl<C: Core> Desk<'_, C> {
     fn enrol(&mut self, settings: u8, address: u16, answer: Answer<()>) {
-        let answered = self.core.enrol(&mut self.rows, settings, address);
+        self.enrol_with(settings, address, 0, answer);
+    }
+
+    fn enrol_with(&mut self, settings: u8, address: u16, gauge: u8, answer: Answer<()>) {
+        let answered = self.core.enrol(&mut self.rows, settings, address, gauge);
         assert_eq!(answered, answer, "enrol {address}");
+    }
+
+    /// Transmitter 20 answers level 100 with this temperature.
+    fn hear_warm(&mut self, minute: u32, tenths: i16, answer: Answer<()>, row: Standing) {
+        let reading = Reading {
+            level: 100,
+            temperature: Temperature::Degrees(tenths),
+            alarm1: false,
+            alarm0: false,
+        };
+        let mut out = [0; 7];
+        assert_eq!(self.core.write_reply(1, 20, &reading, &mut out), Ok(7));
+        self.hear((20, minute), (56, &out), answer, row);
+    }
+
+    fn ask(&self, raise: u8, reset: u8, answer: Answer<[u8; 2]>) {
+        let mut out = [0; 2];
+        let answered = self
+            .core
+            .poll_row(&self.rows, 20, raise, reset, &mut out)
+            .map(|()| out);
+        assert_eq!(answered, answer, "poll {raise} {reset}");
     }
 
     fn remove(&mut self, address: u16, answer: Answer<()>) {
@@ -53,6 +79,7 @@ fn standing(settings: u8, last: Option<Last>, fault: u8) -> Standing {
         place: 0,
         faulty: 0,
         heard: last.map(|last| last.minute),
+        gauge: 0,
     }
 }
 
@@ -136,6 +163,34 @@ fn evening<C: Core>(desk: &mut Desk<C>) {
     desk.remove(999, Ok(()));
 }
 
+/// A copper bulb reports nonsense; then a 6500 takes its place and is moved.
+fn night<C: Core>(desk: &mut Desk<C>) {
+    desk.enrol_with(5, 20, COPPER, Err(Fault::ProfileOf1800));
+    desk.enrol_with(1, 20, COPPER, Ok(()));
+    let copper = |last, fault| Standing {
+        gauge: COPPER,
+        ..standing(1, last, fault)
+    };
+    let kept = last(100, Temperature::Degrees(4_000), NO_ALARM, 800);
+    desk.hear_warm(800, 4_000, Ok(()), copper(kept, 0));
+    let outside = bad(copper(kept, 26), 1, 801);
+    desk.hear_warm(801, 4_001, Err(Fault::OutsideProfile), outside);
+    desk.ask(0, 0, Ok([0x80, 0x20]));
+    desk.ask(1, 0, Err(Fault::RaiseOrReset));
+    desk.remove(20, Ok(()));
+    desk.enrol_with(1, 20, MARK_6500, Ok(()));
+    let warm = last(100, Temperature::Degrees(4_001), NO_ALARM, 802);
+    let servo = Standing {
+        gauge: MARK_6500,
+        ..standing(1, warm, 0)
+    };
+    desk.hear_warm(802, 4_001, Ok(()), servo);
+    desk.ask(1, 0, Ok([0xA0, 0x20]));
+    desk.ask(0, 1, Ok([0x90, 0x20]));
+    desk.ask(1, 1, Err(Fault::RaiseOrReset));
+    desk.remove(20, Ok(()));
+}
+
 /// The whole day, on any core.
 pub fn day(core: &impl Core) {
     let rows = vec![core.row(&Row::default()); 3];
@@ -143,6 +198,7 @@ pub fn day(core: &impl Core) {
     morning(&mut desk);
     noon(&mut desk);
     evening(&mut desk);
+    night(&mut desk);
     let rows: Vec<Row> = desk.rows.iter().map(|row| core.says(row)).collect();
     let first = Row {
         in_use: true,

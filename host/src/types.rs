@@ -15,6 +15,11 @@ pub const LARGEST_ADDRESS: u16 = 999;
 pub const LARGEST_SETTINGS: u8 = 15;
 /// Settings bit of type 1800.
 pub const TYPE_1800: u8 = 4;
+/// Profiles of a row: 100 ohm copper, and DIN platinum; any other of bits 0 and 1 is none.
+pub const COPPER: u8 = 1;
+pub const PLATINUM: u8 = 2;
+/// Bit of a row's gauge that marks a 6500.
+pub const MARK_6500: u8 = 4;
 /// Settings bit of odd parity.
 pub const ODD_PARITY: u8 = 8;
 /// Largest level of each mode, in the mode's unit.
@@ -67,6 +72,9 @@ pub enum Fault {
     LargeRound = 23,
     LargeCount = 24,
     Unjoined = 25,
+    OutsideProfile = 26,
+    ProfileOf1800 = 27,
+    RaiseOrReset = 28,
     Framing = 29,
     BlockCheck = 30,
     ItemAddress = 31,
@@ -109,6 +117,9 @@ impl Fault {
         Fault::LargeRound,
         Fault::LargeCount,
         Fault::Unjoined,
+        Fault::OutsideProfile,
+        Fault::ProfileOf1800,
+        Fault::RaiseOrReset,
         Fault::Framing,
         Fault::BlockCheck,
         Fault::ItemAddress,
@@ -291,6 +302,8 @@ pub struct Row {
     pub faulty: u16,
     /// Minute of the latest hearing. A row with neither a reading nor a fault was never heard.
     pub heard: u32,
+    /// Bits 0 and 1 the sensor profile, bit 2 the mark of a 6500; the rest says nothing.
+    pub gauge: u8,
 }
 
 /// How a transmitter stands on the board, as looking it up answers it.
@@ -306,6 +319,8 @@ pub struct Standing {
     pub faulty: u16,
     /// Minute of the latest hearing, good or faulty; none since enrolment.
     pub heard: Option<u32>,
+    /// The sensor profile, 0 for none, and 4 more with the mark of a 6500.
+    pub gauge: u8,
 }
 
 #[cfg(test)]

@@ -7,6 +7,7 @@ pub mod digits;
 pub mod items;
 pub mod joins;
 pub mod lines;
+pub mod profiles;
 pub mod rounds;
 pub mod since;
 pub mod summaries;
@@ -78,12 +79,13 @@ where
         place: 0,
         faulty: 0,
         heard: 0,
+        gauge: 0,
     };
 
     fn new(core: &'a C) -> Self {
         let rows = vec![core.row(&Row::default()); 3];
         let mut board = Board { core, rows };
-        assert_eq!(board.core.enrol(&mut board.rows, 1, 7), Ok(()));
+        assert_eq!(board.core.enrol(&mut board.rows, 1, 7, 0), Ok(()));
         board.stands(&Self::ENROLLED, "enrolled");
         board
     }
@@ -129,6 +131,21 @@ macro_rules! tests_on {
         #[test]
         fn how_long_it_has_been_bad() {
             $crate::vectors::since::a_row(&$core);
+        }
+
+        #[test]
+        fn enrolled_with_a_gauge() {
+            $crate::vectors::profiles::enrolled(&$core);
+        }
+
+        #[test]
+        fn temperatures_and_profiles() {
+            $crate::vectors::profiles::heard(&$core);
+        }
+
+        #[test]
+        fn polls_of_rows() {
+            $crate::vectors::profiles::polled(&$core);
         }
 
         #[test]

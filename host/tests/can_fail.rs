@@ -89,6 +89,17 @@ const FOUND_BY: &[(Damage, &[&str])] = &[
     (RemovalKeepsAddress, &[BOARDS]),
     (UnknownBeforeForm, &[BOARDS]),
     (SettingsOfRowNotAsked, &[BOARDS]),
+    (ProfileEndsStrict, &[BOARDS]),
+    (ProfileOf1800Checked, &[BOARDS]),
+    (ReadingClearedByProfile, &[BOARDS]),
+    (ProfileOf1800Enrolled, &[BOARDS]),
+    (TwiceBeforeProfile, &[BOARDS]),
+    (RemovalKeepsGauge, &[BOARDS]),
+    (GaugeToldAsItStands, &[BOARDS]),
+    (RaiseToAnyRow, &[BOARDS]),
+    (RaiseAndResetAtOnce, &[BOARDS]),
+    (RaiseWrittenAsReset, &[BOARDS]),
+    (ShortBeforeMark, &[BOARDS]),
 ];
 
 /// The comparisons of some calls, held to account: they pass for two right cores, whichever side

@@ -1,6 +1,6 @@
 -- A hearing as a change: refused before the reply is read, or as the frame's answer has it. What the frame answers is opened just so far
 -- that its number, its reading and its place are seen.
-use mathlib.Core.Path.{_≡_, sym, _∙_, ap}
+use mathlib.Core.Path.{_≡_, refl, _∙_, ap}
 use mathlib.Core.Bool.{true, false}
 use mathlib.Core.List.{List}
 use Prim.Native.Nat.{ℕ, _<_, _≤_}
@@ -8,11 +8,9 @@ use native.Mathlib.Omega.{arith}
 use lib.Dec.{eqb}
 use lib.ListN.{length}
 use Rattle.frame.specs.declared.Reply.{Reply}
-use Rattle.frame.specs.declared.Reply.the-variants.{Read}
 use Rattle.frame.specs.Level.{Level, levelOf}
 use Rattle.frame.specs.Line.{line, formed}
-use Rattle.frame.specs.Pick.{pick}
-use Rattle.frame.specs.Reply.{modeIn, refusedBy, replyOf, readingAt}
+use Rattle.frame.specs.Reply.{modeIn, replyFault, replyOf, readingAt}
 use Rattle.board.specs.declared.Row.{Row}
 use Rattle.board.specs.declared.value.Change.{Change}
 use Rattle.board.specs.declared.value.Found.{Found}
@@ -42,13 +40,10 @@ module _ (board : List Row) (few : length board ≤ 30) (minute address count : 
   unfolding hearRows hearPlace
   hear-refuses n z v f is e = unheard board few (placeOf address board) row minute (readingAt (row .settings) count (line reply)) level n number c z v f is e
 
-  abbrev by-number : ℕ → Reply
-  by-number n = pick (eqb n 0) (Read (readingAt (row .settings) count (line reply))) (refusedBy level n)
-
   here : address ≤ 999 → formed count reply ≡ true → placeOf address board < length board → c ≡ heardChange (placeOf address board) row minute (replyOf (row .settings) address count reply) → HearsAt
   unfolding hearRows hearPlace replyOf
   here a f l is =
-      hears board few (placeOf address board) row minute (readingAt (row .settings) count (line reply)) level number c (replyOf (row .settings) address count reply) is (ap by-number (sym (hear-read board address count reply a f l))) l
+      hears board few (placeOf address board) row minute (readingAt (row .settings) count (line reply)) level (replyFault (row .settings) address count reply) number c (replyOf (row .settings) address count reply) is refl (hear-read board address count reply a f l) l
 
   -- the same, of what a search found, and of an answer that was given
   pub hear-changes : (f : Found) (answer : Reply) → Finds board address f → address ≤ 999 → formed count reply ≡ true → f .at < f .n → answer ≡ replyOf (f .row .settings) address count reply → c ≡ heardChange (f .at) (heardAt (f .row) minute) minute answer → HearsAt

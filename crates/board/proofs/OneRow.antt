@@ -1,6 +1,6 @@
 -- A change of one row or of none: what each kind of change answers, and what it makes of a board. All go by the tests of the number.
 use mathlib.Core.Path.{_≡_, refl, sym, _∙_, ap}
-use mathlib.Core.Bool.{Bool, true, false}
+use mathlib.Core.Bool.{Bool, true, false, not}
 use mathlib.Core.List.{List}
 use Prim.Native.Nat.{ℕ, _<_, _≤_}
 use native.Mathlib.Omega.{arith}
@@ -17,8 +17,9 @@ use Rattle.frame.specs.Pick.{pick}
 use Rattle.board.specs.declared.Row.{Row}
 use Rattle.board.specs.declared.value.Board.{Board}
 use Rattle.board.specs.declared.value.Change.{Change}
+use Rattle.board.specs.Gauge.{outsideBy}
 use Rattle.board.specs.Row.{freeRow, withReading, withFault, setsFault}
-use Rattle.board.proofs.Faults.{sets-7}
+use Rattle.board.proofs.Faults.{sets-7, sets-26}
 use Rattle.board.specs.inside.ByValue.{rowsOf, putIn, Changes, changeOf, refusal, heardChange}
 
 -- the rows of a board by value are as many as it says
@@ -54,19 +55,34 @@ module _ (board : List Row) where
     pub unheard : (n number : ℕ) (c : Change) → eqb n 0 ≡ false → eqb n 7 ≡ false → setsFault n ≡ false → c ≡ refusal n → number ≡ n → Hearing (eqb number 0) (eqb number 7) (setsFault number) number c
     unheard n number c z v f is e = rw (is, e) (rw (z, v, f) (record { answers = refl; leaves = put-nowhere 30 freeRow few }, refl))
 
-    -- the change that the frame's answer makes
-    heard-by : (is-good is-seven is-set : Bool) (number : ℕ) → eqb number 0 ≡ is-good → eqb number 7 ≡ is-seven → setsFault number ≡ is-set → at < length board
-        → Hearing is-good is-seven is-set number (heardChange at row minute (pick is-good (Read r) (pick is-seven (Unreadable (placeLost level)) (Refused number))))
-    heard-by true true is-set number z v f l = absurd (omega (arith, eqb-true number 0 z, eqb-true number 7 v))
-    heard-by true false is-set number z v f l = (record { answers = sym (eqb-true number 0 z); leaves = put-there at (withReading row r minute) l }, refl)
-    heard-by false true true number z v f l =
+    abbrev Heard-as : ℕ → Change → Type 0
+    Heard-as number c = Hearing (eqb number 0) (eqb number 7) (setsFault number) number c
+
+    -- the change that a refusal of the frame makes, whatever its number but 0
+    refused-by : (is-seven is-set : Bool) (number : ℕ) → eqb number 7 ≡ is-seven → setsFault number ≡ is-set → at < length board
+        → Hearing false is-seven is-set number (heardChange at row minute (pick is-seven (Unreadable (placeLost level)) (Refused number)))
+    refused-by true true number v f l =
         let e : number ≡ 7 = eqb-true number 7 v in
         (record { answers = sym e; leaves = put-there at (withFault row 7 (placeLost level)) l ∙ ap (λ (n : ℕ). set board at (withFault row n (placeLost level))) (sym e) }, refl)
-    heard-by false true false number z v f l =
+    refused-by true false number v f l =
         let b : _≡_ {A = Bool} true false = sym sets-7 ∙ ap setsFault (sym (eqb-true number 7 v)) ∙ f in let bad : _≡_ {A = ℕ} 0 1 = cc in absurd (omega arith)
-    heard-by false false true number z v f l = rw f (record { answers = refl; leaves = put-there at (withFault row number 0) l }, refl)
-    heard-by false false false number z v f l = rw f (record { answers = refl; leaves = put-nowhere 30 freeRow few }, refl)
+    refused-by false true number v f l = rw f (record { answers = refl; leaves = put-there at (withFault row number 0) l }, refl)
+    refused-by false false number v f l = rw f (record { answers = refl; leaves = put-nowhere 30 freeRow few }, refl)
 
-    pub hears : (number : ℕ) (c : Change) (answer : Reply) → c ≡ heardChange at row minute answer → answer ≡ pick (eqb number 0) (Read r) (refusedBy level number) → at < length board
-        → Hearing (eqb number 0) (eqb number 7) (setsFault number) number c
-    hears number c answer is e l = rw (is, e) (heard-by (eqb number 0) (eqb number 7) (setsFault number) number refl refl refl l)
+    -- whether the temperature read is outside the row's profile
+    abbrev out : Bool
+    out = outsideBy (row .settings) (row .gauge) (r .temperature)
+
+    -- the change that a reading makes: it is set, or 26
+    read-by : (is-out : Bool) → at < length board → Heard-as (pick is-out 26 0) (pick is-out (changeOf at (withFault row 26 0) 26 0) (changeOf at (withReading row r minute) 0 0))
+    read-by true l = rw sets-26 (record { answers = refl; leaves = put-there at (withFault row 26 0) l }, refl)
+    read-by false l = (record { answers = refl; leaves = put-there at (withReading row r minute) l }, refl)
+
+    -- the change that the frame's answer makes, by whether it refuses
+    heard-by : (good : Bool) (fault : ℕ) → eqb fault 0 ≡ good → at < length board → Heard-as (pick (not good) fault (pick out 26 0)) (heardChange at row minute (pick good (Read r) (refusedBy level fault)))
+    heard-by true fault z l = read-by out l
+    heard-by false fault z l = rw z (refused-by (eqb fault 7) (setsFault fault) fault refl refl l)
+
+    pub hears : (fault number : ℕ) (c : Change) (answer : Reply) → c ≡ heardChange at row minute answer → answer ≡ pick (eqb fault 0) (Read r) (refusedBy level fault)
+        → number ≡ pick (not (eqb fault 0)) fault (pick out 26 0) → at < length board → Heard-as number c
+    hears fault number c answer is e n l = rw (is, e, n) (heard-by (eqb fault 0) fault refl l)

@@ -7,6 +7,7 @@ use Rattle.frame.specs.Kinds.{readingBy}
 use Rattle.frame.specs.Pick.{pick}
 use Rattle.board.specs.declared.Looked.{Looked}
 use Rattle.board.specs.declared.Row.{Row}
+use Rattle.board.specs.Gauge.{gaugeTold}
 use Rattle.board.specs.Row.{Last, none, good, rowBy, keptAs, placeTold, heardTold}
 use Rattle.board.specs.Calls.{answerBy, told}
 
@@ -15,7 +16,7 @@ module _ (row : Row) where
   abbrev pub toldWith : Last → Looked
   toldWith last =
       answerBy 0
-      (rowBy (record { used = 0; address = row .address; settings = row .settings; gauge = 0 }) (keptAs last) (record { fault = row .fault; place = placeTold row; faulty = row .faulty; heard = heardTold row }))
+      (rowBy (record { used = 0; address = row .address; settings = row .settings; gauge = gaugeTold (row .gauge) }) (keptAs last) (record { fault = row .fault; place = placeTold row; faulty = row .faulty; heard = heardTold row }))
 
   abbrev read : Last
   read = good (readingBy (row .kind) (row .tenths) (row .level) (row .alarm1) (row .alarm0)) (row .minute)

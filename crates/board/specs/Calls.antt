@@ -1,38 +1,54 @@
 -- Document 01, "Fault numbers" and "The board": what each call answers, and what it leaves of the rows. One record for each call
 -- fixes both, for all rows of whatever bytes and number.
 use mathlib.Core.Path.{_≡_}
-use mathlib.Core.Bool.{true, not}
+use mathlib.Core.Bool.{Bool, not}
 use mathlib.Core.List.{List, [], _∷_, _++_}
 use Prim.Native.Nat.{ℕ}
 use lib.Dec.{eqb, ltb}
-use lib.ListN.{set}
+use lib.ListN.{length, drop, set}
 use Rattle.frame.specs.Faults.{_gives_, firstOf}
-use Rattle.frame.specs.Line.{line, formed}
+use Rattle.frame.specs.Kinds.{isSet}
+use Rattle.frame.specs.Line.{line, firstBytes, formed}
 use Rattle.frame.specs.Pick.{pick}
 use Rattle.frame.specs.Level.{levelOf, placeLost}
+use Rattle.frame.specs.Poll.{pollLine}
 use Rattle.frame.specs.Reply.{modeIn, replyFault, readingAt}
 use Rattle.board.specs.declared.Heard.{Heard}
 use Rattle.board.specs.declared.Looked.{Looked}
 use Rattle.board.specs.declared.Row.{Row}
+use Rattle.board.specs.Gauge.{outsideBy, profileMisplaced, gaugeTold, unmarked, atOnce}
 use Rattle.board.specs.Row.{Last, lastBy, lastOf, rowBy, keptAs, placeTold, heardAt, heardTold, Minute, minuteBy, freeRow, newRow, withReading, withFault, setsFault}
 use Rattle.board.specs.Rows.{boardOf, beyond, placeOf, onBoard, rowOf, placeFree, hasFree}
 
--- Enrolling: 10, 11, 18, 19. It takes the first free row; a refused enrolment changes no row.
-unfoldable pub enrolNumber : List Row → ℕ → ℕ → ℕ
+-- Enrolling: 10, 11, 27, 18, 19. It takes the first free row; a refused enrolment changes no row.
+unfoldable pub enrolNumber : List Row → (settings address gauge : ℕ) → ℕ
 unfolding firstOf
-enrolNumber board settings address =
+enrolNumber board settings address gauge =
     firstOf
-    (ltb 15 settings gives 10 ∷ ltb 999 address gives 11 ∷ onBoard address board gives 18 ∷ not (hasFree board) gives 19 ∷ [])
+    (ltb 15 settings gives 10
+    ∷ ltb 999 address gives 11
+    ∷ profileMisplaced settings gauge gives 27
+    ∷ onBoard address board gives 18
+    ∷ not (hasFree board) gives 19
+    ∷ [])
 
-unfoldable pub enrolRows : List Row → ℕ → ℕ → List Row
-enrolRows board settings address =
-    pick (eqb (enrolNumber board settings address) 0) (set board (placeFree board) (newRow settings address)) board
+unfoldable pub enrolRows : List Row → (settings address gauge : ℕ) → List Row
+enrolRows board settings address gauge =
+    pick (eqb (enrolNumber board settings address gauge) 0) (set board (placeFree board) (newRow settings address gauge)) board
 
-pub record Enrols (rows : List Row) (settings address : ℕ) (answer : ℕ) (after : List Row) : Type 0 where
-  pub answers : answer ≡ enrolNumber (boardOf rows) settings address
-  pub leaves : after ≡ enrolRows (boardOf rows) settings address ++ beyond rows
+pub record Enrols (rows : List Row) (settings address gauge : ℕ) (answer : ℕ) (after : List Row) : Type 0 where
+  pub answers : answer ≡ enrolNumber (boardOf rows) settings address gauge
+  pub leaves : after ≡ enrolRows (boardOf rows) settings address gauge ++ beyond rows
 
--- Hearing: 11, 14, 17, then what reading the reply by the row's own settings byte gives, which is 10 or 1 to 9.
+-- What reading a reply by a row's own settings byte gives: 10 or 1 to 9, 0 where it is accepted.
+abbrev pub faultBy : Row → ℕ → ℕ → List ℕ → ℕ
+faultBy row address count reply = replyFault (row .settings) address count reply
+
+-- Whether the temperature read is outside the row's profile.
+abbrev pub outsideAt : Row → ℕ → List ℕ → Bool
+outsideAt row count reply = outsideBy (row .settings) (row .gauge) (readingAt (row .settings) count (line reply) .temperature)
+
+-- Hearing: 11, 14, 17, then what reading the reply gives, 10 or 1 to 9, and then 26, of a reply that is accepted so far.
 unfoldable pub hearNumber : List Row → ℕ → ℕ → List ℕ → ℕ
 unfolding firstOf
 hearNumber board address count reply =
@@ -40,7 +56,8 @@ hearNumber board address count reply =
     (ltb 999 address gives 11
     ∷ not (formed count reply) gives 14
     ∷ not (onBoard address board) gives 17
-    ∷ true gives replyFault (rowOf address board .settings) address count reply
+    ∷ not (eqb (faultBy (rowOf address board) address count reply) 0) gives faultBy (rowOf address board) address count reply
+    ∷ outsideAt (rowOf address board) count reply gives 26
     ∷ [])
 
 -- Document 02, request 02: fault 7 comes with the place of the first digit in no chart. No other number does.
@@ -48,8 +65,8 @@ unfoldable pub hearPlace : List Row → ℕ → ℕ → List ℕ → ℕ
 hearPlace board address count reply =
     pick (eqb (hearNumber board address count reply) 7) (placeLost (levelOf (modeIn (rowOf address board .settings)) (line reply))) 0
 
--- A good reply sets reading, minute and fault 0. Faults 1 to 9 set only the fault, 7 with its place, and are counted. Both set the minute
--- that the row was last heard. 10, 11, 14 and 17 change nothing.
+-- A good reply sets reading, minute and fault 0. Faults 1 to 9 and 26 set only the fault, 7 with its place, and are counted. Both set the
+-- minute that the row was last heard. 10, 11, 14 and 17 change nothing.
 unfoldable pub hearRows : List Row → (minute address count : ℕ) → List ℕ → List Row
 hearRows board minute address count reply =
     let number = hearNumber board address count reply in
@@ -98,12 +115,12 @@ answerBy number row =
       gauge = row .gauge;
     }
 
--- What looking tells of a row: its address and settings, the last good reading with its minute, the last fault with its place,
+-- What looking tells of a row: its address, settings and gauge, the last good reading with its minute, the last fault with its place,
 -- the count of faulty replies, and the minute it was last heard. It tells what the row holds and not its bytes.
 abbrev pub told : Row → Looked
 told row =
     answerBy 0
-    (rowBy (record { used = 0; address = row .address; settings = row .settings; gauge = 0 }) (keptAs (lastOf row))
+    (rowBy (record { used = 0; address = row .address; settings = row .settings; gauge = gaugeTold (row .gauge) }) (keptAs (lastOf row))
     (record { fault = row .fault; place = placeTold row; faulty = row .faulty; heard = heardTold row }))
 
 -- A refusal answers its number alone.
@@ -124,3 +141,26 @@ lastTold a = lastBy (a .kind) (a .tenths) (a .level) (a .alarm1) (a .alarm0) (a 
 -- And the minute it was last heard, or none.
 abbrev pub minuteTold : Looked → Minute
 minuteTold a = minuteBy (a .kind) (a .fault) (a .heard)
+
+-- Document 02, request 10: writing a row's poll, 11, 17, 28, 15. Raise or reset goes only to a marked row, and never both; a poll with
+-- neither goes to any row.
+unfoldable pub rowPollNumber : List Row → (address raise reset : ℕ) → List ℕ → ℕ
+unfolding firstOf
+rowPollNumber board address raise reset out =
+    firstOf
+    (ltb 999 address gives 11
+    ∷ not (onBoard address board) gives 17
+    ∷ unmarked (rowOf address board .gauge) raise reset gives 28
+    ∷ atOnce raise reset gives 28
+    ∷ ltb (length out) 2 gives 15
+    ∷ [])
+
+-- Only the first 2 bytes of the output change, and none where it refuses. No row changes: they are lent to be read.
+unfoldable pub rowPollBytes : List Row → (address raise reset : ℕ) → List ℕ → List ℕ
+rowPollBytes board address raise reset out =
+    pick (eqb (rowPollNumber board address raise reset out) 0)
+    (firstBytes 2 (pollLine address (isSet raise) (isSet reset)) ++ drop 2 out) out
+
+pub record PollsRow (rows : List Row) (address raise reset : ℕ) (out : List ℕ) (answer : ℕ) (after : List ℕ) : Type 0 where
+  pub answers : answer ≡ rowPollNumber (boardOf rows) address raise reset out
+  pub leaves : after ≡ rowPollBytes (boardOf rows) address raise reset out

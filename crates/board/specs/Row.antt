@@ -1,5 +1,5 @@
 -- Document 01, "The board": one row. It holds an address, settings, the last good reading with its minute, and the last fault.
-use mathlib.Core.Bool.{Bool, not, _&&_}
+use mathlib.Core.Bool.{Bool, not, _&&_, _||_}
 use Prim.Native.Nat.{ℕ, _+_}
 use lib.Dec.{eqb, leb, ltb}
 use lib.IntN.{ℤ, pos}
@@ -29,7 +29,7 @@ lastBy kind tenths level alarm1 alarm0 minute = pick (eqb kind 0) none (good (re
 abbrev pub lastOf : Row → Last
 lastOf row = lastBy (row .kind) (row .tenths) (row .level) (row .alarm1) (row .alarm0) (row .minute)
 
--- A row has three parts. Whose it is, set by enrolling and removing.
+-- A row has three parts. Whose it is, with its sensor profile and mark in `gauge`, set by enrolling and removing.
 pub record Owner : Type 0 where
   pub used : ℕ
   pub address : ℕ
@@ -85,8 +85,8 @@ sinceOf row = record { fault = row .fault; place = row .place; faulty = row .fau
 abbrev pub nobody : Owner
 nobody = record { used = 0; address = 0; settings = 0; gauge = 0 }
 
-abbrev pub enrolled : ℕ → ℕ → Owner
-enrolled settings address = record { used = 1; address = address; settings = settings; gauge = 0 }
+abbrev pub enrolled : ℕ → ℕ → ℕ → Owner
+enrolled settings address gauge = record { used = 1; address = address; settings = settings; gauge = gauge }
 
 -- A last good reading as it is kept. No reading is all zeros.
 abbrev pub keptAs : Last → Kept
@@ -117,13 +117,13 @@ faultOf s fault place faulty = record { fault = fault; place = place; faulty = f
 abbrev pub placeTold : Row → ℕ
 placeTold row = pick (eqb (row .fault) 7) (row .place) 0
 
--- A free row as a removal leaves it: address and settings 0, no reading, fault 0. It is all zeros.
+-- A free row as a removal leaves it: address, settings and gauge 0, no reading, fault 0. It is all zeros.
 abbrev pub freeRow : Row
 freeRow = rowBy nobody (keptAs none) unheard
 
--- The row that an enrolment starts: in use, with no reading and fault 0.
-abbrev pub newRow : ℕ → ℕ → Row
-newRow settings address = rowBy (enrolled settings address) (keptAs none) unheard
+-- The row that an enrolment starts: in use, with the gauge that was given, no reading and fault 0.
+abbrev pub newRow : ℕ → ℕ → ℕ → Row
+newRow settings address gauge = rowBy (enrolled settings address gauge) (keptAs none) unheard
 
 -- The row, heard at a minute: that of the latest hearing, good or faulty, even if the clock went back.
 abbrev pub heardAt : Row → ℕ → Row
@@ -153,6 +153,6 @@ withReading row r minute = rowBy (ownerOf row) (keptAs (good r minute)) (faultOf
 abbrev pub withFault : Row → ℕ → ℕ → Row
 withFault row fault place = rowBy (ownerOf row) (keptOf row) (faultOf (sinceOf row) fault place (more (row .faulty)))
 
--- Faults 1 to 9 are those that a row's fault is set to.
+-- Faults 1 to 9 are those that a row's fault is set to, and so is 26, which acts on a row as 9 does.
 unfoldable pub setsFault : ℕ → Bool
-setsFault number = leb 1 number && leb number 9
+setsFault number = eqb number 26 || leb 1 number && leb number 9

@@ -1,11 +1,12 @@
 // The board of last good readings: the calls over rows that the host lends. Every call takes every input. The first 30 rows count,
 // or all where they are fewer; rows past the thirtieth are never read or written, and no answer names a row's place. The calls are
 // exported, so their names bear a prefix: C has a `remove` of its own.
+mod gauge;
 mod lent;
 mod rows;
 mod value;
 
-ghost use Rattle.board.specs.Calls.{Enrols, Hears, Removes, LooksUp};
+ghost use Rattle.board.specs.Calls.{Enrols, Hears, Removes, LooksUp, PollsRow};
 
 // A row as the host lends it: 24 bytes with no hole, integers alone, so that every bit pattern is a row. All zeros is a free row.
 #[repr(C)]
@@ -29,7 +30,7 @@ pub struct Row {
     pub faulty: u16,
     // Beside fault 7 the place of the unreadable digit, counted from 0 at the top; it means nothing beside another fault.
     pub place: u8,
-    // 0 in a new and in a free row, kept by a hearing, and not read.
+    // Bits 0 and 1 the sensor profile, 1 copper, 2 platinum, any other none; bit 2 the mark of a 6500; the rest is not read.
     pub gauge: u8,
 }
 
@@ -41,7 +42,7 @@ pub struct Heard {
 }
 
 // What looking answers: the refusal's number alone, or number 0 and what the row holds. It is laid out as a row is; its kind is at
-// most 4 and its alarms are 0 or 1.
+// most 4, its alarms are 0 or 1, and its gauge is the profile, 0 to 2, and 4 more with the mark.
 #[repr(C)]
 pub struct Looked {
     pub minute: u32,
@@ -60,19 +61,20 @@ pub struct Looked {
     pub gauge: u8,
 }
 
-// Enrols a transmitter in the first free row: 0; or 10 settings, 11 asked address, 18 twice, 19 no row.
+// Enrols a transmitter in the first free row, with its sensor profile and the mark of a 6500 in `gauge`: 0; or 10 settings, 11 asked
+// address, 27 profile on an 1800, 18 twice, 19 no row.
 #[no_mangle]
-pub extern "C" fn sisal_board_enrol(rows: &mut [Row], settings: u8, address: u16) -> u8
-    ensures { λ r. ⌜ Enrols (now (rows .entry)) settings address r (now (rows .exit)) ⌝ }
+pub extern "C" fn sisal_board_enrol(rows: &mut [Row], settings: u8, address: u16, gauge: u8) -> u8
+    ensures { λ r. ⌜ Enrols (now (rows .entry)) settings address gauge r (now (rows .exit)) ⌝ }
 {
     let f = lent::find(rows, address);
-    let c = value::enrol(f, settings, address);
+    let c = value::enrol(f, settings, address, gauge);
     lent::put(rows, f.n, c)
 }
 
-// Hears a reply: 0, reading, minute and fault 0 are set; 1 to 9, the row's fault is set, 7 with its place, and counted, and its reading
-// stays; in both cases the row was last heard at this minute; or 11 asked address, 14 form, 17 unknown, 10 the row's own settings, and
-// nothing changes.
+// Hears a reply: 0, reading, minute and fault 0 are set; 1 to 9, or 26 temperature outside the row's profile, the row's fault is set, 7 with
+// its place, and counted, and its reading stays; in both cases the row was last heard at this minute; or 11 asked address, 14 form,
+// 17 unknown, 10 the row's own settings, and nothing changes.
 #[no_mangle]
 pub extern "C" fn sisal_board_hear<'r, 'b>(
     rows: &'r mut [Row],
@@ -106,4 +108,21 @@ pub extern "C" fn sisal_board_look_up(rows: &[Row], address: u16) -> Looked
 {
     let f = lent::find(rows, address);
     value::look(f, address)
+}
+
+// Writes the poll of a transmitter's row into the first 2 bytes, with raise or with reset where they are not 0: 0; or 11 asked address,
+// 17 unknown, 28 raise or reset to a row without the mark, or both at once, 15 output short, and nothing changes.
+#[no_mangle]
+pub extern "C" fn sisal_board_poll<'r, 'o>(
+    rows: &'r [Row],
+    address: u16,
+    raise: u8,
+    reset: u8,
+    out: &'o mut [u8],
+) -> u8
+    ensures { λ r. ⌜ PollsRow (now (rows .entry)) address raise reset (now (out .entry)) r (now (out .exit)) ⌝ }
+{
+    let f = lent::find(rows, address);
+    let number = value::may_poll(f, address, raise, reset);
+    value::write_or(number, address, raise, reset, out)
 }

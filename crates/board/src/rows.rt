@@ -6,6 +6,7 @@ ghost use Rattle.board.specs.Rows.{holds};
 ghost use Rattle.board.specs.Calls.{told, refusedLook};
 use crate::Looked;
 use crate::Row;
+use crate::gauge;
 use frame::Reading;
 use frame::kinds;
 
@@ -37,12 +38,13 @@ pub(crate) fn free_rows() -> [Row; 30]
     [row; 30]
 }
 
-pub(crate) fn new_row(settings: u8, address: u16) -> Row
-    ensures { λ r. ⌜ r ≡ newRow settings address ⌝ }
+pub(crate) fn new_row(settings: u8, address: u16, gauge: u8) -> Row
+    ensures { λ r. ⌜ r ≡ newRow settings address gauge ⌝ }
 {
     let mut row = free_row();
     row.address = address;
     row.settings = settings;
+    row.gauge = gauge;
     row.used = 1;
     row
 }
@@ -109,6 +111,9 @@ pub(crate) fn with_fault(row: Row, fault: u8, place: u8) -> Row
 pub(crate) fn sets_fault(number: u8) -> bool
     ensures { λ r. ⌜ r ≡ setsFault number ⌝ }
 {
+    if number == 26 {
+        return true;
+    }
     1 <= number && number <= 9
 }
 
@@ -160,6 +165,7 @@ pub(crate) fn tell(row: Row) -> Looked
     let mut answer = refused_look(0);
     answer.address = row.address;
     answer.settings = row.settings;
+    answer.gauge = gauge::told(row.gauge);
     answer.fault = row.fault;
     answer.place = place_told(row);
     answer.faulty = row.faulty;

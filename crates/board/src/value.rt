@@ -2,12 +2,15 @@
 // in the order of document 01, which one row changes, or that none does.
 ghost use mathlib.Core.Path.{_≡_};
 ghost use Prim.Native.Nat.{_≤_};
-ghost use Rattle.board.specs.inside.ByValue.{rowsOf, Finds, freeAfter, changeOf, refusal, heardChange, saidOf, EnrolsOn, HearsOn, RemovesOn, LooksOn};
+ghost use Rattle.board.specs.inside.ByValue.{rowsOf, Finds, freeAfter, changeOf, refusal, heardChange, saidOf, EnrolsOn, HearsOn, RemovesOn, LooksOn, readChange, MayPollOn, WritesOr};
 use crate::Heard;
 use crate::Looked;
 use crate::Row;
+use crate::gauge;
 use crate::rows;
+use frame::Reading;
 use frame::Reply;
+use frame::Written;
 
 pub(crate) struct Board {
     pub rows: [Row; 30],
@@ -97,9 +100,9 @@ fn refused(number: u8) -> Change
     }
 }
 
-// Enrolling: 10, 11, 18, 19.
-pub(crate) fn enrol(f: Found, settings: u8, address: u16) -> Change
-    ensures { λ r. ⌜ EnrolsOn f settings address r ⌝ }
+// Enrolling: 10, 11, 27, 18, 19.
+pub(crate) fn enrol(f: Found, settings: u8, address: u16, gauge: u8) -> Change
+    ensures { λ r. ⌜ EnrolsOn f settings address gauge r ⌝ }
 {
     if 15 < settings {
         return refused(10);
@@ -107,13 +110,16 @@ pub(crate) fn enrol(f: Found, settings: u8, address: u16) -> Change
     if 999 < address {
         return refused(11);
     }
+    if gauge::misplaced(settings, gauge) {
+        return refused(27);
+    }
     if f.at < f.n {
         return refused(18);
     }
     if f.n <= f.free {
         return refused(19);
     }
-    let row = rows::new_row(settings, address);
+    let row = rows::new_row(settings, address, gauge);
     Change {
         at: f.free,
         row: row,
@@ -134,13 +140,24 @@ fn changed(at: usize, row: Row, number: u8, place: u8) -> Change
     }
 }
 
-// The change that an answer of the frame makes of a row: a good reading is set, a fault that counts is set, 7 with its place, and 10
-// changes nothing.
+// The change that a reading makes of a row: it is set, or 26 where its temperature is outside the row's profile.
+fn read(at: usize, row: Row, minute: u32, reading: Reading) -> Change
+    ensures { λ r. ⌜ r ≡ readChange at row minute reading ⌝ }
+{
+    let t = reading.temperature;
+    if gauge::outside_by(row.settings, row.gauge, t) {
+        return changed(at, rows::with_fault(row, 26, 0), 26, 0);
+    }
+    changed(at, rows::with_reading(row, reading, minute), 0, 0)
+}
+
+// The change that an answer of the frame makes of a row: a good reading is set if its temperature may be, a fault that counts is set, 7
+// with its place, and 10 changes nothing.
 fn heard(at: usize, row: Row, minute: u32, answer: Reply) -> Change
     ensures { λ r. ⌜ r ≡ heardChange at row minute answer ⌝ }
 {
     match answer {
-        Reply::Read(reading) => changed(at, rows::with_reading(row, reading, minute), 0, 0),
+        Reply::Read(reading) => read(at, row, minute, reading),
         Reply::Refused(number) => {
             if rows::sets_fault(number) {
                 return changed(at, rows::with_fault(row, number, 0), number, 0);
@@ -161,7 +178,7 @@ pub(crate) fn said(c: Change) -> Heard
     }
 }
 
-// Hearing: 11, 14, 17, and then what the frame answers by the row's settings.
+// Hearing: 11, 14, 17, then what the frame answers by the row's settings, and 26 by the row's profile.
 pub(crate) fn hear(f: Found, minute: u32, address: u16, count: usize, reply: &[u8]) -> Change
     ensures { λ r. ⌜ HearsOn f minute address count (now (reply .entry)) r ⌝ }
 {
@@ -210,4 +227,37 @@ pub(crate) fn look(f: Found, address: u16) -> Looked
     }
     let row = f.row;
     rows::tell(row)
+}
+
+// Whether a row may be polled so: 11, 17, 28. Raise or reset is only for a marked row, and never both.
+pub(crate) fn may_poll(f: Found, address: u16, raise: u8, reset: u8) -> u8
+    ensures { λ r. ⌜ MayPollOn f address raise reset r ⌝ }
+{
+    if 999 < address {
+        return 11;
+    }
+    if f.n <= f.at {
+        return 17;
+    }
+    let row = f.row;
+    if gauge::unmarked(row.gauge, raise, reset) {
+        return 28;
+    }
+    if gauge::at_once(raise, reset) {
+        return 28;
+    }
+    0
+}
+
+// Answers the number that refused already, or writes the poll: 15.
+pub(crate) fn write_or(number: u8, address: u16, raise: u8, reset: u8, out: &mut [u8]) -> u8
+    ensures { λ r. ⌜ WritesOr number address raise reset (now (out .entry)) r (now (out .exit)) ⌝ }
+{
+    if number != 0 {
+        return number;
+    }
+    match frame::write_poll(address, raise != 0, reset != 0, out) {
+        Written::Bytes(_) => 0,
+        Written::Refused(refusal) => refusal,
+    }
 }

@@ -1,16 +1,16 @@
 -- What each call leaves of the board, by the number that it answers; and what the frame answers for a row, by its number. Each law puts the number
 -- into the definition and takes the tests of it.
 use mathlib.Core.Path.{_≡_, refl, sym, _∙_, ap}
-use mathlib.Core.Bool.{Bool, true, false}
+use mathlib.Core.Bool.{Bool, true, false, not}
 use mathlib.Core.List.{List, [], _∷_}
 use Prim.Native.Nat.{ℕ, _<_, _≤_}
 use native.Mathlib.Omega.{arith}
-use lib.Dec.{eqb}
+use lib.Dec.{eqb, ltb}
 use lib.ListN.{set, drop}
 use borrow.Author.Tests.{lt-ltb, le-ltb, eqb-true}
 use Rattle.frame.specs.declared.Reading.{Reading}
 use Rattle.frame.specs.declared.Reply.the-variants.{Read, Refused, Unreadable}
-use Rattle.frame.specs.Faults.{Test, firstOf}
+use Rattle.frame.specs.Faults.{Test, _gives_, firstOf}
 use Rattle.frame.specs.Line.{line, formed}
 use Rattle.frame.specs.Pick.{pick}
 use Rattle.frame.specs.Level.{Level, levelOf, placeLost}
@@ -19,16 +19,16 @@ use Rattle.frame.specs.Reply.{ReadsReply, modeIn, replyTests, replyFault, refus
 use Rattle.board.specs.declared.Row.{Row}
 use Rattle.board.specs.Row.{freeRow, newRow, withReading, withFault, setsFault, heardAt}
 use Rattle.board.specs.Rows.{placeOf, placeFree, rowOf}
-use Rattle.board.specs.Calls.{enrolNumber, enrolRows, hearNumber, hearPlace, hearRows, findNumber, removeRows, lookedAt, told, refusedLook}
+use Rattle.board.specs.Calls.{enrolNumber, enrolRows, faultBy, outsideAt, hearNumber, hearPlace, hearRows, findNumber, removeRows, lookedAt, told, refusedLook}
 
-module _ (board : List Row) (settings address : ℕ) where
-  pub enrol-keeps : eqb (enrolNumber board settings address) 0 ≡ false → enrolRows board settings address ≡ board
+module _ (board : List Row) (settings address gauge : ℕ) where
+  pub enrol-keeps : eqb (enrolNumber board settings address gauge) 0 ≡ false → enrolRows board settings address gauge ≡ board
   unfolding enrolRows
-  enrol-keeps e = ap (λ (t : Bool). pick t (set board (placeFree board) (newRow settings address)) board) e
+  enrol-keeps e = ap (λ (t : Bool). pick t (set board (placeFree board) (newRow settings address gauge)) board) e
 
-  pub enrol-sets : enrolNumber board settings address ≡ 0 → enrolRows board settings address ≡ set board (placeFree board) (newRow settings address)
+  pub enrol-sets : enrolNumber board settings address gauge ≡ 0 → enrolRows board settings address gauge ≡ set board (placeFree board) (newRow settings address gauge)
   unfolding enrolRows
-  enrol-sets e = ap (λ (n : ℕ). pick (eqb n 0) (set board (placeFree board) (newRow settings address)) board) e
+  enrol-sets e = ap (λ (n : ℕ). pick (eqb n 0) (set board (placeFree board) (newRow settings address gauge)) board) e
 
 module _ (board : List Row) (address : ℕ) where
   pub remove-keeps : eqb (findNumber board address) 0 ≡ false → removeRows board address ≡ board
@@ -46,6 +46,17 @@ module _ (board : List Row) (address : ℕ) where
   pub look-told : findNumber board address ≡ 0 → lookedAt board address ≡ told (rowOf address board)
   unfolding lookedAt
   look-told e = ap (λ (m : ℕ). pick (eqb m 0) (told (rowOf address board)) (refusedLook m)) e
+
+-- The number of a hearing, by whether the address is on the board and by its row.
+abbrev pub numberBy : (address count : ℕ) → List ℕ → Bool → Row → ℕ
+numberBy address count reply on row =
+    firstOf
+    (ltb 999 address gives 11
+    ∷ not (formed count reply) gives 14
+    ∷ not on gives 17
+    ∷ not (eqb (faultBy row address count reply) 0) gives faultBy row address count reply
+    ∷ outsideAt row count reply gives 26
+    ∷ [])
 
 module _ (board : List Row) (minute address count : ℕ) (reply : List ℕ) where
   abbrev number : ℕ
@@ -81,17 +92,17 @@ module _ (board : List Row) (minute address count : ℕ) (reply : List ℕ) wher
   unfolding hearRows
   hear-sets e = ap (λ (n : ℕ). pick (eqb n 0) good-rows (pick (setsFault n) (fault-rows n) board)) e
 
--- Where each number of a list of tests is at most 9, the first that applies is.
-abbrev AllSmall : List Test → Type 0
-AllSmall [] = Unit {0}
-AllSmall (t ∷ ts) = (t .number ≤ 9) × AllSmall ts
+-- Where each number of a list of tests is at most m, the first that applies is.
+abbrev AllSmall : ℕ → List Test → Type 0
+AllSmall m [] = Unit {0}
+AllSmall m (t ∷ ts) = (t .number ≤ m) × AllSmall m ts
 
-first-small : (ts : List Test) → AllSmall ts → firstOf ts ≤ 9
+first-small : (m : ℕ) (ts : List Test) → AllSmall m ts → firstOf ts ≤ m
 unfolding firstOf
-first-small [] h = omega arith
-first-small (t ∷ ts) h = by (t .applies) (first-small ts (h .1))
+first-small m [] h = omega arith
+first-small m (t ∷ ts) h = by (t .applies) (first-small m ts (h .1))
   where
-    by : (b : Bool) → firstOf ts ≤ 9 → pick b (t .number) (firstOf ts) ≤ 9
+    by : (b : Bool) → firstOf ts ≤ m → pick b (t .number) (firstOf ts) ≤ m
     by true k = h .0
     by false k = k
 
@@ -153,4 +164,11 @@ module _ (settings address count : ℕ) (reply : List ℕ) where
   unfolding replyFault
   at-most-9 s a f =
       rw (le-ltb 15 settings s, le-ltb 999 address a, f)
-      (first-small (drop 3 (replyTests settings address count reply)) (omega arith, (omega arith, (omega arith, (omega arith, (omega arith, (omega arith, (omega arith, (omega arith, (omega arith, tt))))))))))
+      (first-small 9 (drop 3 (replyTests settings address count reply)) (omega arith, (omega arith, (omega arith, (omega arith, (omega arith, (omega arith, (omega arith, (omega arith, (omega arith, tt))))))))))
+
+  -- whatever is asked, it is at most 14
+  pub at-most-14 : replyFault settings address count reply ≤ 14
+  unfolding replyFault
+  at-most-14 =
+      first-small 14 (replyTests settings address count reply)
+      (omega arith, (omega arith, (omega arith, (omega arith, (omega arith, (omega arith, (omega arith, (omega arith, (omega arith, (omega arith, (omega arith, (omega arith, tt))))))))))))

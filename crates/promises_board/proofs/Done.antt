@@ -12,14 +12,16 @@ use Rattle.frame.specs.Line.{line, formed}
 use Rattle.frame.specs.Reply.{replyFault, readingAt}
 use Rattle.board.specs.declared.Heard.{Heard}
 use Rattle.board.specs.declared.Row.{Row}
+use Rattle.board.specs.Gauge.{profileMisplaced}
 use Rattle.board.specs.Row.{isFree, freeRow, newRow, withReading, withFault, setsFault, heardAt}
 use Rattle.board.specs.Rows.{boardOf, beyond, holds, placeOf, placeFree, rowOf}
 use Rattle.board.specs.Calls.{Enrols, Hears, Removes, enrolNumber, hearNumber, hearPlace, findNumber}
 use Rattle.board.proofs.Faults.{not-11, not-14, not-17}
-use Rattle.board.proofs.Numbers.{enrol-10, enrol-11, enrol-18, enrol-19, hear-11, hear-14, hear-17, hear-read, find-11, find-17}
+use Rattle.board.proofs.Numbers.{enrol-10, enrol-11, enrol-27, enrol-18, enrol-19, hear-11, hear-14, hear-17, readNumber, read-zero, hear-read, find-11, find-17}
 use Rattle.promises_board.specs.Calls.{rowAt, OnBoard, IsRowOf, Unknown, IsFirstFree, NoFree, at-row, unknown, at-free, none-free, BoardCases, OnlyRow}
 use Rattle.promises_board.proofs.Places.{board-on, on-board, same-row, is-holds, place-row, at-place, before-place, set-rows, unchanged}
 use Rattle.promises_frame.proofs.Cases.{by-lt}
+use Rattle.promises_board.proofs.Ranges.{checked}
 use Rattle.promises_board.proofs.After.{enrol-keeps, enrol-sets, remove-keeps, remove-sets, hear-keeps, hear-faults, hear-sets, no-place}
 
 -- One row is set: what it was set to, and where.
@@ -48,47 +50,55 @@ board-cases =
     record {
       address = λ rows address. by-lt (placeOf address (boardOf rows)) (length (boardOf rows)) (λ l. at-row (placeOf address (boardOf rows)) (place-row rows address l)) (λ l. unknown (off-unknown rows address l));
       row = λ rows. by-lt (placeFree (boardOf rows)) (length (boardOf rows)) (λ l. at-free (placeFree (boardOf rows)) (free-first rows l)) (λ l. none-free (off-free rows l));
+      range = checked;
     }
 
 -- An enrolment: refused, or the first free row is taken.
-pub data Enrolled (rows : List Row) (settings address answer : ℕ) (after : List Row) : Type 0 where
-  not-enrolled : eqb answer 0 ≡ false → after ≡ rows → Enrolled rows settings address answer after
-  took : answer ≡ 0 → address ≤ 999 → Unknown rows address → IsFirstFree rows (placeFree (boardOf rows)) → after ≡ set rows (placeFree (boardOf rows)) (newRow settings address) → Enrolled rows settings address answer after
+pub data Enrolled (rows : List Row) (settings address gauge answer : ℕ) (after : List Row) : Type 0 where
+  not-enrolled : eqb answer 0 ≡ false → after ≡ rows → Enrolled rows settings address gauge answer after
+  took : answer ≡ 0 → address ≤ 999 → Unknown rows address → IsFirstFree rows (placeFree (boardOf rows)) → after ≡ set rows (placeFree (boardOf rows)) (newRow settings address gauge) → Enrolled rows settings address gauge answer after
 
-module _ (rows : List Row) (settings address answer : ℕ) (after : List Row) (e : Enrols rows settings address answer after) where
+module _ (rows : List Row) (settings address gauge answer : ℕ) (after : List Row) (e : Enrols rows settings address gauge answer after) where
   abbrev asked : ℕ
-  asked = enrolNumber (boardOf rows) settings address
+  asked = enrolNumber (boardOf rows) settings address gauge
 
   not-0 : (n : ℕ) → asked ≡ n → eqb n 0 ≡ false → asked ≡ 0 → ⊥
   not-0 n is z o = eqb-false n 0 z (sym is ∙ o)
 
   in-range : asked ≡ 0 → address ≤ 999
   in-range z =
-      by-lt 15 settings (λ s. absurd (not-0 10 (enrol-10 (boardOf rows) settings address s) refl z))
-      (λ s. by-lt 999 address (λ a. absurd (not-0 11 (enrol-11 (boardOf rows) settings address s a) refl z)) (λ a. a))
+      by-lt 15 settings (λ s. absurd (not-0 10 (enrol-10 (boardOf rows) settings address gauge s) refl z))
+      (λ s. by-lt 999 address (λ a. absurd (not-0 11 (enrol-11 (boardOf rows) settings address gauge s a) refl z)) (λ a. a))
+
+  fits : asked ≡ 0 → profileMisplaced settings gauge ≡ false
+  fits z = go (profileMisplaced settings gauge) refl
+    where
+      go : (t : Bool) → profileMisplaced settings gauge ≡ t → profileMisplaced settings gauge ≡ false
+      go false p = p
+      go true p =
+          by-lt 15 settings (λ s. absurd (not-0 10 (enrol-10 (boardOf rows) settings address gauge s) refl z))
+          (λ s. absurd (not-0 27 (enrol-27 (boardOf rows) settings address gauge s (in-range z) p) refl z))
 
   off-board : asked ≡ 0 → length (boardOf rows) ≤ placeOf address (boardOf rows)
   off-board z =
-      by-lt 15 settings (λ s. absurd (not-0 10 (enrol-10 (boardOf rows) settings address s) refl z))
-      (λ s. by-lt 999 address (λ a. absurd (not-0 11 (enrol-11 (boardOf rows) settings address s a) refl z))
-      (λ a. by-lt (placeOf address (boardOf rows)) (length (boardOf rows)) (λ l. absurd (not-0 18 (enrol-18 (boardOf rows) settings address s a l) refl z)) (λ l. l)))
+      by-lt 15 settings (λ s. absurd (not-0 10 (enrol-10 (boardOf rows) settings address gauge s) refl z))
+      (λ s. by-lt (placeOf address (boardOf rows)) (length (boardOf rows)) (λ l. absurd (not-0 18 (enrol-18 (boardOf rows) settings address gauge s (in-range z) (fits z) l) refl z)) (λ l. l))
 
   has-row : asked ≡ 0 → placeFree (boardOf rows) < length (boardOf rows)
   has-row z =
-      by-lt 15 settings (λ s. absurd (not-0 10 (enrol-10 (boardOf rows) settings address s) refl z))
-      (λ s. by-lt 999 address (λ a. absurd (not-0 11 (enrol-11 (boardOf rows) settings address s a) refl z))
-      (λ a. by-lt (placeFree (boardOf rows)) (length (boardOf rows)) (λ l. l) (λ l. absurd (not-0 19 (enrol-19 (boardOf rows) settings address s a (off-board z) l) refl z))))
+      by-lt 15 settings (λ s. absurd (not-0 10 (enrol-10 (boardOf rows) settings address gauge s) refl z))
+      (λ s. by-lt (placeFree (boardOf rows)) (length (boardOf rows)) (λ l. l) (λ l. absurd (not-0 19 (enrol-19 (boardOf rows) settings address gauge s (in-range z) (fits z) (off-board z) l) refl z)))
 
-  pub enrol-done : Enrolled rows settings address answer after
+  pub enrol-done : Enrolled rows settings address gauge answer after
   enrol-done = go (eqb asked 0) refl
     where
-      go : (t : Bool) → eqb asked 0 ≡ t → Enrolled rows settings address answer after
+      go : (t : Bool) → eqb asked 0 ≡ t → Enrolled rows settings address gauge answer after
       go true t =
           let z : asked ≡ 0 = eqb-true asked 0 t in
           took (e .answers ∙ z) (in-range z) (off-unknown rows address (off-board z)) (free-first rows (has-row z))
-          (e .leaves ∙ ap (λ (b : List Row). b ++ beyond rows) (enrol-sets (boardOf rows) settings address z) ∙ set-rows rows (placeFree (boardOf rows)) (newRow settings address) (has-row z))
+          (e .leaves ∙ ap (λ (b : List Row). b ++ beyond rows) (enrol-sets (boardOf rows) settings address gauge z) ∙ set-rows rows (placeFree (boardOf rows)) (newRow settings address gauge) (has-row z))
       go false t =
-          not-enrolled (ap (λ (n : ℕ). eqb n 0) (e .answers) ∙ t) (unchanged rows after (e .leaves ∙ ap (λ (b : List Row). b ++ beyond rows) (enrol-keeps (boardOf rows) settings address t)))
+          not-enrolled (ap (λ (n : ℕ). eqb n 0) (e .answers) ∙ t) (unchanged rows after (e .leaves ∙ ap (λ (b : List Row). b ++ beyond rows) (enrol-keeps (boardOf rows) settings address gauge t)))
 
 -- Removing or looking with the answer 0: the address is up to 999, and its row is on the board.
 module _ (rows : List Row) (address : ℕ) where
@@ -144,9 +154,9 @@ module _ (rows : List Row) (minute address count : ℕ) (reply : List ℕ) (answ
     by-none : number ≡ 0 → Reaches
     by-fault : setsFault number ≡ true → Reaches
 
-  -- such a number is the frame's, for a row that was found
+  -- such a number is what the row gives, of a row that was found
   abbrev ReadOn : Type 0
-  ReadOn = (place < length (boardOf rows)) × (number ≡ replyFault (rowOf address (boardOf rows) .settings) address count reply) × (address ≤ 999)
+  ReadOn = (place < length (boardOf rows)) × (number ≡ readNumber address count reply (rowOf address (boardOf rows))) × (address ≤ 999)
 
   refused-not : (n : ℕ) → eqb n 0 ≡ false → setsFault n ≡ false → number ≡ n → Reaches → ⊥
   refused-not n z f is (by-none e) = eqb-false n 0 z (sym is ∙ e)
@@ -177,7 +187,7 @@ module _ (rows : List Row) (minute address count : ℕ) (reply : List ℕ) (answ
           let z : number ≡ 0 = eqb-true number 0 t in
           let small = by-none z in
           let l = read-on small .0 in
-          good (number-said ∙ z) (read-on small .2) (place-row rows address l) (ap (λ (r : Row). replyFault (r .settings) address count reply) (sym (same small)) ∙ sym (read-on small .1) ∙ z)
+          good (number-said ∙ z) (read-on small .2) (place-row rows address l) (ap (λ (r : Row). replyFault (r .settings) address count reply) (sym (same small)) ∙ read-zero address count reply (rowOf address (boardOf rows)) (sym (read-on small .1) ∙ z) .0)
           (sets _ l (e .leaves ∙ ap (λ (b : List Row). b ++ beyond rows) (hear-sets (boardOf rows) minute address count reply z)
           ∙ ap (λ (r : Row). set (boardOf rows) place (withReading (heardAt r minute) (readingAt (r .settings) count (line reply)) minute) ++ beyond rows) (same small)))
       go false t true w =

@@ -1,27 +1,26 @@
 -- Two hearings of different addresses in either order. A hearing sets one row, to one that holds the same address, or none; so every address keeps its
 -- place and the other keeps its row, its number is the same, and two rows at different places are set in either order.
 use mathlib.Core.Path.{_≡_, refl, sym, _∙_, ap}
-use mathlib.Core.Bool.{Bool, true, false, not, _&&_}
-use mathlib.Core.List.{List, [], _∷_, _++_, append-nil}
+use mathlib.Core.Bool.{Bool, true, false}
+use mathlib.Core.List.{List, _++_, append-nil}
 use Prim.Native.Nat.{ℕ, _<_, _≤_, min}
 use native.Mathlib.Omega.{arith}
 use lib.Dec.{eqb, ltb}
 use lib.ListN.{length, set, getD, length-set, length-take, drop-of-length-le}
 use lib.Seq.{getD-set-same, getD-set-other, set-out, set-comm, drop-at}
 use borrow.Author.Tests.{eqb-true, eqb-false, ltb-true, ltb-false}
-use Rattle.frame.specs.declared.Reading.{Reading}
-use Rattle.frame.specs.Faults.{_gives_, firstOf}
 use Rattle.frame.specs.Level.{levelOf, placeLost}
-use Rattle.frame.specs.Line.{line, formed}
+use Rattle.frame.specs.Line.{line}
 use Rattle.frame.specs.Pick.{pick}
-use Rattle.frame.specs.Reply.{modeIn, replyFault, readingAt}
+use Rattle.frame.specs.Reply.{modeIn, readingAt}
 use Rattle.board.specs.declared.Heard.{Heard}
 use Rattle.board.specs.declared.Row.{Row}
 use Rattle.board.specs.Row.{inUse, freeRow, heardAt, withReading, withFault, setsFault}
-use Rattle.board.specs.Rows.{boardOf, beyond, holds, placeBy, placeOf, rowOf, onBoard}
+use Rattle.board.specs.Rows.{boardOf, beyond, holds, placeOf, rowOf, onBoard}
 use Rattle.board.specs.Calls.{Hears, hearNumber, hearPlace, hearRows, heardAs}
 use Rattle.board.proofs.Places.{place-le, place-before, place-at, place-is}
 use Rattle.promises_frame.proofs.Cases.{by-lt, both}
+use Rattle.promises_board.proofs.After.{numberBy}
 use Rattle.promises_board.proofs.Free.{board-of, hear-length}
 
 -- One row set, to a row of which every test holds as of the one before it.
@@ -93,9 +92,6 @@ apart-places board a b ne l e =
 
 -- A hearing as such a step: its number and its place, by whether the address is on the board and which row it has.
 module _ (m a k : ℕ) (y : List ℕ) where
-  abbrev numberBy : Bool → Row → ℕ
-  numberBy on row = firstOf (ltb 999 a gives 11 ∷ not (formed k y) gives 14 ∷ not on gives 17 ∷ true gives replyFault (row .settings) a k y ∷ [])
-
   abbrev placeBy7 : ℕ → Row → ℕ
   placeBy7 n row = pick (eqb n 7) (placeLost (levelOf (modeIn (row .settings)) (line y))) 0
 
@@ -117,8 +113,8 @@ module _ (m a k : ℕ) (y : List ℕ) where
     same-number : hearNumber ws a k y ≡ hearNumber zs a k y
     unfolding hearNumber
     same-number =
-        ap (λ (t : Bool). numberBy t (rowOf a ws)) (ap (λ (i : ℕ). ltb i (length ws)) spot ∙ ap (λ (n : ℕ). ltb (placeOf a zs) n) many)
-        ∙ ap (numberBy (onBoard a zs)) there
+        ap (λ (t : Bool). numberBy a k y t (rowOf a ws)) (ap (λ (i : ℕ). ltb i (length ws)) spot ∙ ap (λ (n : ℕ). ltb (placeOf a zs) n) many)
+        ∙ ap (numberBy a k y (onBoard a zs)) there
 
     same-named : hearPlace ws a k y ≡ hearPlace zs a k y
     unfolding hearPlace

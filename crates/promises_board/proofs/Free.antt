@@ -6,20 +6,24 @@ use mathlib.Core.List.{List, [], _∷_, _++_, map, append-nil}
 use Prim.Native.Nat.{ℕ, zero, suc, _<_, _≤_, min}
 use native.Mathlib.Omega.{arith}
 use lib.Dec.{eqb, ltb}
-use lib.ListN.{length, set, getD, length-map, length-set, length-take, drop-of-length-le, List·getD-map, List·getD-eq-default}
+use lib.ListN.{length, drop, set, getD, length-map, length-set, length-take, drop-of-length-le, List·getD-map, List·getD-eq-default}
 use lib.Seq.{take-at, take-all}
 use borrow.Author.Tests.{ltb-true, ltb-false}
 use Rattle.frame.specs.Faults.{_gives_, firstOf}
 use Rattle.frame.proofs.Both.{both-left}
-use Rattle.frame.specs.Line.{line, formed}
+use Rattle.frame.specs.Kinds.{isSet}
+use Rattle.frame.specs.Line.{line, firstBytes}
+use Rattle.frame.specs.Poll.{pollLine}
 use Rattle.frame.specs.Pick.{pick}
 use Rattle.frame.specs.Level.{levelOf, placeLost}
-use Rattle.frame.specs.Reply.{modeIn, replyFault, readingAt}
+use Rattle.frame.specs.Reply.{modeIn, readingAt}
 use Rattle.board.specs.declared.Row.{Row}
+use Rattle.board.specs.Gauge.{profileMisplaced, unmarked, atOnce}
 use Rattle.board.specs.Row.{isFree, inUse, freeRow, newRow, withReading, withFault, setsFault, heardAt}
 use Rattle.board.specs.Rows.{boardOf, beyond, holds, placeBy, placeOf, placeFree, rowOf, onBoard, hasFree}
-use Rattle.board.specs.Calls.{enrolNumber, enrolRows, hearNumber, hearPlace, hearRows, heardAs, findNumber, removeRows, lookedAt, told, refusedLook}
+use Rattle.board.specs.Calls.{enrolNumber, enrolRows, hearNumber, hearPlace, hearRows, heardAs, findNumber, removeRows, lookedAt, told, refusedLook, rowPollNumber, rowPollBytes}
 use Rattle.board.proofs.Places.{place-at}
+use Rattle.promises_board.proofs.After.{numberBy}
 use Rattle.promises_board.specs.Free.{cleared, Alike, BoardFree}
 
 -- A row cleared is free where the row is, and holds an address where the row does.
@@ -110,26 +114,39 @@ module _ (x y : List Row) (alike : map cleared x ≡ map cleared y) where
         pick-alike (eqb (findNumber x address) 0) (set x (placeOf address x) freeRow) (set y (placeOf address y) freeRow) (set-alike (placeOf address x) (placeOf address y) freeRow same-place)
         ∙ ap (λ (n : ℕ). map cleared (pick (eqb n 0) (set y (placeOf address y) freeRow) y)) same-find
 
-    module _ (settings : ℕ) where
-      same-enrol : enrolNumber x settings address ≡ enrolNumber y settings address
+    module _ (settings gauge : ℕ) where
+      same-enrol : enrolNumber x settings address gauge ≡ enrolNumber y settings address gauge
       unfolding enrolNumber
       same-enrol =
-          ap (λ (t : Bool). firstOf (ltb 15 settings gives 10 ∷ ltb 999 address gives 11 ∷ t gives 18 ∷ not (hasFree x) gives 19 ∷ [])) same-on
-          ∙ ap (λ (t : Bool). firstOf (ltb 15 settings gives 10 ∷ ltb 999 address gives 11 ∷ onBoard address y gives 18 ∷ not t gives 19 ∷ []))
+          ap (λ (t : Bool). firstOf (ltb 15 settings gives 10 ∷ ltb 999 address gives 11 ∷ profileMisplaced settings gauge gives 27 ∷ t gives 18 ∷ not (hasFree x) gives 19 ∷ [])) same-on
+          ∙ ap (λ (t : Bool). firstOf (ltb 15 settings gives 10 ∷ ltb 999 address gives 11 ∷ profileMisplaced settings gauge gives 27 ∷ onBoard address y gives 18 ∷ not t gives 19 ∷ []))
           (ap (λ (k : ℕ). ltb k (length x)) same-free ∙ ap (λ (n : ℕ). ltb (placeFree y) n) same-length)
 
-      enrol-alike : map cleared (enrolRows x settings address) ≡ map cleared (enrolRows y settings address)
+      enrol-alike : map cleared (enrolRows x settings address gauge) ≡ map cleared (enrolRows y settings address gauge)
       unfolding enrolRows
       enrol-alike =
-          pick-alike (eqb (enrolNumber x settings address) 0) (set x (placeFree x) (newRow settings address)) (set y (placeFree y) (newRow settings address)) (set-alike (placeFree x) (placeFree y) (newRow settings address) same-free)
-          ∙ ap (λ (n : ℕ). map cleared (pick (eqb n 0) (set y (placeFree y) (newRow settings address)) y)) same-enrol
+          pick-alike (eqb (enrolNumber x settings address gauge) 0) (set x (placeFree x) (newRow settings address gauge)) (set y (placeFree y) (newRow settings address gauge)) (set-alike (placeFree x) (placeFree y) (newRow settings address gauge) same-free)
+          ∙ ap (λ (n : ℕ). map cleared (pick (eqb n 0) (set y (placeFree y) (newRow settings address gauge)) y)) same-enrol
+
+    module _ (raise reset : ℕ) (out : List ℕ) where
+      -- the number of a poll, by whether the address is on the board and by its row
+      abbrev polls : Bool → Row → ℕ
+      polls on row =
+          firstOf (ltb 999 address gives 11 ∷ not on gives 17 ∷ unmarked (row .gauge) raise reset gives 28 ∷ atOnce raise reset gives 28 ∷ ltb (length out) 2 gives 15 ∷ [])
+
+      same-polled : rowPollNumber x address raise reset out ≡ rowPollNumber y address raise reset out
+      unfolding rowPollNumber
+      same-polled = ap (λ (t : Bool). polls t (rowOf address x)) same-on ∙ ap (λ (r : Row). polls (onBoard address y) r) same-row
+
+      same-bytes : rowPollBytes x address raise reset out ≡ rowPollBytes y address raise reset out
+      unfolding rowPollBytes
+      same-bytes = ap (λ (n : ℕ). pick (eqb n 0) (firstBytes 2 (pollLine address (isSet raise) (isSet reset)) ++ drop 2 out) out) same-polled
 
     module _ (minute count : ℕ) (reply : List ℕ) where
       same-hear : hearNumber x address count reply ≡ hearNumber y address count reply
       unfolding hearNumber
       same-hear =
-          ap (λ (t : Bool). firstOf (ltb 999 address gives 11 ∷ not (formed count reply) gives 14 ∷ not t gives 17 ∷ true gives replyFault (rowOf address x .settings) address count reply ∷ [])) same-on
-          ∙ ap (λ (r : Row). firstOf (ltb 999 address gives 11 ∷ not (formed count reply) gives 14 ∷ not (onBoard address y) gives 17 ∷ true gives replyFault (r .settings) address count reply ∷ [])) same-row
+          ap (λ (t : Bool). numberBy address count reply t (rowOf address x)) same-on ∙ ap (λ (r : Row). numberBy address count reply (onBoard address y) r) same-row
 
       -- the place that a number names
       abbrev named : Row → ℕ → ℕ
@@ -184,9 +201,9 @@ after-alike Made long rows others after later e f same =
     ap (λ (zs : List Row). map cleared (boardOf zs)) e ∙ ap (map cleared) (board-of rows (Made (boardOf rows)) (long (boardOf rows))) ∙ same ∙ sym (ap (map cleared) (board-of others (Made (boardOf others)) (long (boardOf others))))
     ∙ sym (ap (λ (zs : List Row). map cleared (boardOf zs)) f)
 
-enrol-length : (settings address : ℕ) (board : List Row) → length (enrolRows board settings address) ≡ length board
+enrol-length : (settings address gauge : ℕ) (board : List Row) → length (enrolRows board settings address gauge) ≡ length board
 unfolding enrolRows
-enrol-length settings address board = pick-length (eqb (enrolNumber board settings address) 0) (set board (placeFree board) (newRow settings address)) board (length-set board (placeFree board) (newRow settings address))
+enrol-length settings address gauge board = pick-length (eqb (enrolNumber board settings address gauge) 0) (set board (placeFree board) (newRow settings address gauge)) board (length-set board (placeFree board) (newRow settings address gauge))
 
 remove-length : (address : ℕ) (board : List Row) → length (removeRows board address) ≡ length board
 unfolding removeRows
@@ -204,9 +221,13 @@ hear-length minute address count reply board = go (eqb (hearNumber board address
 pub board-free : BoardFree
 board-free =
     record {
-      enrol = λ rows others after later settings address a b same e f. (
-        e .answers ∙ same-enrol (boardOf rows) (boardOf others) same address settings ∙ sym (f .answers),
-        after-alike (λ board. enrolRows board settings address) (enrol-length settings address) rows others after later (e .leaves) (f .leaves) (enrol-alike (boardOf rows) (boardOf others) same address settings),
+      poll = λ rows others address raise reset out after later a b same e f. (
+        e .answers ∙ same-polled (boardOf rows) (boardOf others) same address raise reset out ∙ sym (f .answers),
+        e .leaves ∙ same-bytes (boardOf rows) (boardOf others) same address raise reset out ∙ sym (f .leaves),
+      );
+      enrol = λ rows others after later settings address gauge a b same e f. (
+        e .answers ∙ same-enrol (boardOf rows) (boardOf others) same address settings gauge ∙ sym (f .answers),
+        after-alike (λ board. enrolRows board settings address gauge) (enrol-length settings address gauge) rows others after later (e .leaves) (f .leaves) (enrol-alike (boardOf rows) (boardOf others) same address settings gauge),
       );
       hear = λ rows others after later minute address count reply a b same e f. (
         e .answers

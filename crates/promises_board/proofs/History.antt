@@ -12,12 +12,13 @@ use borrow.Author.Tests.{eqb-true, eqb-false}
 use Rattle.frame.specs.Pick.{pick}
 use Rattle.board.specs.declared.Heard.{Heard}
 use Rattle.board.specs.declared.Row.{Row}
+use Rattle.board.specs.Gauge.{profileMisplaced}
 use Rattle.board.specs.Row.{isFree, inUse, freeRow, newRow}
 use Rattle.board.specs.Rows.{boardOf, placeOf, placeFree}
 use Rattle.board.specs.Calls.{Enrols}
 use Rattle.board.proofs.Numbers.{enrol-19, enrol-0}
 use Rattle.promises_board.specs.Calls.{rowAt, OnBoard, Holds, Unknown, OnlyRow}
-use Rattle.promises_board.specs.History.{History, begun, enrolled, heard, removed, looked, Empty, NoneTwice, taken, given, BoardHistory}
+use Rattle.promises_board.specs.History.{History, begun, enrolled, heard, removed, looked, polled, Empty, NoneTwice, taken, given, BoardHistory}
 use Rattle.promises_board.proofs.Places.{on-board, board-on, same-row, unknown-off}
 use Rattle.promises_board.proofs.Count.{used, used-set, used-none, used-full, used-room}
 use Rattle.promises_frame.proofs.Cases.{by-lt}
@@ -44,7 +45,7 @@ hear-step (not-heard z l e) = nothing e
 hear-step (faulty l a p e n) = sets _ _ (p .place) e
 hear-step (good z a p f e) = sets _ _ (p .place) e
 
-pub enrol-step : {rows after : List Row} {settings address answer : ℕ} → Enrolled rows settings address answer after → Step rows after
+pub enrol-step : {rows after : List Row} {settings address gauge answer : ℕ} → Enrolled rows settings address gauge answer after → Step rows after
 enrol-step (not-enrolled z e) = nothing e
 enrol-step (took z a u p e) = sets _ _ (p .place) e
 
@@ -63,17 +64,19 @@ step-beyond {rows} {after} (sets j row p e) i l = set-only rows after j row p e 
 module _ (start : List Row) where
   as-many : (now : List Row) → History start now → length now ≡ length start
   as-many now begun = refl
-  as-many now (enrolled {rows} settings address answer h e) = step-many (enrol-step (enrol-done rows settings address answer now e)) ∙ as-many rows h
+  as-many now (enrolled {rows} settings address gauge answer h e) = step-many (enrol-step (enrol-done rows settings address gauge answer now e)) ∙ as-many rows h
   as-many now (heard {rows} minute address count reply answer h e) = step-many (hear-step (hear-done rows minute address count reply answer now e)) ∙ as-many rows h
   as-many now (removed {rows} address answer h e) = step-many (remove-step (remove-done rows address answer now e)) ∙ as-many rows h
   as-many now (looked address answer h e) = as-many now h
+  as-many now (polled address raise reset out answer after h e) = as-many now h
 
   beyond-stays : (now : List Row) → History start now → (i : ℕ) → 30 ≤ i → rowAt now i ≡ rowAt start i
   beyond-stays now begun i l = refl
-  beyond-stays now (enrolled {rows} settings address answer h e) i l = step-beyond (enrol-step (enrol-done rows settings address answer now e)) i l ∙ beyond-stays rows h i l
+  beyond-stays now (enrolled {rows} settings address gauge answer h e) i l = step-beyond (enrol-step (enrol-done rows settings address gauge answer now e)) i l ∙ beyond-stays rows h i l
   beyond-stays now (heard {rows} minute address count reply answer h e) i l = step-beyond (hear-step (hear-done rows minute address count reply answer now e)) i l ∙ beyond-stays rows h i l
   beyond-stays now (removed {rows} address answer h e) i l = step-beyond (remove-step (remove-done rows address answer now e)) i l ∙ beyond-stays rows h i l
   beyond-stays now (looked address answer h e) i l = beyond-stays now h i l
+  beyond-stays now (polled address raise reset out answer after h e) i l = beyond-stays now h i l
 
 -- No address twice: a row set to one that holds no address but its old one, or one that no row held, makes no second row of an address.
 module _ (rows after : List Row) where
@@ -116,9 +119,9 @@ module _ (rows after : List Row) where
 same-twice : (rows after : List Row) → after ≡ rows → NoneTwice rows → NoneTwice after
 same-twice rows after e once = subst NoneTwice (sym e) once
 
-pub enrol-twice : (rows after : List Row) (settings address answer : ℕ) → Enrolled rows settings address answer after → NoneTwice rows → NoneTwice after
-enrol-twice rows after settings address answer (not-enrolled z e) once = same-twice rows after e once
-enrol-twice rows after settings address answer (took z a u p e) once = one-new rows after (placeFree (boardOf rows)) (newRow settings address) (set-only rows after (placeFree (boardOf rows)) (newRow settings address) (p .place) e) address refl u once
+pub enrol-twice : (rows after : List Row) (settings address gauge answer : ℕ) → Enrolled rows settings address gauge answer after → NoneTwice rows → NoneTwice after
+enrol-twice rows after settings address gauge answer (not-enrolled z e) once = same-twice rows after e once
+enrol-twice rows after settings address gauge answer (took z a u p e) once = one-new rows after (placeFree (boardOf rows)) (newRow settings address gauge) (set-only rows after (placeFree (boardOf rows)) (newRow settings address gauge) (p .place) e) address refl u once
 
 pub hear-twice : (rows after : List Row) (minute address count : ℕ) (reply : List ℕ) (answer : Heard) → HearDone rows minute address count reply answer after → NoneTwice rows → NoneTwice after
 hear-twice rows after minute address count reply answer (not-heard z l e) once = same-twice rows after e once
@@ -136,10 +139,11 @@ empty-twice start empty i j address p q h k = absurd (in-use-free (rowAt start i
 
 pub none-twice : (start now : List Row) → Empty start → History start now → NoneTwice now
 none-twice start now empty begun = empty-twice start empty
-none-twice start now empty (enrolled {rows} settings address answer h e) = enrol-twice rows now settings address answer (enrol-done rows settings address answer now e) (none-twice start rows empty h)
+none-twice start now empty (enrolled {rows} settings address gauge answer h e) = enrol-twice rows now settings address gauge answer (enrol-done rows settings address gauge answer now e) (none-twice start rows empty h)
 none-twice start now empty (heard {rows} minute address count reply answer h e) = hear-twice rows now minute address count reply answer (hear-done rows minute address count reply answer now e) (none-twice start rows empty h)
 none-twice start now empty (removed {rows} address answer h e) = remove-twice rows now address answer (remove-done rows address answer now e) (none-twice start rows empty h)
 none-twice start now empty (looked address answer h e) = none-twice start now empty h
+none-twice start now empty (polled address raise reset out answer after h e) = none-twice start now empty h
 
 -- The rows in use. `counts` is the law of one row set, at what is known of the two rows.
 module _ (rows after : List Row) (i : ℕ) (row : Row) (p : OnBoard rows i) (e : after ≡ set rows i row) where
@@ -156,10 +160,10 @@ module _ (rows after : List Row) (i : ℕ) (row : Row) (p : OnBoard rows i) (e :
 abbrev pub more : ℕ → ℕ → ℕ
 more answer n = pick (eqb answer 0) (suc n) n
 
-pub enrol-used : (rows after : List Row) (settings address answer : ℕ) → Enrolled rows settings address answer after → used (boardOf after) ≡ more answer (used (boardOf rows))
-enrol-used rows after settings address answer (not-enrolled z e) = ap (λ (zs : List Row). used (boardOf zs)) e ∙ sym (ap (λ (t : Bool). pick t (suc (used (boardOf rows))) (used (boardOf rows))) z)
-enrol-used rows after settings address answer (took z a u p e) =
-    counts rows after (placeFree (boardOf rows)) (newRow settings address) (p .place) e true false (p .free) refl ∙ sym (ap (λ (n : ℕ). more n (used (boardOf rows))) z)
+pub enrol-used : (rows after : List Row) (settings address gauge answer : ℕ) → Enrolled rows settings address gauge answer after → used (boardOf after) ≡ more answer (used (boardOf rows))
+enrol-used rows after settings address gauge answer (not-enrolled z e) = ap (λ (zs : List Row). used (boardOf zs)) e ∙ sym (ap (λ (t : Bool). pick t (suc (used (boardOf rows))) (used (boardOf rows))) z)
+enrol-used rows after settings address gauge answer (took z a u p e) =
+    counts rows after (placeFree (boardOf rows)) (newRow settings address gauge) (p .place) e true false (p .free) refl ∙ sym (ap (λ (n : ℕ). more n (used (boardOf rows))) z)
 
 pub hear-used : (rows after : List Row) (minute address count : ℕ) (reply : List ℕ) (answer : Heard) → HearDone rows minute address count reply answer after → used (boardOf after) ≡ used (boardOf rows)
 hear-used rows after minute address count reply answer (not-heard z l e) = ap (λ (zs : List Row). used (boardOf zs)) e
@@ -189,28 +193,29 @@ fewer-by false m n g k e f = omega arith
 balance : (start now : List Row) → Empty start → (h : History start now) → used (boardOf now) + given h ≡ taken h
 unfolding taken given
 balance start now empty begun = let z = used-none (boardOf start) (λ i l. ap isFree (same-row start i l) ∙ empty i (board-on start i l)) in omega arith
-balance start now empty (enrolled {rows} settings address answer h e) =
-    ap (λ (n : ℕ). n + given h) (enrol-used rows now settings address answer (enrol-done rows settings address answer now e)) ∙ more-by (eqb answer 0) (used (boardOf rows)) (given h) (taken h) (balance start rows empty h)
+balance start now empty (enrolled {rows} settings address gauge answer h e) =
+    ap (λ (n : ℕ). n + given h) (enrol-used rows now settings address gauge answer (enrol-done rows settings address gauge answer now e)) ∙ more-by (eqb answer 0) (used (boardOf rows)) (given h) (taken h) (balance start rows empty h)
 balance start now empty (heard {rows} minute address count reply answer h e) =
     ap (λ (n : ℕ). n + given h) (hear-used rows now minute address count reply answer (hear-done rows minute address count reply answer now e)) ∙ balance start rows empty h
 balance start now empty (removed {rows} address answer h e) =
     fewer-by (eqb answer 0) (used (boardOf now)) (used (boardOf rows)) (given h) (taken h) (remove-used rows now address answer (remove-done rows address answer now e)) (balance start rows empty h)
 balance start now empty (looked address answer h e) = balance start now empty h
+balance start now empty (polled address raise reset out answer after h e) = balance start now empty h
 
 -- A new address, while there is room, and when the board is full.
-module _ (start rows after : List Row) (h : History start rows) (settings address answer : ℕ) (empty : Empty start) (s : settings ≤ 15) (a : address ≤ 999) (u : Unknown rows address) (e : Enrols rows settings address answer after) where
+module _ (start rows after : List Row) (h : History start rows) (settings address gauge answer : ℕ) (empty : Empty start) (s : settings ≤ 15) (a : address ≤ 999) (m : profileMisplaced settings gauge ≡ false) (u : Unknown rows address) (e : Enrols rows settings address gauge answer after) where
   size : length (boardOf rows) ≡ min 30 (length start)
   size = length-take 30 rows ∙ ap (λ (n : ℕ). min 30 n) (as-many start rows h)
 
   room : taken h < given h + min 30 (length start) → answer ≡ 0
   room l =
-      by-lt (placeFree (boardOf rows)) (length (boardOf rows)) (λ f. e .answers ∙ enrol-0 (boardOf rows) settings address s a (unknown-off rows address u) f)
+      by-lt (placeFree (boardOf rows)) (length (boardOf rows)) (λ f. e .answers ∙ enrol-0 (boardOf rows) settings address gauge s a m (unknown-off rows address u) f)
       (λ f. absurd (omega (arith, balance start rows empty h, used-full (boardOf rows) f, size)))
 
   full : given h + min 30 (length start) ≤ taken h → answer ≡ 19
   full l =
       by-lt (placeFree (boardOf rows)) (length (boardOf rows)) (λ f. absurd (omega (arith, balance start rows empty h, used-room (boardOf rows) f, size)))
-      (λ f. e .answers ∙ enrol-19 (boardOf rows) settings address s a (unknown-off rows address u) f)
+      (λ f. e .answers ∙ enrol-19 (boardOf rows) settings address gauge s a m (unknown-off rows address u) f)
 
 pub board-history : BoardHistory
 board-history = record { none-twice = none-twice; as-many = as-many; beyond = beyond-stays; room = room; full = full }

@@ -1,5 +1,7 @@
--- Places, what a call leaves and tells, how many rows are free.
+-- Tests, places, temperatures out of range, what a call leaves and tells, how many rows are free.
+pub mod Tests
 pub mod Places
+pub mod Ranges
 pub mod After
 pub mod Told
 pub mod Count
@@ -8,6 +10,9 @@ pub mod Calls
 pub mod Done
 pub mod Readings
 pub mod History
+pub mod Unprofiled
+pub mod Orders
+pub mod Polls
 pub mod Free
 pub mod EitherOrder
 pub mod Since

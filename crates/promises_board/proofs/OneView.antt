@@ -2,25 +2,30 @@
 -- of their rows; each call's number follows by its cases. What a look tells after a call of its address is worked out from what it told before and
 -- from the answer alone; a call of another address leaves it (`Readings`).
 use mathlib.Core.Path.{_≡_, refl, sym, _∙_, ap, subst}
-use mathlib.Core.Bool.{Bool, true, false, _&&_}
-use mathlib.Core.List.{List}
+use mathlib.Core.Bool.{Bool, true, false, not, _&&_, _||_}
+use mathlib.Core.List.{List, _++_}
 use Prim.Native.Nat.{ℕ, _<_, _≤_}
 use native.Mathlib.Omega.{arith}
 use lib.Dec.{eqb}
-use lib.ListN.{length}
+use lib.ListN.{length, drop}
 use borrow.Author.Tests.{eqb-true, eqb-false, ne-eqb, lt-ltb, le-ltb, ltb-true, ltb-false}
-use Rattle.frame.specs.Line.{line, formed}
+use Rattle.frame.specs.Kinds.{isSet}
+use Rattle.frame.specs.Line.{line, firstBytes, formed}
 use Rattle.frame.specs.Level.{levelOf, placeLost}
 use Rattle.frame.specs.Pick.{pick}
-use Rattle.frame.specs.Reply.{modeIn, replyFault, readingAt}
+use Rattle.frame.specs.Poll.{pollLine}
+use Rattle.frame.specs.Reply.{is1800, modeIn, replyFault, readingAt}
 use Rattle.board.specs.declared.Heard.{Heard}
 use Rattle.board.specs.declared.Looked.{Looked}
 use Rattle.board.specs.declared.Row.{Row}
+use Rattle.board.specs.Gauge.{Profile, is6500, outside, outsideBy, profileMisplaced, gaugeTold, atOnce}
 use Rattle.board.specs.Row.{freeRow, newRow, heardAt, withReading, withFault, setsFault, more}
 use Rattle.board.specs.Rows.{boardOf, placeOf, placeFree, rowOf}
-use Rattle.board.specs.Calls.{Enrols, Hears, Removes, heardAs, enrolNumber, hearNumber, hearPlace, findNumber, lookedAt, told, refusedLook}
-use Rattle.board.proofs.Faults.{sets-range}
-use Rattle.board.proofs.Numbers.{enrol-10, enrol-11, enrol-18, enrol-19, enrol-0, hear-11, hear-14, hear-17, hear-read, find-0}
+use Rattle.board.specs.Calls.{Enrols, Hears, Removes, PollsRow, rowPollNumber, rowPollBytes, heardAs, enrolNumber, hearNumber, hearPlace, findNumber, lookedAt, told, refusedLook}
+use Rattle.board.specs.inside.ByValue.{mayPoll, orPoll}
+use Rattle.board.proofs.Gauges.{profile-told, mark-told}
+use Rattle.board.proofs.Faults.{sets-some}
+use Rattle.board.proofs.Numbers.{enrol-10, enrol-11, enrol-27, enrol-18, enrol-19, enrol-0, hear-11, hear-14, hear-17, readNumber, hear-read, find-0, may-11, may-17, may-by, denied, polled}
 use Rattle.promises_board.specs.Calls.{rowAt, OnBoard, Holds, IsRowOf, OnlyRow}
 use Rattle.promises_board.specs.History.{NoneTwice}
 use Rattle.promises_board.specs.View.{view, SameView, FreeAlike}
@@ -57,6 +62,9 @@ module _ (rows others : List Row) (same : SameView rows others) (address : ℕ) 
   same-settings : address ≤ 999 → placeOf address (boardOf rows) < length (boardOf rows) → rowOf address (boardOf rows) .settings ≡ rowOf address (boardOf others) .settings
   same-settings a l = ap (λ (t : Looked). t .settings) (same-told a l)
 
+  same-gauge : address ≤ 999 → placeOf address (boardOf rows) < length (boardOf rows) → gaugeTold (rowOf address (boardOf rows) .gauge) ≡ gaugeTold (rowOf address (boardOf others) .gauge)
+  same-gauge a l = ap (λ (t : Looked). t .gauge) (same-told a l)
+
 off-other : (rows others : List Row) → SameView rows others → (address : ℕ) → address ≤ 999 → length (boardOf rows) ≤ placeOf address (boardOf rows) → length (boardOf others) ≤ placeOf address (boardOf others)
 off-other rows others same address a l =
     by-lt (placeOf address (boardOf others)) (length (boardOf others))
@@ -71,21 +79,26 @@ module _ (rows others : List Row) (same : SameView rows others) (free : FreeAlik
   full-other : length (boardOf rows) ≤ placeFree (boardOf rows) → length (boardOf others) ≤ placeFree (boardOf others)
   full-other l = ltb-false _ _ (sym free ∙ le-ltb (placeFree (boardOf rows)) (length (boardOf rows)) l)
 
-  pub same-enrol : (settings address : ℕ) → enrolNumber (boardOf rows) settings address ≡ enrolNumber (boardOf others) settings address
-  same-enrol settings address =
-      by-lt 15 settings (λ s. enrol-10 x settings address s ∙ sym (enrol-10 y settings address s))
-      (λ s. by-lt 999 address (λ a. enrol-11 x settings address s a ∙ sym (enrol-11 y settings address s a))
-      (λ a. by-lt (placeOf address x) (length x)
-      (λ l. enrol-18 x settings address s a l ∙ sym (enrol-18 y settings address s a (on-other rows others same address a l)))
-      (λ l. by-lt (placeFree x) (length x)
-      (λ f. enrol-0 x settings address s a l f ∙ sym (enrol-0 y settings address s a (off-other rows others same address a l) (free-other f)))
-      (λ f. enrol-19 x settings address s a l f ∙ sym (enrol-19 y settings address s a (off-other rows others same address a l) (full-other f))))))
+  pub same-enrol : (settings address gauge : ℕ) → enrolNumber (boardOf rows) settings address gauge ≡ enrolNumber (boardOf others) settings address gauge
+  same-enrol settings address gauge =
+      by-lt 15 settings (λ s. enrol-10 x settings address gauge s ∙ sym (enrol-10 y settings address gauge s))
+      (λ s. by-lt 999 address (λ a. enrol-11 x settings address gauge s a ∙ sym (enrol-11 y settings address gauge s a))
+      (λ a. fit s a (profileMisplaced settings gauge) refl))
     where
       x : List Row
       x = boardOf rows
 
       y : List Row
       y = boardOf others
+
+      fit : settings ≤ 15 → address ≤ 999 → (t : Bool) → profileMisplaced settings gauge ≡ t → enrolNumber (boardOf rows) settings address gauge ≡ enrolNumber (boardOf others) settings address gauge
+      fit s a true p = enrol-27 x settings address gauge s a p ∙ sym (enrol-27 y settings address gauge s a p)
+      fit s a false p =
+          by-lt (placeOf address x) (length x)
+          (λ l. enrol-18 x settings address gauge s a p l ∙ sym (enrol-18 y settings address gauge s a p (on-other rows others same address a l)))
+          (λ l. by-lt (placeFree x) (length x)
+          (λ f. enrol-0 x settings address gauge s a p l f ∙ sym (enrol-0 y settings address gauge s a p (off-other rows others same address a l) (free-other f)))
+          (λ f. enrol-19 x settings address gauge s a p l f ∙ sym (enrol-19 y settings address gauge s a p (off-other rows others same address a l) (full-other f))))
 
 module _ (address count : ℕ) (reply : List ℕ) where
   abbrev said : List Row → Heard
@@ -110,6 +123,17 @@ module _ (address count : ℕ) (reply : List ℕ) where
       ap (λ (m : ℕ). heardAs m (named (rowOf address x .settings) m)) n
       ∙ ap (λ (k : ℕ). heardAs (hearNumber y address count reply) (named k (hearNumber y address count reply))) s
 
+  -- what a row gives, by its settings and by what is told of its gauge
+  abbrev given : ℕ → ℕ → ℕ
+  given settings gauge =
+      pick (not (eqb (replyFault settings address count reply) 0)) (replyFault settings address count reply)
+      (pick (outsideBy settings gauge (readingAt settings count (line reply) .temperature)) 26 0)
+
+  by-told : (row : Row) → readNumber address count reply row ≡ given (row .settings) (gaugeTold (row .gauge))
+  by-told row =
+      ap (λ (p : Profile). pick (not (eqb (replyFault (row .settings) address count reply) 0)) (replyFault (row .settings) address count reply) (pick (not (is1800 (row .settings)) && outside p (readingAt (row .settings) count (line reply) .temperature)) 26 0))
+      (sym (profile-told (row .gauge)))
+
   pub same-hear : (rows others : List Row) → SameView rows others → said (boardOf rows) ≡ said (boardOf others)
   same-hear rows others same =
       by-lt 999 address (λ a. both-refused x y 11 refl (hear-11 x address count reply a) (hear-11 y address count reply a))
@@ -127,8 +151,10 @@ module _ (address count : ℕ) (reply : List ℕ) where
           by-lt (placeOf address x) (length x)
           (λ l. let s = same-settings rows others same address a l in
           both-read x y s
-          (hear-read x address count reply a f l ∙ ap (λ (k : ℕ). replyFault k address count reply) s
-          ∙ sym (hear-read y address count reply a f (on-other rows others same address a l))))
+          (hear-read x address count reply a f l ∙ by-told (rowOf address x)
+          ∙ ap (λ (k : ℕ). given k (gaugeTold (rowOf address x .gauge))) s
+          ∙ ap (given (rowOf address y .settings)) (same-gauge rows others same address a l)
+          ∙ sym (hear-read y address count reply a f (on-other rows others same address a l) ∙ by-told (rowOf address y))))
           (λ l. both-refused x y 17 refl (hear-17 x address count reply a f l) (hear-17 y address count reply a f (off-other rows others same address a l)))
 
 -- What a look tells of a row on the board, and after that row alone was set to one that holds the address.
@@ -156,7 +182,7 @@ faultBy l none minute fault place =
       heard = pick (none && eqb fault 0) 0 minute;
       faulty = more (l .faulty);
       place = pick (eqb fault 7) place 0;
-      gauge = 0;
+      gauge = l .gauge;
     }
 
 abbrev faultView : Looked → (minute fault place : ℕ) → Looked
@@ -165,9 +191,29 @@ faultView l minute fault place = faultBy l (eqb (l .kind) 0) minute fault place
 fault-view : (row : Row) (minute fault place : ℕ) → told (withFault (heardAt row minute) fault place) ≡ faultView (told row) minute fault place
 fault-view row minute fault place = ap (λ (t : Bool). faultBy (told row) t minute fault place) (sym (kind-zero row))
 
+-- the same with this gauge
+abbrev gauged : ℕ → Looked → Looked
+gauged gauge l =
+    record {
+      minute = l .minute;
+      address = l .address;
+      level = l .level;
+      tenths = l .tenths;
+      settings = l .settings;
+      fault = l .fault;
+      number = l .number;
+      kind = l .kind;
+      alarm1 = l .alarm1;
+      alarm0 = l .alarm0;
+      heard = l .heard;
+      faulty = l .faulty;
+      place = l .place;
+      gauge = gauge;
+    }
+
 abbrev goodView : Looked → (minute count : ℕ) → List ℕ → Looked
 goodView l minute count reply =
-    told (withReading (heardAt (newRow (l .settings) (l .address)) minute) (readingAt (l .settings) count (line reply)) minute)
+    gauged (l .gauge) (told (withReading (heardAt (newRow (l .settings) (l .address) 0) minute) (readingAt (l .settings) count (line reply)) minute))
 
 abbrev heardView : Looked → (minute count : ℕ) → List ℕ → Heard → Looked
 heardView l minute count reply answer =
@@ -183,13 +229,13 @@ module _ (rows after : List Row) (address : ℕ) where
   hear-view minute count reply answer (faulty f x p e w) =
       let i : ℕ = placeOf address (boardOf rows) in
       let next : Row = withFault (heardAt (rowAt rows i) minute) (answer .number) (answer .place) in
-      let range = sets-range (answer .number) f in
+      let some = sets-some (answer .number) f in
       let l : Looked = view rows address in
       let bad : Looked = faultView l minute (answer .number) (answer .place) in
       set-view rows after address i next (set-only rows after i next (p .place) e) x (p .place) (record { used = p .here .used; same = p .here .same }) (p .first)
       ∙ fault-view (rowAt rows i) minute (answer .number) (answer .place)
       ∙ ap (λ (k : Looked). faultView k minute (answer .number) (answer .place)) (sym (row-view rows address x i p))
-      ∙ sym (ap (λ (t : Bool). pick t (goodView l minute count reply) (pick (setsFault (answer .number)) bad l)) (ne-eqb (answer .number) 0 (λ z. omega (arith, range .0, z)))
+      ∙ sym (ap (λ (t : Bool). pick t (goodView l minute count reply) (pick (setsFault (answer .number)) bad l)) (ne-eqb (answer .number) 0 (λ z. omega (arith, some, z)))
       ∙ ap (λ (t : Bool). pick t bad l) f)
   hear-view minute count reply answer (good n x p f e) =
       let i : ℕ = placeOf address (boardOf rows) in
@@ -198,12 +244,12 @@ module _ (rows after : List Row) (address : ℕ) where
       (set-view rows after address i next (set-only rows after i next (p .place) e) x (p .place) (record { used = p .here .used; same = p .here .same }) (p .first)
       ∙ ap (λ (l : Looked). goodView l minute count reply) (sym (row-view rows address x i p)))
 
-  pub enrol-view : (settings answer : ℕ) → Enrolled rows settings address answer after → view after address ≡ pick (eqb answer 0) (told (newRow settings address)) (view rows address)
-  enrol-view settings answer (not-enrolled z e) = rw z (unmoved e)
-  enrol-view settings answer (took z x u p e) =
+  pub enrol-view : (settings gauge answer : ℕ) → Enrolled rows settings address gauge answer after → view after address ≡ pick (eqb answer 0) (told (newRow settings address gauge)) (view rows address)
+  enrol-view settings gauge answer (not-enrolled z e) = rw z (unmoved e)
+  enrol-view settings gauge answer (took z x u p e) =
       let i : ℕ = placeFree (boardOf rows) in
       rw z
-      (set-view rows after address i (newRow settings address) (set-only rows after i (newRow settings address) (p .place) e) x (p .place) (record { used = refl; same = refl })
+      (set-view rows after address i (newRow settings address gauge) (set-only rows after i (newRow settings address gauge) (p .place) e) x (p .place) (record { used = refl; same = refl })
       (λ j k h. u j (record { counts = omega (arith, p .place .counts); lent = omega (arith, p .place .lent) }) h))
 
   pub remove-view : (answer : ℕ) → NoneTwice rows → Removed rows address answer after → view after address ≡ pick (eqb answer 0) (refusedLook 17) (view rows address)
@@ -223,15 +269,15 @@ module _ (rows others after later : List Row) (same : SameView rows others) (add
       go true t = subst (λ (k : ℕ). view after k ≡ view later k) (eqb-true address b t) own
       go false t = let ne = eqb-false address b t in kept b ne ∙ same b ∙ sym (kept-too b ne)
 
-  pub enrol-same : (settings a b : ℕ) → a ≡ b → Enrols rows settings address a after → Enrols others settings address b later → SameView after later
-  enrol-same settings a b is e f =
+  pub enrol-same : (settings gauge a b : ℕ) → a ≡ b → Enrols rows settings address gauge a after → Enrols others settings address gauge b later → SameView after later
+  enrol-same settings gauge a b is e f =
       view-after
-      (enrol-view rows after address settings a (enrol-done rows settings address a after e)
-      ∙ ap (λ (l : Looked). pick (eqb a 0) (told (newRow settings address)) l) (same address)
-      ∙ ap (λ (n : ℕ). pick (eqb n 0) (told (newRow settings address)) (view others address)) is
-      ∙ sym (enrol-view others later address settings b (enrol-done others settings address b later f)))
-      (λ k ne. board-readings .enrol-apart rows after settings k address a (view rows k) (view after k) ne (record { answers = refl }) e (record { answers = refl }))
-      (λ k ne. board-readings .enrol-apart others later settings k address b (view others k) (view later k) ne (record { answers = refl }) f (record { answers = refl }))
+      (enrol-view rows after address settings gauge a (enrol-done rows settings address gauge a after e)
+      ∙ ap (λ (l : Looked). pick (eqb a 0) (told (newRow settings address gauge)) l) (same address)
+      ∙ ap (λ (n : ℕ). pick (eqb n 0) (told (newRow settings address gauge)) (view others address)) is
+      ∙ sym (enrol-view others later address settings gauge b (enrol-done others settings address gauge b later f)))
+      (λ k ne. board-readings .enrol-apart rows after settings k gauge address a (view rows k) (view after k) ne (record { answers = refl }) e (record { answers = refl }))
+      (λ k ne. board-readings .enrol-apart others later settings k gauge address b (view others k) (view later k) ne (record { answers = refl }) f (record { answers = refl }))
 
   pub hear-same : (minute count : ℕ) (reply : List ℕ) (a b : Heard) → a ≡ b → Hears rows minute address count reply a after → Hears others minute address count reply b later → SameView after later
   hear-same minute count reply a b is e f =
@@ -252,3 +298,29 @@ module _ (rows others after later : List Row) (same : SameView rows others) (add
       ∙ sym (remove-view others later address b once-too (remove-done others address b later f)))
       (λ k ne. board-readings .remove-apart rows after k address a (view rows k) (view after k) ne (record { answers = refl }) e (record { answers = refl }))
       (λ k ne. board-readings .remove-apart others later k address b (view others k) (view later k) ne (record { answers = refl }) f (record { answers = refl }))
+
+-- A row's poll: what is told of the gauge tells its mark.
+module _ (rows others : List Row) (same : SameView rows others) (address raise reset : ℕ) (out : List ℕ) where
+  same-denied : address ≤ 999 → placeOf address (boardOf rows) < length (boardOf rows) → denied (boardOf rows) address raise reset ≡ denied (boardOf others) address raise reset
+  same-denied a l =
+      ap by-mark (sym (mark-told (rowOf address (boardOf rows) .gauge)) ∙ ap is6500 (same-gauge rows others same address a l) ∙ mark-told (rowOf address (boardOf others) .gauge))
+    where
+      by-mark : Bool → Bool
+      by-mark t = not t && (isSet raise || isSet reset)
+
+  same-may : mayPoll (boardOf rows) address raise reset ≡ mayPoll (boardOf others) address raise reset
+  same-may =
+      by-lt 999 address (λ a. may-11 (boardOf rows) address raise reset a ∙ sym (may-11 (boardOf others) address raise reset a))
+      (λ a. by-lt (placeOf address (boardOf rows)) (length (boardOf rows))
+      (λ l. may-by (boardOf rows) address raise reset a l ∙ ap (λ (t : Bool). pick t 28 (pick (atOnce raise reset) 28 0)) (same-denied a l) ∙ sym (may-by (boardOf others) address raise reset a (on-other rows others same address a l)))
+      (λ l. may-17 (boardOf rows) address raise reset a l ∙ sym (may-17 (boardOf others) address raise reset a (off-other rows others same address a l))))
+
+  same-polled : rowPollNumber (boardOf rows) address raise reset out ≡ rowPollNumber (boardOf others) address raise reset out
+  same-polled = sym (polled (boardOf rows) address raise reset out) ∙ ap (λ (n : ℕ). orPoll n address out) same-may ∙ polled (boardOf others) address raise reset out
+
+  pub poll-same : (a b : ℕ) (after later : List ℕ) → PollsRow rows address raise reset out a after → PollsRow others address raise reset out b later → (a ≡ b) × (after ≡ later)
+  unfolding rowPollBytes
+  poll-same a b after later e f = (
+    e .answers ∙ same-polled ∙ sym (f .answers),
+    e .leaves ∙ ap (λ (n : ℕ). pick (eqb n 0) (firstBytes 2 (pollLine address (isSet raise) (isSet reset)) ++ drop 2 out) out) same-polled ∙ sym (f .leaves),
+  )

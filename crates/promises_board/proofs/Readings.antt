@@ -14,14 +14,16 @@ use Rattle.frame.specs.Reply.{replyFault, readingAt}
 use Rattle.board.specs.declared.Heard.{Heard}
 use Rattle.board.specs.declared.Looked.{Looked}
 use Rattle.board.specs.declared.Row.{Row}
-use Rattle.board.specs.Row.{none, good, isFree, lastOf, never, at, more, heardAt, heardOf, freeRow, newRow, withReading, withFault, placeTold}
+use Rattle.board.specs.Gauge.{gaugeTold}
+use Rattle.board.specs.Row.{none, good, isFree, lastOf, never, at, more, heardAt, heardOf, freeRow, newRow, withReading, withFault, placeTold, setsFault}
 use Rattle.board.specs.Rows.{boardOf, placeOf, placeFree}
 use Rattle.frame.specs.Pick.{pick}
 use Rattle.board.specs.Calls.{Hears, LooksUp, heardAs, told, refusedLook, lastTold, minuteTold}
-use Rattle.board.proofs.Faults.{sets-by, not-0}
+use Rattle.board.proofs.Faults.{sets-some, not-0}
 use Rattle.board.proofs.Numbers.{find-11, find-17, find-0}
 use Rattle.promises_board.specs.Calls.{rowAt, OnBoard, Holds, IsRowOf, Unknown, OnlyRow, Tells}
 use Rattle.promises_board.specs.Readings.{Reads, BoardReadings}
+use Rattle.promises_board.proofs.Tests.{differs}
 use Rattle.promises_board.proofs.Places.{row-on, row-is, place-row, unknown-off}
 use Rattle.promises_board.proofs.After.{look-refused, look-told, read-is, reads}
 use Rattle.promises_board.proofs.Told.{tells, reading-held, good-minute, fault-keeps, fault-minute}
@@ -30,9 +32,6 @@ use Rattle.promises_board.proofs.Done.{set-only, off-unknown, Enrolled,
 
 not-zero : {A : Type 0} → (n : ℕ) → eqb n 0 ≡ false → n ≡ 0 → A
 not-zero n e z = absurd (eqb-false n 0 e z)
-
-differs : {b : Bool} → b ≡ true → b ≡ false → ⊥
-differs e f = let z : _≡_ {A = Bool} true false = sym e ∙ f in let bad : _≡_ {A = ℕ} 0 1 = cc in omega arith
 
 -- The row of an address is its row still where that row alone was set, to one that holds the address.
 module _ (rows after : List Row) (address i : ℕ) (row : Row) (only : OnlyRow rows i row after) where
@@ -101,10 +100,10 @@ module _ (rows after : List Row) (address : ℕ) where
 -- What a look tells after the row of the address alone was set to one that holds it.
 module _ (rows after : List Row) (address i : ℕ) (row : Row) (answer : Looked) where
   told-set : OnlyRow rows i row after → address ≤ 999 → OnBoard rows i → Holds row address → ((j : ℕ) → j < i → Holds (rowAt rows j) address → ⊥) → LooksUp after address answer
-      → (answer .number ≡ 0) × (answer .fault ≡ row .fault) × (answer .settings ≡ row .settings) × (lastTold answer ≡ lastOf row) × (answer .place ≡ placeTold row) × (answer .faulty ≡ row .faulty) × (minuteTold answer ≡ heardOf row)
+      → (answer .number ≡ 0) × (answer .fault ≡ row .fault) × (answer .settings ≡ row .settings) × (lastTold answer ≡ lastOf row) × (answer .place ≡ placeTold row) × (answer .faulty ≡ row .faulty) × (minuteTold answer ≡ heardOf row) × (answer .gauge ≡ gaugeTold (row .gauge))
   told-set only a p h first e =
       let t : Tells (rowAt after i) answer = tells (rowAt after i) answer (looked-row after address answer e a i (still rows after address i row only p h first)) in
-      (t .number, t .fault ∙ ap (λ (r : Row). r .fault) (only .own), t .settings ∙ ap (λ (r : Row). r .settings) (only .own), t .reading ∙ ap lastOf (only .own), t .place ∙ ap placeTold (only .own), t .faulty ∙ ap (λ (r : Row). r .faulty) (only .own), t .heard ∙ ap heardOf (only .own))
+      (t .number, t .fault ∙ ap (λ (r : Row). r .fault) (only .own), t .settings ∙ ap (λ (r : Row). r .settings) (only .own), t .reading ∙ ap lastOf (only .own), t .place ∙ ap placeTold (only .own), t .faulty ∙ ap (λ (r : Row). r .faulty) (only .own), t .heard ∙ ap heardOf (only .own), t .gauge ∙ ap (λ (r : Row). gaugeTold (r .gauge)) (only .own))
 
 -- A hearing that answered 0.
 module _ (rows after : List Row) (minute address count named : ℕ) (reply : List ℕ) (answer : Looked) (looks : LooksUp after address answer) where
@@ -155,31 +154,31 @@ module _ (rows after : List Row) (minute address count named : ℕ) (reply : Lis
     was-accepted =
         record { reading = readingAt (answer .settings) count (line reply); accepted = reads (answer .settings) address count reply (ap (λ (s : ℕ). replyFault s address count reply) (good-look .settings) ∙ good-look .frame) }
 
--- A hearing that answered 1 to 9.
-module _ (rows after : List Row) (minute address count fault place : ℕ) (reply : List ℕ) (before answer : Looked) (some : 1 ≤ fault) (most : fault ≤ 9) (looked : LooksUp rows address before) (looks : LooksUp after address answer) where
+-- A hearing that answered 1 to 9 or 26.
+module _ (rows after : List Row) (minute address count fault place : ℕ) (reply : List ℕ) (before answer : Looked) (set : setsFault fault ≡ true) (looked : LooksUp rows address before) (looks : LooksUp after address answer) where
   -- what a row tells of the place that was answered
   told-place : (t : Bool) → eqb fault 7 ≡ t → (eqb fault 7 ≡ false → place ≡ 0) → pick t place 0 ≡ place
   told-place true v n = refl
   told-place false v n = sym (n v)
 
   kept-by : HearDone rows minute address count reply (heardAs fault place) after → (answer .number ≡ 0) × (answer .fault ≡ fault) × (answer .place ≡ place) × (answer .faulty ≡ more (before .faulty)) × (minuteTold answer ≡ at minute) × (answer .settings ≡ before .settings) × (lastTold answer ≡ lastTold before)
-  kept-by (not-heard z l e) = absurd (differs (sets-by fault some most) l)
-  kept-by (well-heard z a p f e) = absurd (omega arith)
+  kept-by (not-heard z l e) = absurd (differs set l)
+  kept-by (well-heard z a p f e) = absurd (omega (arith, sets-some fault set))
   kept-by (faulty l a p e n) =
       let i : ℕ = placeOf address (boardOf rows) in
       let next : Row = withFault (heardAt (rowAt rows i) minute) fault place in
       let only : OnlyRow rows i next after = set-only rows after i next (p .place) e in
       let t = told-set rows after address i next answer only a (p .place) (record { used = p .here .used; same = p .here .same }) (p .first) looks in
       let b : Tells (rowAt rows i) before = tells (rowAt rows i) before (looked-row rows address before looked a i p) in
-      (t .0, t .1, t .4 ∙ told-place (eqb fault 7) refl n, t .5 ∙ ap more (sym (b .faulty)), t .6 ∙ fault-minute (rowAt rows i) minute fault place some, t .2 ∙ sym (b .settings), t .3 ∙ fault-keeps (heardAt (rowAt rows i) minute) fault place ∙ sym (b .reading))
+      (t .0, t .1, t .4 ∙ told-place (eqb fault 7) refl n, t .5 ∙ ap more (sym (b .faulty)), t .6 ∙ fault-minute (rowAt rows i) minute fault place (sets-some fault set), t .2 ∙ sym (b .settings), t .3 ∙ fault-keeps (heardAt (rowAt rows i) minute) fault place ∙ sym (b .reading))
 
 -- An enrolment that answered 0.
-started-by : (rows after : List Row) (settings address : ℕ) (answer : Looked) → LooksUp after address answer → Enrolled rows settings address 0 after → (answer .number ≡ 0) × (answer .fault ≡ 0) × (answer .settings ≡ settings) × (lastTold answer ≡ none) × (answer .place ≡ 0) × (answer .faulty ≡ 0) × (minuteTold answer ≡ never)
-started-by rows after settings address answer looks (not-enrolled z e) = not-zero 0 z refl
-started-by rows after settings address answer looks (took z a u p e) =
+started-by : (rows after : List Row) (settings address gauge : ℕ) (answer : Looked) → LooksUp after address answer → Enrolled rows settings address gauge 0 after → (answer .number ≡ 0) × (answer .fault ≡ 0) × (answer .settings ≡ settings) × (lastTold answer ≡ none) × (answer .place ≡ 0) × (answer .faulty ≡ 0) × (minuteTold answer ≡ never) × (answer .gauge ≡ gaugeTold gauge)
+started-by rows after settings address gauge answer looks (not-enrolled z e) = not-zero 0 z refl
+started-by rows after settings address gauge answer looks (took z a u p e) =
     let i : ℕ = placeFree (boardOf rows) in
-    let only : OnlyRow rows i (newRow settings address) after = set-only rows after i (newRow settings address) (p .place) e in
-    told-set rows after address i (newRow settings address) answer only a (p .place) (record { used = refl; same = refl })
+    let only : OnlyRow rows i (newRow settings address gauge) after = set-only rows after i (newRow settings address gauge) (p .place) e in
+    told-set rows after address i (newRow settings address gauge) answer only a (p .place) (record { used = refl; same = refl })
     (λ j k h. u j (record { counts = omega (arith, p .place .counts); lent = omega (arith, p .place .lent) }) h) looks
 
 -- Calls of another transmitter. The row that is set held the other address, or none, and holds the other address, or none.
@@ -197,10 +196,10 @@ module _ (rows after : List Row) (address other : ℕ) (ne : other ≡ address �
   hear-by minute count reply answer (well-heard z a p f e) =
       apart-set rows after address _ _ (set-only rows after _ _ (p .place) e) (not-both (rowAt rows (placeOf other (boardOf rows))) (p .here .same)) (not-both _ (p .here .same))
 
-  enrol-by : (settings answer : ℕ) → Enrolled rows settings other answer after → Apart rows after address
-  enrol-by settings answer (not-enrolled z e) = apart-same rows after address e
-  enrol-by settings answer (took z a u p e) =
-      apart-set rows after address _ _ (set-only rows after _ (newRow settings other) (p .place) e) (free-holds-none (rowAt rows (placeFree (boardOf rows))) (p .free)) (not-both (newRow settings other) refl)
+  enrol-by : (settings gauge answer : ℕ) → Enrolled rows settings other gauge answer after → Apart rows after address
+  enrol-by settings gauge answer (not-enrolled z e) = apart-same rows after address e
+  enrol-by settings gauge answer (took z a u p e) =
+      apart-set rows after address _ _ (set-only rows after _ (newRow settings other gauge) (p .place) e) (free-holds-none (rowAt rows (placeFree (boardOf rows))) (p .free)) (not-both (newRow settings other gauge) refl)
 
   remove-by : (answer : ℕ) → Removed rows other answer after → Apart rows after address
   remove-by answer (not-removed z e) = apart-same rows after address e
@@ -212,9 +211,9 @@ board-readings =
     record {
       heard = λ rows after minute address count place reply told hears looks. heard-then-looked rows after minute address count place reply told looks hears;
       accepted = λ rows after minute address count place reply told hears looks. was-accepted rows after minute address count place reply told looks hears;
-      kept = λ rows after minute address count fault place reply before told some most looked hears looks. kept-by rows after minute address count fault place reply before told some most looked looks (hear-done rows minute address count reply (heardAs fault place) after hears);
-      started = λ rows after settings address told enrols looks. started-by rows after settings address told looks (enrol-done rows settings address 0 after enrols);
+      kept = λ rows after minute address count fault place reply before told set looked hears looks. kept-by rows after minute address count fault place reply before told set looked looks (hear-done rows minute address count reply (heardAs fault place) after hears);
+      started = λ rows after settings address gauge told enrols looks. started-by rows after settings address gauge told looks (enrol-done rows settings address gauge 0 after enrols);
       hear-apart = λ rows after minute address other count reply answer before told ne looked hears looks. apart-look rows after address (hear-by rows after address other ne minute count reply answer (hear-done rows minute other count reply answer after hears)) before told looked looks;
-      enrol-apart = λ rows after settings address other answer before told ne looked enrols looks. apart-look rows after address (enrol-by rows after address other ne settings answer (enrol-done rows settings other answer after enrols)) before told looked looks;
+      enrol-apart = λ rows after settings address gauge other answer before told ne looked enrols looks. apart-look rows after address (enrol-by rows after address other ne settings gauge answer (enrol-done rows settings other gauge answer after enrols)) before told looked looks;
       remove-apart = λ rows after address other answer before told ne looked removes looks. apart-look rows after address (remove-by rows after address other ne answer (remove-done rows other answer after removes)) before told looked looks;
     }

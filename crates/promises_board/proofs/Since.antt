@@ -16,9 +16,9 @@ use Rattle.board.specs.declared.Row.{Row}
 use Rattle.board.specs.Row.{isFree, inUse, freeRow, newRow, heardAt, withReading, withFault, setsFault, more, Minute, never, at}
 use Rattle.board.specs.Rows.{boardOf, placeOf, placeFree}
 use Rattle.board.specs.Calls.{Enrols, Hears, Removes, LooksUp, heardAs, lookedAt, minuteTold}
-use Rattle.board.proofs.Faults.{sets-range, not-0}
+use Rattle.board.proofs.Faults.{sets-some, not-0}
 use Rattle.promises_board.specs.Calls.{rowAt, OnBoard, Holds, IsRowOf, Unknown, OnlyRow}
-use Rattle.promises_board.specs.History.{History, begun, enrolled, heard, removed, looked, Empty, NoneTwice}
+use Rattle.promises_board.specs.History.{History, begun, enrolled, heard, removed, looked, polled, Empty, NoneTwice}
 use Rattle.promises_board.specs.Since.{counted, since, latest, BoardSince}
 use Rattle.promises_frame.proofs.Cases.{by-lt}
 use Rattle.promises_board.proofs.Places.{place-row}
@@ -88,23 +88,23 @@ module _ (rows after : List Row) (count : ℕ → ℕ) (minute : ℕ → Minute)
   unmoved : after ≡ rows → Told after count minute
   unmoved e = subst (λ (zs : List Row). Told zs count minute) (sym e) so
 
-  enrol-so : (settings a answer : ℕ) → Enrols rows settings a answer after
+  enrol-so : (settings a gauge answer : ℕ) → Enrols rows settings a gauge answer after
       → Told after (λ address. pick (eqb a address && eqb answer 0) 0 (count address)) (λ address. pick (eqb a address && eqb answer 0) never (minute address))
-  enrol-so settings a answer e address told looks z = go (eqb a address) refl (eqb answer 0) refl
+  enrol-so settings a gauge answer e address told looks z = go (eqb a address) refl (eqb answer 0) refl
     where
       here : a ≡ address → answer ≡ 0 → (told .faulty ≡ 0) × (minuteTold told ≡ never)
       here same none =
-          let s = board-readings .started rows after settings address told (subst (λ (n : ℕ). Enrols rows settings address n after) none (subst (λ (x : ℕ). Enrols rows settings x answer after) same e)) looks in
+          let s = board-readings .started rows after settings address gauge told (subst (λ (n : ℕ). Enrols rows settings address gauge n after) none (subst (λ (x : ℕ). Enrols rows settings x gauge answer after) same e)) looks in
           (s .5, s .6)
 
-      kept : eqb answer 0 ≡ false → Enrolled rows settings a answer after → (told .faulty ≡ min 65535 (count address)) × (minuteTold told ≡ minute address)
+      kept : eqb answer 0 ≡ false → Enrolled rows settings a gauge answer after → (told .faulty ≡ min 65535 (count address)) × (minuteTold told ≡ minute address)
       kept f (not-enrolled s is) = unmoved is address told looks z
       kept f (took s x u p is) = absurd (eqb-false answer 0 f s)
 
       go : (s : Bool) → eqb a address ≡ s → (t : Bool) → eqb answer 0 ≡ t → (told .faulty ≡ min 65535 (pick (s && t) 0 (count address))) × (minuteTold told ≡ pick (s && t) never (minute address))
       go true s true t = let h = here (eqb-true a address s) (eqb-true answer 0 t) in (h .0 ∙ omega arith, h .1)
-      go true s false t = kept t (enrol-done rows settings a answer after e)
-      go false s t f = stays address told (board-readings .enrol-apart rows after settings address a answer (look rows address) told (eqb-false a address s) (look-is rows address) e looks) z
+      go true s false t = kept t (enrol-done rows settings a gauge answer after e)
+      go false s t f = stays address told (board-readings .enrol-apart rows after settings address gauge a answer (look rows address) told (eqb-false a address s) (look-is rows address) e looks) z
 
   remove-so : NoneTwice rows → (a answer : ℕ) → Removes rows a answer after → Told after count minute
   remove-so once a answer e address told looks z = go (eqb a address) refl
@@ -132,12 +132,11 @@ module _ (rows after : List Row) (count : ℕ → ℕ) (minute : ℕ → Minute)
       let g = board-readings .heard rows after m address k (answer .place) y told hears looks in
       rw n (g .3 ∙ omega arith, g .4)
   hear-own m address k y answer told e looks z (faulty f x p is w) =
-      let range = sets-range (answer .number) f in
       let before : Looked = look rows address in
-      let g = board-readings .kept rows after m address k (answer .number) (answer .place) y before told (range .0) (range .1) (look-is rows address) e looks in
+      let g = board-readings .kept rows after m address k (answer .number) (answer .place) y before told f (look-is rows address) e looks in
       let found = ap (λ (t : Looked). t .number) (looked-row rows address before (look-is rows address) x (placeOf address (boardOf rows)) p) in
       let old = so address before (look-is rows address) found in
-      rw (nonzero (answer .number) (range .0), f) (g .3 ∙ ap more (old .0) ∙ one-more (count address), g .4)
+      rw (nonzero (answer .number) (sets-some (answer .number) f), f) (g .3 ∙ ap more (old .0) ∙ one-more (count address), g .4)
 
   hear-so : (m a k : ℕ) (y : List ℕ) (answer : Heard) → Hears rows m a k y answer after
       → Told after (λ address. pick (eqb a address) (counted (answer .number) (count address)) (count address)) (λ address. pick (eqb a address && (eqb (answer .number) 0 || setsFault (answer .number))) (at m) (minute address))
@@ -155,10 +154,11 @@ unfolding since latest
 told-of start now empty begun = λ address told looks z.
     let k = known-by start address told looks z .1 in
     absurd (free-not-used (rowAt start (placeOf address (boardOf start))) (empty (placeOf address (boardOf start)) (k .place)) (k .here .used))
-told-of start now empty (enrolled {rows} settings a answer h e) = enrol-so rows now (since h) (latest h) (told-of start rows empty h) settings a answer e
+told-of start now empty (enrolled {rows} settings a gauge answer h e) = enrol-so rows now (since h) (latest h) (told-of start rows empty h) settings a gauge answer e
 told-of start now empty (heard {rows} m a k y answer h e) = hear-so rows now (since h) (latest h) (told-of start rows empty h) m a k y answer e
 told-of start now empty (removed {rows} a answer h e) = remove-so rows now (since h) (latest h) (told-of start rows empty h) (none-twice start rows empty h) a answer e
 told-of start now empty (looked a answer h e) = told-of start now empty h
+told-of start now empty (polled a raise reset out answer after h e) = told-of start now empty h
 
 -- The count is 0 just where the fault is, of every row in use: each call sets at most one row, to one of which it holds.
 record Agrees (row : Row) : Type 0 where
@@ -190,9 +190,9 @@ module _ (rows after : List Row) (so : AllAgree rows) where
   agree-same : after ≡ rows → AllAgree after
   agree-same e = subst AllAgree (sym e) so
 
-  agree-enrol : (settings a answer : ℕ) → Enrolled rows settings a answer after → AllAgree after
-  agree-enrol settings a answer (not-enrolled s e) = agree-same e
-  agree-enrol settings a answer (took s x u p e) = agree-set _ (newRow settings a) (set-only rows after _ (newRow settings a) (p .place) e) (λ _. record { none-faulty = λ _. refl; no-fault = λ _. refl })
+  agree-enrol : (settings a gauge answer : ℕ) → Enrolled rows settings a gauge answer after → AllAgree after
+  agree-enrol settings a gauge answer (not-enrolled s e) = agree-same e
+  agree-enrol settings a gauge answer (took s x u p e) = agree-set _ (newRow settings a gauge) (set-only rows after _ (newRow settings a gauge) (p .place) e) (λ _. record { none-faulty = λ _. refl; no-fault = λ _. refl })
 
   agree-hear : (m a k : ℕ) (y : List ℕ) (answer : Heard) → HearDone rows m a k y answer after → AllAgree after
   agree-hear m a k y answer (not-heard n f e) = agree-same e
@@ -207,10 +207,11 @@ module _ (rows after : List Row) (so : AllAgree rows) where
 
 agree-of : (start now : List Row) → Empty start → History start now → AllAgree now
 agree-of start now empty begun = λ i on used. absurd (free-not-used (rowAt start i) (empty i on) used)
-agree-of start now empty (enrolled {rows} settings a answer h e) = agree-enrol rows now (agree-of start rows empty h) settings a answer (enrol-done rows settings a answer now e)
+agree-of start now empty (enrolled {rows} settings a gauge answer h e) = agree-enrol rows now (agree-of start rows empty h) settings a gauge answer (enrol-done rows settings a gauge answer now e)
 agree-of start now empty (heard {rows} m a k y answer h e) = agree-hear rows now (agree-of start rows empty h) m a k y answer (hear-done rows m a k y answer now e)
 agree-of start now empty (removed {rows} a answer h e) = agree-remove rows now (agree-of start rows empty h) a answer (remove-done rows a answer now e)
 agree-of start now empty (looked a answer h e) = agree-of start now empty h
+agree-of start now empty (polled a raise reset out answer after h e) = agree-of start now empty h
 
 pub board-since : BoardSince
 board-since =

@@ -61,6 +61,7 @@ tells row answer e =
       faulty = ap (λ (a : Looked). a .faulty) e;
       heard = ap minuteTold e ∙ minute-back row;
       reading = ap lastTold e ∙ last-back (lastOf row);
+      gauge = ap (λ (a : Looked). a .gauge) e;
     }
 
 -- a good reading is what the row then holds; a fault keeps what it held

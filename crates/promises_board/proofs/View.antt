@@ -17,7 +17,7 @@ use Rattle.board.specs.Calls.{Enrols, Hears, Removes, told}
 use Rattle.board.proofs.Numbers.{find-0}
 use Rattle.promises_board.specs.Calls.{rowAt, Unknown}
 use Rattle.promises_board.specs.History.{Empty, NoneTwice}
-use Rattle.promises_board.specs.View.{view, SameView, FreeAlike, freeIn, AsManyFree, SideBySide, both-begun, both-enrol, both-hear, both-remove, both-look, AnsweredAlike, BoardView}
+use Rattle.promises_board.specs.View.{view, SameView, FreeAlike, freeIn, AsManyFree, SideBySide, both-begun, both-enrol, both-hear, both-remove, both-look, both-poll, AnsweredAlike, BoardView}
 use Rattle.promises_frame.proofs.Cases.{by-lt}
 use Rattle.promises_board.proofs.Places.{same-row, board-on, place-row}
 use Rattle.promises_board.proofs.Count.{used, used-none, used-full, used-room}
@@ -26,7 +26,7 @@ use Rattle.promises_board.proofs.After.{look-told}
 use Rattle.promises_board.proofs.Readings.{looked-bad, looked-unknown}
 use Rattle.promises_board.proofs.History.{enrol-step, hear-step, remove-step, step-many, enrol-twice, hear-twice, remove-twice, empty-twice, enrol-used, hear-used, remove-used}
 use Rattle.promises_board.proofs.Since.{free-not-used}
-use Rattle.promises_board.proofs.OneView.{same-find, same-enrol, same-hear, enrol-same, hear-same, remove-same}
+use Rattle.promises_board.proofs.OneView.{same-find, same-enrol, same-hear, enrol-same, hear-same, remove-same, poll-same}
 
 -- Free rows and rows in use are together all rows, so a board has a free row exactly where one is counted.
 together-by : (t : Bool) (f u n : ℕ) → f + u ≡ n → pick t (suc f) f + pick t u (suc u) ≡ suc n
@@ -64,14 +64,14 @@ given-by true f g u v f' g' u' v' e a b c d = omega arith
 given-by false f g u v f' g' u' v' e a b c d = omega arith
 
 module _ (rows others after later : List Row) (many : AsManyFree rows others) where
-  enrol-many : (settings address a b : ℕ) → a ≡ b → Enrols rows settings address a after → Enrols others settings address b later → AsManyFree after later
-  enrol-many settings address a b is e f =
-      let d = enrol-done rows settings address a after e in
-      let g = enrol-done others settings address b later f in
+  enrol-many : (settings address gauge a b : ℕ) → a ≡ b → Enrols rows settings address gauge a after → Enrols others settings address gauge b later → AsManyFree after later
+  enrol-many settings address gauge a b is e f =
+      let d = enrol-done rows settings address gauge a after e in
+      let g = enrol-done others settings address gauge b later f in
       taken-by (eqb a 0) (freeIn (boardOf rows)) (freeIn (boardOf others)) (used (boardOf rows)) (used (boardOf others)) _ _ _ _ many
       (free-after rows after (step-many (enrol-step d))) (free-after others later (step-many (enrol-step g)))
-      (enrol-used rows after settings address a d)
-      (enrol-used others later settings address b g ∙ ap (λ (n : ℕ). pick (eqb n 0) (suc (used (boardOf others))) (used (boardOf others))) (sym is))
+      (enrol-used rows after settings address gauge a d)
+      (enrol-used others later settings address gauge b g ∙ ap (λ (n : ℕ). pick (eqb n 0) (suc (used (boardOf others))) (used (boardOf others))) (sym is))
 
   remove-many : (address a b : ℕ) → a ≡ b → Removes rows address a after → Removes others address b later → AsManyFree after later
   remove-many address a b is e f =
@@ -92,8 +92,8 @@ module _ (rows others after later : List Row) (many : AsManyFree rows others) wh
 
 -- The answers of one call.
 module _ (rows others after later : List Row) (same : SameView rows others) where
-  enrol-answers : FreeAlike rows others → (settings address a b : ℕ) → Enrols rows settings address a after → Enrols others settings address b later → a ≡ b
-  enrol-answers free settings address a b e f = e .answers ∙ same-enrol rows others same free settings address ∙ sym (f .answers)
+  enrol-answers : FreeAlike rows others → (settings address gauge a b : ℕ) → Enrols rows settings address gauge a after → Enrols others settings address gauge b later → a ≡ b
+  enrol-answers free settings address gauge a b e f = e .answers ∙ same-enrol rows others same free settings address gauge ∙ sym (f .answers)
 
   hear-answers : (minute address count : ℕ) (reply : List ℕ) (a b : Heard) → Hears rows minute address count reply a after → Hears others minute address count reply b later → a ≡ b
   hear-answers minute address count reply a b e f = e .answers ∙ same-hear address count reply rows others same ∙ sym (f .answers)
@@ -111,16 +111,16 @@ record Even (rows others : List Row) : Type 0 where
 -- Calls made of both keep it, and are answered alike.
 run : (start begin rows others : List Row) → Even start begin → (calls : SideBySide start begin rows others) → AnsweredAlike calls × Even rows others
 run start begin rows others even both-begun = (tt, even)
-run start begin after later even (both-enrol {rows} {others} settings address a b calls e f) =
+run start begin after later even (both-enrol {rows} {others} settings address gauge a b calls e f) =
     let r = run start begin rows others even calls in
     let l = r .1 in
-    let is : a ≡ b = enrol-answers rows others after later (l .same) (free-alike rows others (l .many)) settings address a b e f in (
+    let is : a ≡ b = enrol-answers rows others after later (l .same) (free-alike rows others (l .many)) settings address gauge a b e f in (
       (is, r .0),
       record {
-        same = enrol-same rows others after later (l .same) address settings a b is e f;
-        many = enrol-many rows others after later (l .many) settings address a b is e f;
-        once = enrol-twice rows after settings address a (enrol-done rows settings address a after e) (l .once);
-        once-too = enrol-twice others later settings address b (enrol-done others settings address b later f) (l .once-too);
+        same = enrol-same rows others after later (l .same) address settings gauge a b is e f;
+        many = enrol-many rows others after later (l .many) settings address gauge a b is e f;
+        once = enrol-twice rows after settings address gauge a (enrol-done rows settings address gauge a after e) (l .once);
+        once-too = enrol-twice others later settings address gauge b (enrol-done others settings address gauge b later f) (l .once-too);
       },
     )
 run start begin after later even (both-hear {rows} {others} minute address count reply a b calls e f) =
@@ -150,6 +150,10 @@ run start begin after later even (both-remove {rows} {others} address a b calls 
 run start begin rows others even (both-look address a b calls e f) =
     let r = run start begin rows others even calls in
     ((e .answers ∙ r .1 .same address ∙ sym (f .answers), r .0), r .1)
+run start begin rows others even (both-poll address raise reset out a b after later calls e f) =
+    let r = run start begin rows others even calls in
+    let p = poll-same rows others (r .1 .same) address raise reset out a b after later e f in
+    ((p .0, p .1, r .0), r .1)
 
 -- An address is on the board exactly where the row of it is in use.
 module _ (rows : List Row) (address : ℕ) where
@@ -200,9 +204,9 @@ pub board-view : BoardView
 board-view =
     record {
       wherever = wherever;
-      enrol = λ rows others after later settings address a b same free e f.
-          let is = enrol-answers rows others after later same free settings address a b e f in
-          (is, enrol-same rows others after later same address settings a b is e f);
+      enrol = λ rows others after later settings address gauge a b same free e f.
+          let is = enrol-answers rows others after later same free settings address gauge a b e f in
+          (is, enrol-same rows others after later same address settings gauge a b is e f);
       hear = λ rows others after later minute address count reply a b same e f.
           let is = hear-answers rows others after later same minute address count reply a b e f in
           (is, hear-same rows others after later same address minute count reply a b is e f);
@@ -210,6 +214,7 @@ board-view =
           let is = remove-answers rows others after later same address a b e f in
           (is, λ once once-too. remove-same rows others after later same address a b is once once-too e f);
       look-up = λ rows others address a b same e f. e .answers ∙ same address ∙ sym (f .answers);
+      poll = λ rows others address raise reset out after later a b same e f. poll-same rows others same address raise reset out a b after later e f;
       any-calls = λ start begin rows others same many once once-too calls.
           let r = run start begin rows others (record { same = same; many = many; once = once; once-too = once-too }) calls in
           (r .0, r .1 .same, r .1 .many);

@@ -1,7 +1,7 @@
 -- Any sequence of calls. From an empty board no address is ever in use twice, rows past the thirtieth are never touched, and the board fills at its
 -- own size: a new address finds no row exactly when as many are on the board as it has rows.
 use mathlib.Core.Path.{_≡_}
-use mathlib.Core.Bool.{true}
+use mathlib.Core.Bool.{true, false}
 use mathlib.Core.List.{List}
 use Prim.Native.Nat.{ℕ, suc, _+_, _<_, _≤_, min}
 use lib.Dec.{eqb}
@@ -10,18 +10,21 @@ use Rattle.frame.specs.Pick.{pick}
 use Rattle.board.specs.declared.Heard.{Heard}
 use Rattle.board.specs.declared.Looked.{Looked}
 use Rattle.board.specs.declared.Row.{Row}
+use Rattle.board.specs.Gauge.{profileMisplaced}
 use Rattle.board.specs.Row.{isFree}
-use Rattle.board.specs.Calls.{Enrols, Hears, Removes, LooksUp}
+use Rattle.board.specs.Calls.{Enrols, Hears, Removes, LooksUp, PollsRow}
 use Rattle.promises_board.specs.Calls.{rowAt, OnBoard, Holds, Unknown}
 
 -- Calls one after another, the latest last, each with an outcome that its contract allows.
 pub data History (start : List Row) : List Row → Type 0 where
   begun : History start start
-  enrolled : {rows after : List Row} (settings address answer : ℕ) → History start rows → Enrols rows settings address answer after → History start after
+  enrolled : {rows after : List Row} (settings address gauge answer : ℕ) → History start rows → Enrols rows settings address gauge answer after → History start after
   heard : {rows after : List Row} (minute address count : ℕ) (reply : List ℕ) (answer : Heard) → History start rows
       → Hears rows minute address count reply answer after → History start after
   removed : {rows after : List Row} (address answer : ℕ) → History start rows → Removes rows address answer after → History start after
   looked : {rows : List Row} (address : ℕ) (answer : Looked) → History start rows → LooksUp rows address answer → History start rows
+  polled : {rows : List Row} (address raise reset : ℕ) (out : List ℕ) (answer : ℕ) (after : List ℕ) → History start rows
+      → PollsRow rows address raise reset out answer after → History start rows
 
 -- An empty board: each of its rows is free, whatever else stands in it.
 abbrev pub Empty : List Row → Type 0
@@ -34,17 +37,19 @@ NoneTwice rows = (i j address : ℕ) → OnBoard rows i → OnBoard rows j → H
 -- The enrolments and the removals of a history that answered 0.
 unfoldable pub taken : {start rows : List Row} → History start rows → ℕ
 taken begun = 0
-taken (enrolled settings address answer h e) = pick (eqb answer 0) (suc (taken h)) (taken h)
+taken (enrolled settings address gauge answer h e) = pick (eqb answer 0) (suc (taken h)) (taken h)
 taken (heard minute address count reply answer h e) = taken h
 taken (removed address answer h e) = taken h
 taken (looked address answer h e) = taken h
+taken (polled address raise reset out answer after h e) = taken h
 
 unfoldable pub given : {start rows : List Row} → History start rows → ℕ
 given begun = 0
-given (enrolled settings address answer h e) = given h
+given (enrolled settings address gauge answer h e) = given h
 given (heard minute address count reply answer h e) = given h
 given (removed address answer h e) = pick (eqb answer 0) (suc (given h)) (given h)
 given (looked address answer h e) = given h
+given (polled address raise reset out answer after h e) = given h
 
 pub record BoardHistory : Type 0 where
   pub none-twice : (start rows : List Row) → Empty start → History start rows → NoneTwice rows
@@ -52,9 +57,9 @@ pub record BoardHistory : Type 0 where
   pub as-many : (start rows : List Row) → History start rows → length rows ≡ length start
   pub beyond : (start rows : List Row) → History start rows → (i : ℕ) → 30 ≤ i → rowAt rows i ≡ rowAt start i
   -- A new address is enrolled while fewer are on the board than it has rows, 30 at most, and else refused by 19.
-  pub room : (start rows after : List Row) (h : History start rows) (settings address answer : ℕ) → Empty start → settings ≤ 15 → address ≤ 999
-      → Unknown rows address → Enrols rows settings address answer after
+  pub room : (start rows after : List Row) (h : History start rows) (settings address gauge answer : ℕ) → Empty start → settings ≤ 15 → address ≤ 999
+      → profileMisplaced settings gauge ≡ false → Unknown rows address → Enrols rows settings address gauge answer after
       → taken h < given h + min 30 (length start) → answer ≡ 0
-  pub full : (start rows after : List Row) (h : History start rows) (settings address answer : ℕ) → Empty start → settings ≤ 15 → address ≤ 999
-      → Unknown rows address → Enrols rows settings address answer after
+  pub full : (start rows after : List Row) (h : History start rows) (settings address gauge answer : ℕ) → Empty start → settings ≤ 15 → address ≤ 999
+      → profileMisplaced settings gauge ≡ false → Unknown rows address → Enrols rows settings address gauge answer after
       → given h + min 30 (length start) ≤ taken h → answer ≡ 19

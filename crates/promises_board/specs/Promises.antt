@@ -2,6 +2,9 @@
 use Rattle.promises_board.specs.Calls.{BoardCalls, BoardCases, BoardOneOutcome}
 use Rattle.promises_board.specs.Readings.{BoardReadings}
 use Rattle.promises_board.specs.History.{BoardHistory}
+use Rattle.promises_board.specs.Unprofiled.{BoardProfiles}
+use Rattle.promises_board.specs.Orders.{BoardOrders}
+use Rattle.promises_board.specs.Polls.{BoardPoll}
 use Rattle.promises_board.specs.Since.{BoardSince}
 use Rattle.promises_board.specs.Free.{BoardFree}
 use Rattle.promises_board.specs.View.{BoardView}
@@ -13,5 +16,8 @@ pub record BoardPromises : Type 0 where
   pub readings : BoardReadings
   pub history : BoardHistory
   pub since : BoardSince
+  pub profiles : BoardProfiles
+  pub orders : BoardOrders
+  pub poll : BoardPoll
   pub free : BoardFree
   pub view : BoardView

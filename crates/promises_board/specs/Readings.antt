@@ -1,14 +1,16 @@
 -- The last good reading: a good hearing is what the next look tells, and a faulty one keeps it. Said by the answers of the calls alone.
 use mathlib.Core.Path.{_≡_}
+use mathlib.Core.Bool.{true}
 use mathlib.Core.List.{List}
-use Prim.Native.Nat.{ℕ, _≤_}
+use Prim.Native.Nat.{ℕ}
 use Rattle.frame.specs.declared.Reading.{Reading}
 use Rattle.frame.specs.declared.Reply.the-variants.{Read}
 use Rattle.frame.specs.Reply.{ReadsReply}
 use Rattle.board.specs.declared.Heard.{Heard}
 use Rattle.board.specs.declared.Looked.{Looked}
 use Rattle.board.specs.declared.Row.{Row}
-use Rattle.board.specs.Row.{none, good, never, at, more}
+use Rattle.board.specs.Gauge.{gaugeTold}
+use Rattle.board.specs.Row.{none, good, never, at, more, setsFault}
 use Rattle.board.specs.Calls.{Enrols, Hears, Removes, LooksUp, heardAs, lastTold, minuteTold}
 
 -- A reading that the frame makes of this reply, by these settings, for this address.
@@ -26,20 +28,20 @@ pub record BoardReadings : Type 0 where
   -- There is such a reading.
   pub accepted : (rows after : List Row) (minute address count place : ℕ) (reply : List ℕ) (told : Looked)
       → Hears rows minute address count reply (heardAs 0 place) after → LooksUp after address told → Reads (told .settings) address count reply
-  -- A look, a hearing that answered 1 to 9, and a look again: the same settings and the same last good reading, the fault, the place that was
+  -- A look, a hearing that answered 1 to 9 or 26, and a look again: the same settings and the same last good reading, the fault, the place that was
   -- answered with it, one faulty reply more, and this minute as the one it was last heard.
-  pub kept : (rows after : List Row) (minute address count fault place : ℕ) (reply : List ℕ) (before told : Looked) → 1 ≤ fault → fault ≤ 9
+  pub kept : (rows after : List Row) (minute address count fault place : ℕ) (reply : List ℕ) (before told : Looked) → setsFault fault ≡ true
       → LooksUp rows address before → Hears rows minute address count reply (heardAs fault place) after → LooksUp after address told
       → (told .number ≡ 0) × (told .fault ≡ fault) × (told .place ≡ place) × (told .faulty ≡ more (before .faulty)) × (minuteTold told ≡ at minute)
       × (told .settings ≡ before .settings) × (lastTold told ≡ lastTold before)
-  -- A row that was enrolled has no reading and fault 0.
-  pub started : (rows after : List Row) (settings address : ℕ) (told : Looked) → Enrols rows settings address 0 after → LooksUp after address told
+  -- A row that was enrolled has no reading and fault 0, and the gauge that was given.
+  pub started : (rows after : List Row) (settings address gauge : ℕ) (told : Looked) → Enrols rows settings address gauge 0 after → LooksUp after address told
       → (told .number ≡ 0) × (told .fault ≡ 0) × (told .settings ≡ settings) × (lastTold told ≡ none)
-      × (told .place ≡ 0) × (told .faulty ≡ 0) × (minuteTold told ≡ never)
+      × (told .place ≡ 0) × (told .faulty ≡ 0) × (minuteTold told ≡ never) × (told .gauge ≡ gaugeTold gauge)
   -- What the calls of another transmitter do leaves its look as it was.
   pub hear-apart : (rows after : List Row) (minute address other count : ℕ) (reply : List ℕ) (answer : Heard) (before told : Looked)
       → (other ≡ address → ⊥) → LooksUp rows address before → Hears rows minute other count reply answer after → LooksUp after address told → told ≡ before
-  pub enrol-apart : (rows after : List Row) (settings address other answer : ℕ) (before told : Looked) → (other ≡ address → ⊥)
-      → LooksUp rows address before → Enrols rows settings other answer after → LooksUp after address told → told ≡ before
+  pub enrol-apart : (rows after : List Row) (settings address gauge other answer : ℕ) (before told : Looked) → (other ≡ address → ⊥)
+      → LooksUp rows address before → Enrols rows settings other gauge answer after → LooksUp after address told → told ≡ before
   pub remove-apart : (rows after : List Row) (address other answer : ℕ) (before told : Looked) → (other ≡ address → ⊥) → LooksUp rows address before
       → Removes rows other answer after → LooksUp after address told → told ≡ before

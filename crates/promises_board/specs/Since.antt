@@ -12,7 +12,7 @@ use Rattle.board.specs.declared.Row.{Row}
 use Rattle.board.specs.Row.{inUse, setsFault, Minute, never, at}
 use Rattle.board.specs.Calls.{Hears, LooksUp, minuteTold}
 use Rattle.promises_board.specs.Calls.{rowAt, OnBoard}
-use Rattle.promises_board.specs.History.{History, begun, enrolled, heard, removed, looked, Empty}
+use Rattle.promises_board.specs.History.{History, begun, enrolled, heard, removed, looked, polled, Empty}
 
 -- The hearings of an address in a history that answered a fault of the row, since the last one that answered 0 or since its enrolment. A hearing
 -- that did not reach the row is not counted.
@@ -21,19 +21,21 @@ counted number n = pick (eqb number 0) 0 (pick (setsFault number) (suc n) n)
 
 unfoldable pub since : {start rows : List Row} → History start rows → ℕ → ℕ
 since begun address = 0
-since (enrolled settings a answer h e) address = pick (eqb a address && eqb answer 0) 0 (since h address)
+since (enrolled settings a gauge answer h e) address = pick (eqb a address && eqb answer 0) 0 (since h address)
 since (heard minute a count reply answer h e) address = pick (eqb a address) (counted (answer .number) (since h address)) (since h address)
 since (removed a answer h e) address = since h address
 since (looked a answer h e) address = since h address
+since (polled a raise reset out answer after h e) address = since h address
 
 -- The minute of the latest hearing of an address that reached its row, good or faulty; never where there is none since its enrolment.
 unfoldable pub latest : {start rows : List Row} → History start rows → ℕ → Minute
 latest begun address = never
-latest (enrolled settings a answer h e) address = pick (eqb a address && eqb answer 0) never (latest h address)
+latest (enrolled settings a gauge answer h e) address = pick (eqb a address && eqb answer 0) never (latest h address)
 latest (heard minute a count reply answer h e) address =
     pick (eqb a address && (eqb (answer .number) 0 || setsFault (answer .number))) (at minute) (latest h address)
 latest (removed a answer h e) address = latest h address
 latest (looked a answer h e) address = latest h address
+latest (polled a raise reset out answer after h e) address = latest h address
 
 pub record BoardSince : Type 0 where
   -- On a board begun empty the count of a row in use is 0 exactly where its fault is.

@@ -12,7 +12,7 @@ use Rattle.board.specs.declared.Looked.{Looked}
 use Rattle.board.specs.declared.Row.{Row}
 use Rattle.board.specs.Row.{isFree}
 use Rattle.board.specs.Rows.{boardOf, rowOf, hasFree}
-use Rattle.board.specs.Calls.{Enrols, Hears, Removes, LooksUp, lookedAt}
+use Rattle.board.specs.Calls.{Enrols, Hears, Removes, LooksUp, PollsRow, lookedAt}
 use Rattle.promises_board.specs.History.{Empty, NoneTwice}
 
 -- What a look tells of an address, and two boards of which every look tells the same.
@@ -37,35 +37,40 @@ AsManyFree rows others = freeIn (boardOf rows) ≡ freeIn (boardOf others)
 -- Two boards side by side: the same calls, the latest last, are made of both, each with an outcome that its contract allows.
 pub data SideBySide (start begin : List Row) : List Row → List Row → Type 0 where
   both-begun : SideBySide start begin start begin
-  both-enrol : {rows others after later : List Row} (settings address a b : ℕ) → SideBySide start begin rows others
-      → Enrols rows settings address a after → Enrols others settings address b later → SideBySide start begin after later
+  both-enrol : {rows others after later : List Row} (settings address gauge a b : ℕ) → SideBySide start begin rows others
+      → Enrols rows settings address gauge a after → Enrols others settings address gauge b later → SideBySide start begin after later
   both-hear : {rows others after later : List Row} (minute address count : ℕ) (reply : List ℕ) (a b : Heard) → SideBySide start begin rows others
       → Hears rows minute address count reply a after → Hears others minute address count reply b later → SideBySide start begin after later
   both-remove : {rows others after later : List Row} (address a b : ℕ) → SideBySide start begin rows others
       → Removes rows address a after → Removes others address b later → SideBySide start begin after later
   both-look : {rows others : List Row} (address : ℕ) (a b : Looked) → SideBySide start begin rows others
       → LooksUp rows address a → LooksUp others address b → SideBySide start begin rows others
+  both-poll : {rows others : List Row} (address raise reset : ℕ) (out : List ℕ) (a b : ℕ) (after later : List ℕ) → SideBySide start begin rows others
+      → PollsRow rows address raise reset out a after → PollsRow others address raise reset out b later → SideBySide start begin rows others
 
 -- Every call of both was answered alike.
 abbrev pub AnsweredAlike : {start begin rows others : List Row} → SideBySide start begin rows others → Type 0
 AnsweredAlike both-begun = Unit {0}
-AnsweredAlike (both-enrol settings address a b calls e f) = (a ≡ b) × AnsweredAlike calls
+AnsweredAlike (both-enrol settings address gauge a b calls e f) = (a ≡ b) × AnsweredAlike calls
 AnsweredAlike (both-hear minute address count reply a b calls e f) = (a ≡ b) × AnsweredAlike calls
 AnsweredAlike (both-remove address a b calls e f) = (a ≡ b) × AnsweredAlike calls
 AnsweredAlike (both-look address a b calls e f) = (a ≡ b) × AnsweredAlike calls
+AnsweredAlike (both-poll address raise reset out a b after later calls e f) = (a ≡ b) × (after ≡ later) × AnsweredAlike calls
 
 pub record BoardView : Type 0 where
   -- Boards on which each address has the same row, wherever it stands, or none on both, are of one view.
   pub wherever : (rows others : List Row) → ((address : ℕ) → address ≤ 999 → rowOf address (boardOf rows) ≡ rowOf address (boardOf others))
       → SameView rows others
   -- One call of two boards of one view.
-  pub enrol : (rows others after later : List Row) (settings address a b : ℕ) → SameView rows others → FreeAlike rows others
-      → Enrols rows settings address a after → Enrols others settings address b later → (a ≡ b) × SameView after later
+  pub enrol : (rows others after later : List Row) (settings address gauge a b : ℕ) → SameView rows others → FreeAlike rows others
+      → Enrols rows settings address gauge a after → Enrols others settings address gauge b later → (a ≡ b) × SameView after later
   pub hear : (rows others after later : List Row) (minute address count : ℕ) (reply : List ℕ) (a b : Heard) → SameView rows others
       → Hears rows minute address count reply a after → Hears others minute address count reply b later → (a ≡ b) × SameView after later
   pub remove : (rows others after later : List Row) (address a b : ℕ) → SameView rows others → Removes rows address a after
       → Removes others address b later → (a ≡ b) × (NoneTwice rows → NoneTwice others → SameView after later)
   pub look-up : (rows others : List Row) (address : ℕ) (a b : Looked) → SameView rows others → LooksUp rows address a → LooksUp others address b → a ≡ b
+  pub poll : (rows others : List Row) (address raise reset : ℕ) (out after later : List ℕ) (a b : ℕ) → SameView rows others
+      → PollsRow rows address raise reset out a after → PollsRow others address raise reset out b later → (a ≡ b) × (after ≡ later)
   -- Any calls of two boards of one view with as many free rows and no address twice: every answer is the same, and so is the view at the end.
   pub any-calls : (start begin rows others : List Row) → SameView start begin → AsManyFree start begin → NoneTwice start → NoneTwice begin
       → (calls : SideBySide start begin rows others) → AnsweredAlike calls × SameView rows others × AsManyFree rows others

@@ -9,18 +9,35 @@ use crate::types::{Answer, Row, Standing};
 /// Calls of one sequence.
 const CALLS: usize = 100;
 
-/// What a call answers; only a look-up answers more than that it was done.
-fn call<C: Core>(core: &C, rows: &mut [C::Row], call: &BoardCall) -> Answer<Option<Standing>> {
-    match call {
-        BoardCall::Enrol { settings, address } => {
-            core.enrol(rows, *settings, *address).map(|()| None)
-        }
+/// What a call answers; a look-up answers more than that it was done, and a poll leaves bytes.
+fn call<C: Core>(
+    core: &C,
+    rows: &mut [C::Row],
+    call: &BoardCall,
+) -> (Answer<Option<Standing>>, [u8; 4]) {
+    // No byte of a poll is this.
+    let mut out = [0x55; 4];
+    let answer = match call {
+        BoardCall::Enrol {
+            settings,
+            address,
+            gauge,
+        } => core.enrol(rows, *settings, *address, *gauge).map(|()| None),
         BoardCall::Hear { minute, reply } => core
             .hear(rows, *minute, reply.address, reply.count, reply.reply())
             .map(|()| None),
         BoardCall::Remove { address } => core.remove(rows, *address).map(|()| None),
         BoardCall::LookUp { address } => core.look_up(rows, *address).map(Some),
-    }
+        BoardCall::Poll {
+            address,
+            raise,
+            reset,
+            room,
+        } => core
+            .poll_row(rows, *address, *raise, *reset, &mut out[..*room])
+            .map(|()| None),
+    };
+    (answer, out)
 }
 
 /// One board on both sides.

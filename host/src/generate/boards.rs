@@ -1,18 +1,73 @@
 //! Rows and calls of the board.
 
 use super::{
-    address, damage, good_reply, minute, reading, refused_address, refused_settings, ReplyCase,
+    address, damage, good_reply, minute, reading, refused_address, refused_settings, reply_of,
+    ReplyCase,
 };
 use crate::random::Random;
-use crate::types::{Last, Row, ROWS};
+use crate::reading::board::profile;
+use crate::types::{Last, Reading, Row, Temperature, ROWS};
 
 /// One call of the board.
 #[derive(Clone, Copy, Debug, PartialEq, Eq)]
 pub enum BoardCall {
-    Enrol { settings: u8, address: u16 },
-    Hear { minute: u32, reply: ReplyCase },
-    Remove { address: u16 },
-    LookUp { address: u16 },
+    Enrol {
+        settings: u8,
+        address: u16,
+        gauge: u8,
+    },
+    Hear {
+        minute: u32,
+        reply: ReplyCase,
+    },
+    Remove {
+        address: u16,
+    },
+    LookUp {
+        address: u16,
+    },
+    /// A row's poll into so many bytes, at most 4.
+    Poll {
+        address: u16,
+        raise: u8,
+        reset: u8,
+        room: usize,
+    },
+}
+
+/// A gauge: none, one of those that say something, or any byte.
+fn gauge(random: &mut Random) -> u8 {
+    match random.below(4) {
+        0 => 0,
+        1 | 2 => random.below(8) as u8,
+        _ => random.byte(),
+    }
+}
+
+/// Raise or reset: asked for by 1 or by any other number, or not.
+fn flag(random: &mut Random) -> u8 {
+    match random.below(4) {
+        0 => 1,
+        1 => random.byte(),
+        _ => 0,
+    }
+}
+
+/// A reply to a row: often with a temperature at an end of the row's profile, or just past it.
+fn reply_to(random: &mut Random, row: Option<Row>, address: u16) -> ReplyCase {
+    let settings = row.map_or(0, |row| row.settings) & 15;
+    match row.and_then(|row| profile(row.gauge)) {
+        Some(range) if random.coin() => {
+            let (lowest, highest) = range.into_inner();
+            let end = if random.coin() { lowest } else { highest };
+            let reading = Reading {
+                temperature: Temperature::Degrees(end + random.below(3) as i16 - 1),
+                ..reading(random, settings)
+            };
+            reply_of(settings, address, &reading)
+        }
+        _ => good_reply(random, settings, address),
+    }
 }
 
 /// Rows to start from: none, a few, thirty or more; blank as a host would lend them, crowded, or
@@ -48,6 +103,7 @@ fn crowded_row(random: &mut Random, place: usize) -> Row {
         place: 0,
         faulty: 0,
         heard: 0,
+        gauge: gauge(random),
     }
 }
 
@@ -84,6 +140,7 @@ fn hostile_row(random: &mut Random, pool: usize) -> Row {
             random.below(5) as u16
         },
         heard: minute(random),
+        gauge: gauge(random),
     }
 }
 
@@ -103,12 +160,19 @@ pub fn board_call(random: &mut Random, rows: &[Row]) -> BoardCall {
                 random.below(16) as u8
             },
             address,
+            gauge: gauge(random),
         },
         2 if random.coin() => BoardCall::Remove { address },
-        2 | 3 => BoardCall::LookUp { address },
+        2 => BoardCall::LookUp { address },
+        3 if random.coin() => BoardCall::LookUp { address },
+        3 => BoardCall::Poll {
+            address,
+            raise: flag(random),
+            reset: flag(random),
+            room: random.below(5),
+        },
         _ => {
-            let settings = known.map_or(0, |row| row.settings);
-            let mut reply = good_reply(random, settings & 15, address.min(999));
+            let mut reply = reply_to(random, known, address.min(999));
             if random.coin() {
                 damage(random, &mut reply);
             }
@@ -126,36 +190,48 @@ pub fn board_call(random: &mut Random, rows: &[Row]) -> BoardCall {
 #[cfg(test)]
 mod tests {
     use super::*;
-    use crate::reading::board::{enrol, hear, look_up, remove};
+    use crate::reading::board::{enrol, hear, look_up, poll, remove};
 
     /// Every answer that the paper gives each call is reached, many times.
     #[test]
     fn every_outcome_is_reached() {
         let mut random = Random::new(crate::random::SEED, 0);
-        let mut seen = [[0u32; 20]; 4];
+        let mut seen = [[0u32; 29]; 5];
         for _ in 0..1_200 {
             let mut rows = rows(&mut random);
             for _ in 0..100 {
                 let (call, answer) = match board_call(&mut random, &rows) {
-                    BoardCall::Enrol { settings, address } => {
-                        (0, enrol(&mut rows, settings, address))
-                    }
+                    BoardCall::Enrol {
+                        settings,
+                        address,
+                        gauge,
+                    } => (0, enrol(&mut rows, settings, address, gauge)),
                     BoardCall::Hear { minute, reply } => {
                         let (address, count) = (reply.address, reply.count);
                         (1, hear(&mut rows, minute, address, count, reply.reply()))
                     }
                     BoardCall::Remove { address } => (2, remove(&mut rows, address)),
                     BoardCall::LookUp { address } => (3, look_up(&rows, address).map(|_| ())),
+                    BoardCall::Poll {
+                        address,
+                        raise,
+                        reset,
+                        room,
+                    } => {
+                        let out = &mut [0; 4][..room];
+                        (4, poll(&rows, address, raise, reset, out))
+                    }
                 };
                 let number = answer.err().map_or(0, |fault| fault.number());
                 seen[call][usize::from(number)] += 1;
             }
         }
-        let answers: [&[usize]; 4] = [
-            &[0, 10, 11, 18, 19],
-            &[0, 1, 2, 3, 4, 5, 6, 7, 8, 9, 10, 11, 14, 17],
+        let answers: [&[usize]; 5] = [
+            &[0, 10, 11, 18, 19, 27],
+            &[0, 1, 2, 3, 4, 5, 6, 7, 8, 9, 10, 11, 14, 17, 26],
             &[0, 11, 17],
             &[0, 11, 17],
+            &[0, 11, 15, 17, 28],
         ];
         for (call, answers) in answers.iter().enumerate() {
             for &number in *answers {

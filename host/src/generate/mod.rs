@@ -16,7 +16,7 @@ pub use boards::{board_call, rows, BoardCall};
 pub use items::{framed, item, item_asked, mend, record, AskedCase};
 pub use joins::{joinable, shares};
 pub use lines::{bad_times, batches, drawn, pulse_times, samples, so_far, Drawn, Saying};
-pub use replies::{damage, damaged_reply, good_reply, reading, with_parity, ReplyCase};
+pub use replies::{damage, damaged_reply, good_reply, reading, reply_of, with_parity, ReplyCase};
 pub use rounds::{polled, round, round_of};
 pub use sheets::{
     allowance, hostile_sheet, hostile_slot, month, record_bytes, save_case, SaveCase,

@@ -116,8 +116,13 @@ pub fn reading(random: &mut Random, settings: u8) -> Reading {
 /// A reply as a transmitter of these settings and this address would send it.
 pub fn good_reply(random: &mut Random, settings: u8, address: u16) -> ReplyCase {
     let reading = reading(random, settings);
+    reply_of(settings, address, &reading)
+}
+
+/// The reply that says this.
+pub fn reply_of(settings: u8, address: u16, reading: &Reading) -> ReplyCase {
     let mut bytes = [0; 7];
-    let length = write_reply(settings, address, &reading, &mut bytes).unwrap_or(0);
+    let length = write_reply(settings, address, reading, &mut bytes).unwrap_or(0);
     ReplyCase::new(settings, address, 8 * length, &bytes[..length])
 }
 

@@ -6,7 +6,7 @@
 use std::mem::{align_of, size_of};
 
 /// The version of the header that these declarations follow.
-pub const VERSION: u32 = 2;
+pub const VERSION: u32 = 3;
 
 #[repr(C)]
 pub struct Poll {
@@ -174,7 +174,13 @@ extern "C" {
         out: *mut u8,
         out_bytes: usize,
     ) -> Done;
-    pub fn sisal_board_enrol(rows: *mut Row, row_count: usize, settings: u8, address: u16) -> u8;
+    pub fn sisal_board_enrol(
+        rows: *mut Row,
+        row_count: usize,
+        settings: u8,
+        address: u16,
+        gauge: u8,
+    ) -> u8;
     pub fn sisal_board_hear(
         rows: *mut Row,
         row_count: usize,
@@ -186,4 +192,13 @@ extern "C" {
     ) -> Heard;
     pub fn sisal_board_remove(rows: *mut Row, row_count: usize, address: u16) -> u8;
     pub fn sisal_board_look_up(rows: *const Row, row_count: usize, address: u16) -> Standing;
+    pub fn sisal_board_poll(
+        rows: *const Row,
+        row_count: usize,
+        address: u16,
+        raise: u8,
+        reset: u8,
+        out: *mut u8,
+        out_bytes: usize,
+    ) -> u8;
 }

@@ -311,9 +311,11 @@ impl Core for Library {
     }
 
     #[inline]
-    fn enrol(&self, rows: &mut [LentRow], settings: u8, address: u16) -> Answer<()> {
+    fn enrol(&self, rows: &mut [LentRow], settings: u8, address: u16, gauge: u8) -> Answer<()> {
         // SAFETY: the library writes rows of the slice alone, which is lent to nobody else.
-        refused(unsafe { ffi::sisal_board_enrol(rows.as_mut_ptr(), rows.len(), settings, address) })
+        refused(unsafe {
+            ffi::sisal_board_enrol(rows.as_mut_ptr(), rows.len(), settings, address, gauge)
+        })
     }
 
     #[inline]
@@ -359,6 +361,32 @@ impl Core for Library {
             place: told.place,
             faulty: told.faulty,
             heard: (told.kind != 0 || told.fault != 0).then_some(told.heard),
+            gauge: told.gauge,
+        })
+    }
+
+    #[inline]
+    fn poll_row(
+        &self,
+        rows: &[LentRow],
+        address: u16,
+        raise: u8,
+        reset: u8,
+        out: &mut [u8],
+    ) -> Answer<()> {
+        // SAFETY: the library reads rows and writes bytes of the output alone, which is lent to
+        // nobody else.
+        refused(unsafe {
+            let (lent, bytes) = (out.as_mut_ptr(), out.len());
+            ffi::sisal_board_poll(
+                rows.as_ptr(),
+                rows.len(),
+                address,
+                raise,
+                reset,
+                lent,
+                bytes,
+            )
         })
     }
 
@@ -370,6 +398,7 @@ impl Core for Library {
             place: says.place,
             faulty: says.faulty,
             heard: says.heard,
+            gauge: says.gauge,
             used: says.in_use.into(),
             ..LentRow::default()
         };
@@ -400,6 +429,7 @@ impl Core for Library {
             place: row.place,
             faulty: row.faulty,
             heard: row.heard,
+            gauge: row.gauge,
         }
     }
 }

@@ -294,9 +294,13 @@ fn no_minute_is_told_of_a_row_never_heard() {
 /// One call of the library over its rows and of the independent reading over what they say.
 fn call_both(call: &BoardCall, rows: &mut [LentRow], says: &mut [Row]) -> Answer<()> {
     let (answer, other) = match call {
-        BoardCall::Enrol { settings, address } => (
-            Library.enrol(rows, *settings, *address),
-            board::enrol(says, *settings, *address),
+        BoardCall::Enrol {
+            settings,
+            address,
+            gauge,
+        } => (
+            Library.enrol(rows, *settings, *address, *gauge),
+            board::enrol(says, *settings, *address, *gauge),
         ),
         BoardCall::Hear { minute, reply } => (
             Library.hear(rows, *minute, reply.address, reply.count, reply.reply()),
@@ -310,6 +314,18 @@ fn call_both(call: &BoardCall, rows: &mut [LentRow], says: &mut [Row]) -> Answer
             let answer = Library.look_up(rows, *address);
             assert_eq!(answer, board::look_up(says, *address), "{call:?}");
             return answer.map(|_| ());
+        }
+        BoardCall::Poll {
+            address,
+            raise,
+            reset,
+            room,
+        } => {
+            let (mut out, mut other) = ([0xA5; 4], [0xA5; 4]);
+            let answer = Library.poll_row(rows, *address, *raise, *reset, &mut out[..*room]);
+            let said = board::poll(says, *address, *raise, *reset, &mut other[..*room]);
+            assert_eq!((answer, out), (said, other), "{call:?}");
+            return answer;
         }
     };
     assert_eq!(answer, other, "{call:?}");
@@ -336,7 +352,9 @@ fn every_pattern_is_a_row() {
             let changed: Vec<usize> = places.filter(|&n| rows[n] != before[n]).collect();
             match (answer, changed.as_slice()) {
                 (_, []) | (Ok(()), [0..=29]) => {}
-                (Err(fault), &[n @ 0..=29]) if fault.number() <= 9 => {
+                (Err(fault), &[n @ 0..=29])
+                    if fault.number() <= 9 || fault == Fault::OutsideProfile =>
+                {
                     let heard = LentRow {
                         fault: fault.number(),
                         place: fault.place(),

@@ -376,8 +376,8 @@ fn a_hole_is_not_filled_and_words_are_told() {
 #[test]
 fn a_parity_fault_keeps_the_last_reading() {
     let mut rows = [Row::default(); 31];
-    assert_eq!(board::enrol(&mut rows, DECIMAL, 7), Ok(()));
-    assert_eq!(board::enrol(&mut rows, DECIMAL, 7), Err(Fault::Twice));
+    assert_eq!(board::enrol(&mut rows, DECIMAL, 7, 0), Ok(()));
+    assert_eq!(board::enrol(&mut rows, DECIMAL, 7, 0), Err(Fault::Twice));
     assert_eq!(board::hear(&mut rows, 600, 7, 40, &REPLY), Ok(()));
     let wrong = [0x80, 0x0E, 0x50, 0x00, 0x01];
     assert_eq!(
@@ -397,8 +397,8 @@ fn a_parity_fault_keeps_the_last_reading() {
     assert_eq!(board::remove(&mut rows, 7), Ok(()));
     assert_eq!(rows, [Row::default(); 31]);
     for address in 0..30 {
-        assert_eq!(board::enrol(&mut rows, 0, address), Ok(()));
+        assert_eq!(board::enrol(&mut rows, 0, address, 0), Ok(()));
     }
-    assert_eq!(board::enrol(&mut rows, 0, 30), Err(Fault::NoRow));
+    assert_eq!(board::enrol(&mut rows, 0, 30, 0), Err(Fault::NoRow));
     assert_eq!(rows[30], Row::default());
 }

@@ -1,8 +1,12 @@
 //! The board of last good readings, over lent rows.
 
-use super::frame::read_word;
+use super::frame::{read_word, write_poll};
 use super::word::pack;
-use crate::types::{Answer, Fault, Last, Row, Standing, LARGEST_ADDRESS, LARGEST_SETTINGS, ROWS};
+use crate::types::{
+    Answer, Fault, Last, Poll, Row, Standing, Temperature, COPPER, LARGEST_ADDRESS,
+    LARGEST_SETTINGS, MARK_6500, PLATINUM, ROWS, TYPE_1800,
+};
+use std::ops::RangeInclusive;
 
 /// The rows that count: those past the thirtieth are never read or written.
 fn board(rows: &[Row]) -> &[Row] {
@@ -21,13 +25,37 @@ fn held(rows: &mut [Row], address: u16) -> Answer<&mut Row> {
     rows.get_mut(place).ok_or(Fault::Unknown)
 }
 
-/// Enrols a transmitter in the first free row. Refusals: 10, 11, 18, 19.
-pub fn enrol(rows: &mut [Row], settings: u8, address: u16) -> Answer<()> {
+/// The tenths of a degree Fahrenheit that the profile of a gauge allows, ends allowed; none where
+/// it names no profile.
+pub fn profile(gauge: u8) -> Option<RangeInclusive<i16>> {
+    match gauge & 3 {
+        COPPER => Some(-1_000..=4_000),
+        PLATINUM => Some(-2_340..=5_020),
+        _ => None,
+    }
+}
+
+/// Whether a temperature is outside the profile of its row. A row of type 1800 is not checked, nor
+/// is a reply with no temperature.
+fn outside(row: &Row, temperature: Temperature) -> bool {
+    match (profile(row.gauge), temperature) {
+        (Some(range), Temperature::Degrees(tenths)) if row.settings & TYPE_1800 == 0 => {
+            !range.contains(&tenths)
+        }
+        _ => false,
+    }
+}
+
+/// Enrols a transmitter in the first free row. Refusals: 10, 11, 27, 18, 19.
+pub fn enrol(rows: &mut [Row], settings: u8, address: u16, gauge: u8) -> Answer<()> {
     if settings > LARGEST_SETTINGS {
         return Err(Fault::Settings);
     }
     if address > LARGEST_ADDRESS {
         return Err(Fault::AskedAddress);
+    }
+    if settings & TYPE_1800 != 0 && profile(gauge).is_some() {
+        return Err(Fault::ProfileOf1800);
     }
     if place(rows, address).is_some() {
         return Err(Fault::Twice);
@@ -42,15 +70,17 @@ pub fn enrol(rows: &mut [Row], settings: u8, address: u16) -> Answer<()> {
         place: 0,
         faulty: 0,
         heard: 0,
+        gauge,
     };
     Ok(())
 }
 
-/// Hears a reply to a poll of `address`. Refusals: 11, 14, 17, 10, then 1 to 9.
+/// Hears a reply to a poll of `address`. Refusals: 11, 14, 17, 10, then 1 to 9, 26.
 ///
-/// A good reply sets reading, minute and fault 0; the faults 1 to 9 set the row's fault, 7 with the
-/// place of the unreadable digit, and leave its last good reading as it is. Both are heard: the row
-/// has this minute, and its count of faulty replies starts again or grows by one, up to 65,535.
+/// A good reply sets reading, minute and fault 0; the faults 1 to 9, and 26 for a temperature
+/// outside the row's profile, set the row's fault, 7 with the place of the unreadable digit, and
+/// leave its last good reading as it is. Both are heard: the row has this minute, and its count of
+/// faulty replies starts again or grows by one, up to 65,535.
 pub fn hear(rows: &mut [Row], minute: u32, address: u16, count: usize, reply: &[u8]) -> Answer<()> {
     if address > LARGEST_ADDRESS {
         return Err(Fault::AskedAddress);
@@ -60,7 +90,10 @@ pub fn hear(rows: &mut [Row], minute: u32, address: u16, count: usize, reply: &[
     if row.settings > LARGEST_SETTINGS {
         return Err(Fault::Settings);
     }
-    let answer = read_word(row.settings, address, count, word);
+    let answer = match read_word(row.settings, address, count, word) {
+        Ok(reading) if outside(row, reading.temperature) => Err(Fault::OutsideProfile),
+        answer => answer,
+    };
     row.heard = minute;
     match answer {
         Ok(reading) => {
@@ -102,5 +135,26 @@ pub fn look_up(rows: &[Row], address: u16) -> Answer<Standing> {
         place: if row.fault == 7 { row.place } else { 0 },
         faulty: row.faulty,
         heard: (row.last.is_some() || row.fault != 0).then_some(row.heard),
+        gauge: profile(row.gauge).map_or(0, |_| row.gauge & 3) + (row.gauge & MARK_6500),
     })
+}
+
+/// Writes a row's poll into the first 2 bytes. Raise or reset goes to a marked row only, and never
+/// both at once. Refusals: 11, 17, 28, 15.
+pub fn poll(rows: &[Row], address: u16, raise: u8, reset: u8, out: &mut [u8]) -> Answer<()> {
+    if address > LARGEST_ADDRESS {
+        return Err(Fault::AskedAddress);
+    }
+    let place = place(rows, address).ok_or(Fault::Unknown)?;
+    let (raise, reset) = (raise != 0, reset != 0);
+    let marked = rows[place].gauge & MARK_6500 != 0;
+    if (raise && reset) || ((raise || reset) && !marked) {
+        return Err(Fault::RaiseOrReset);
+    }
+    let poll = Poll {
+        address,
+        raise,
+        reset,
+    };
+    write_poll(&poll, out).map(|_| ())
 }

@@ -98,8 +98,8 @@ impl Core for IndependentReading {
     }
 
     #[inline(never)]
-    fn enrol(&self, rows: &mut [Row], settings: u8, address: u16) -> Answer<()> {
-        board::enrol(rows, settings, address)
+    fn enrol(&self, rows: &mut [Row], settings: u8, address: u16, gauge: u8) -> Answer<()> {
+        board::enrol(rows, settings, address, gauge)
     }
 
     #[inline(never)]
@@ -122,6 +122,18 @@ impl Core for IndependentReading {
     #[inline(never)]
     fn look_up(&self, rows: &[Row], address: u16) -> Answer<Standing> {
         board::look_up(rows, address)
+    }
+
+    #[inline(never)]
+    fn poll_row(
+        &self,
+        rows: &[Row],
+        address: u16,
+        raise: u8,
+        reset: u8,
+        out: &mut [u8],
+    ) -> Answer<()> {
+        board::poll(rows, address, raise, reset, out)
     }
 
     #[inline]

@@ -34,7 +34,7 @@ pub fn named(core: &impl Core) {
         let read = core.read_reply_by_pairs(settings, 7, 40, reply);
         assert_eq!(number_and_place(read), told, "{what}, by pairs");
         let mut rows = [core.row(&Row::default())];
-        assert_eq!(core.enrol(&mut rows, settings, 7), Ok(()));
+        assert_eq!(core.enrol(&mut rows, settings, 7, 0), Ok(()));
         let heard = core.hear(&mut rows, 600, 7, 40, reply);
         assert_eq!(number_and_place(heard), told, "{what}, heard");
     }

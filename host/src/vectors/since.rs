@@ -132,6 +132,6 @@ where
     assert_eq!(core.remove(&mut board.rows, 7), Ok(()));
     board.stands(&Row::default(), "removed");
     assert_eq!(core.look_up(&board.rows, 7), Err(Fault::Unknown));
-    assert_eq!(core.enrol(&mut board.rows, 1, 7), Ok(()));
+    assert_eq!(core.enrol(&mut board.rows, 1, 7, 0), Ok(()));
     board.tells(1, &since(None, 0, 0, 0, None), "enrolled again");
 }

@@ -11,7 +11,7 @@ use lines::{Listener, Misheard};
 use sisalcove_host::calls::Lines;
 use sisalcove_host::reading::{board, IndependentReading};
 use sisalcove_host::types::lines::{LinesTold, PulseTimes, SoFar};
-use sisalcove_host::types::{BLANK, SLOT};
+use sisalcove_host::types::{BLANK, SLOT, TYPE_1800};
 use sisalcove_host::{
     Answer, Core, Entry, Fault, Poll, Reading, Record, Row, Slot, Standing, Temperature,
 };
@@ -74,9 +74,40 @@ pub enum Damage {
     SettingsOfRowNotAsked,
     /// A mistake of the lines, where a core is to hear, save and list.
     Mishears(Misheard),
+    ProfileEndsStrict,
+    ProfileOf1800Checked,
+    ReadingClearedByProfile,
+    ProfileOf1800Enrolled,
+    TwiceBeforeProfile,
+    RemovalKeepsGauge,
+    GaugeToldAsItStands,
+    RaiseToAnyRow,
+    RaiseAndResetAtOnce,
+    RaiseWrittenAsReset,
+    ShortBeforeMark,
 }
 
 use Damage::*;
+
+impl Damage {
+    /// Whether a reading that a row was rightly set to is refused by 26: at an end of the row's
+    /// profile, or beyond it in an 1800 row.
+    fn refuses(self, row: &Row) -> bool {
+        let temperature = row.last.map(|last| last.reading.temperature);
+        let (Some(range), Some(Temperature::Degrees(tenths))) =
+            (board::profile(row.gauge), temperature)
+        else {
+            return false;
+        };
+        match self {
+            ProfileEndsStrict if row.settings & TYPE_1800 == 0 => {
+                tenths == *range.start() || tenths == *range.end()
+            }
+            ProfileOf1800Checked => !range.contains(&tenths),
+            _ => false,
+        }
+    }
+}
 
 /// The damaged core.
 pub struct Damaged(pub Damage);
@@ -364,12 +395,25 @@ impl Core for Damaged {
         }
     }
 
-    fn enrol(&self, rows: &mut [Row], settings: u8, address: u16) -> Answer<()> {
-        let answer = board::enrol(rows, settings, address);
-        if self.0 == RowPastThirtiethUsed && answer == Err(Fault::NoRow) && rows.len() > 30 {
-            return board::enrol(&mut rows[30..], settings, address);
+    fn enrol(&self, rows: &mut [Row], settings: u8, address: u16, gauge: u8) -> Answer<()> {
+        let answer = board::enrol(rows, settings, address, gauge);
+        match (self.0, answer) {
+            (RowPastThirtiethUsed, Err(Fault::NoRow)) if rows.len() > 30 => {
+                board::enrol(&mut rows[30..], settings, address, gauge)
+            }
+            (ProfileOf1800Enrolled, Err(Fault::ProfileOf1800)) => {
+                board::enrol(rows, settings, address, 0)
+            }
+            (TwiceBeforeProfile, Err(Fault::ProfileOf1800)) => {
+                let held = board::look_up(rows, address).is_ok();
+                Err(if held {
+                    Fault::Twice
+                } else {
+                    Fault::ProfileOf1800
+                })
+            }
+            (_, answer) => answer,
         }
-        answer
     }
 
     fn hear(
@@ -392,7 +436,22 @@ impl Core for Damaged {
         let mine = rows
             .iter()
             .position(|row| row.in_use && row.address == address);
+        if let (Some(mine), Ok(())) = (mine, answer) {
+            if self.0.refuses(&rows[mine]) {
+                rows[mine] = Row {
+                    fault: 26,
+                    place: 0,
+                    faulty: before[mine].faulty.saturating_add(1),
+                    heard: minute,
+                    ..before[mine]
+                };
+                return Err(Fault::OutsideProfile);
+            }
+        }
         match (self.0, answer, mine) {
+            (ReadingClearedByProfile, Err(Fault::OutsideProfile), Some(mine)) => {
+                rows[mine].last = None;
+            }
             (ReadingClearedByFault, Err(Fault::Parity), Some(mine)) => rows[mine].last = None,
             (FaultKeptByGoodReply, Ok(()), Some(mine)) => rows[mine].fault = before[mine].fault,
             (PlaceKeptBesideOtherFault, Err(Fault::Parity), Some(mine)) => {
@@ -427,16 +486,51 @@ impl Core for Damaged {
     fn remove(&self, rows: &mut [Row], address: u16) -> Answer<()> {
         let before = rows.to_vec();
         board::remove(rows, address)?;
-        if self.0 == RemovalKeepsAddress {
-            for (row, before) in rows.iter_mut().zip(before) {
-                row.address = before.address;
+        for (row, before) in rows.iter_mut().zip(before) {
+            match self.0 {
+                RemovalKeepsAddress => row.address = before.address,
+                RemovalKeepsGauge => row.gauge = before.gauge,
+                _ => {}
             }
         }
         Ok(())
     }
 
     fn look_up(&self, rows: &[Row], address: u16) -> Answer<Standing> {
-        board::look_up(rows, address)
+        let mut standing = board::look_up(rows, address)?;
+        let mine = rows.iter().find(|row| row.in_use && row.address == address);
+        if let (GaugeToldAsItStands, Some(mine)) = (self.0, mine) {
+            standing.gauge = mine.gauge;
+        }
+        Ok(standing)
+    }
+
+    fn poll_row(
+        &self,
+        rows: &[Row],
+        address: u16,
+        raise: u8,
+        reset: u8,
+        out: &mut [u8],
+    ) -> Answer<()> {
+        let answer = board::poll(rows, address, raise, reset, out);
+        let refused = answer == Err(Fault::RaiseOrReset);
+        let poll = Poll {
+            address,
+            raise: raise != 0,
+            reset: reset != 0,
+        };
+        match self.0 {
+            RaiseToAnyRow if refused && (raise == 0) != (reset == 0) => {
+                RIGHT.write_poll(&poll, out).map(|_| ())
+            }
+            RaiseAndResetAtOnce if refused && raise != 0 && reset != 0 => {
+                RIGHT.write_poll(&poll, out).map(|_| ())
+            }
+            RaiseWrittenAsReset => board::poll(rows, address, reset, raise, out),
+            ShortBeforeMark if refused && out.len() < 2 => Err(Fault::Short),
+            _ => answer,
+        }
     }
 
     fn row(&self, says: &Row) -> Row {

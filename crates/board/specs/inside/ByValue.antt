@@ -1,21 +1,28 @@
 -- How the code goes about it: the board as an array by value with a count, and a change of one row of it or of none. A reader of
 -- document 01 need not believe this file.
 use mathlib.Core.Path.{_≡_}
-use mathlib.Core.List.{List}
+use mathlib.Core.Bool.{not}
+use mathlib.Core.List.{List, [], _∷_, _++_}
 use Prim.Native.Nat.{ℕ, _<_, _≤_}
-use lib.Dec.{ltb}
-use lib.ListN.{length, take, set}
+use lib.Dec.{eqb, ltb}
+use lib.ListN.{length, take, drop, set}
+use Rattle.frame.specs.declared.Reading.{Reading}
 use Rattle.frame.specs.declared.Reply.{Reply}
 use Rattle.frame.specs.declared.Reply.the-variants.{Read, Refused, Unreadable}
+use Rattle.frame.specs.Faults.{_gives_, firstOf}
+use Rattle.frame.specs.Kinds.{isSet}
+use Rattle.frame.specs.Line.{firstBytes}
 use Rattle.frame.specs.Pick.{pick}
+use Rattle.frame.specs.Poll.{pollLine, writePollFault}
 use Rattle.board.specs.declared.Heard.{Heard}
 use Rattle.board.specs.declared.Looked.{Looked}
 use Rattle.board.specs.declared.Row.{Row}
 use Rattle.board.specs.declared.value.Board.{Board}
 use Rattle.board.specs.declared.value.Change.{Change}
 use Rattle.board.specs.declared.value.Found.{Found}
+use Rattle.board.specs.Gauge.{outsideBy, unmarked, atOnce}
 use Rattle.board.specs.Row.{isFree, freeRow, withReading, withFault, setsFault}
-use Rattle.board.specs.Rows.{boardOf, placeOf, rowOf, placeFree}
+use Rattle.board.specs.Rows.{boardOf, placeOf, onBoard, rowOf, placeFree}
 use Rattle.board.specs.Calls.{enrolNumber, enrolRows, hearNumber, hearPlace, hearRows, heardAs, findNumber, removeRows, lookedAt}
 
 -- The rows that a board by value holds.
@@ -60,9 +67,15 @@ changeOf at row number place = record { at = at; row = row; number = number; pla
 abbrev pub refusal : ℕ → Change
 refusal number = changeOf 30 freeRow number 0
 
--- The change that a reply makes of the row at a place.
+-- The change that a reading makes of the row at a place: 26 where its temperature is outside the row's profile.
+abbrev pub readChange : ℕ → Row → ℕ → Reading → Change
+readChange at row minute r =
+    pick (outsideBy (row .settings) (row .gauge) (r .temperature)) (changeOf at (withFault row 26 0) 26 0)
+    (changeOf at (withReading row r minute) 0 0)
+
+-- The change that a reply makes of it.
 abbrev pub heardChange : ℕ → Row → ℕ → Reply → Change
-heardChange at row minute (Read r) = changeOf at (withReading row r minute) 0 0
+heardChange at row minute (Read r) = readChange at row minute r
 heardChange at row minute (Refused n) = pick (setsFault n) (changeOf at (withFault row n 0) n 0) (refusal n)
 heardChange at row minute (Unreadable p) = changeOf at (withFault row 7 p) 7 p
 
@@ -74,9 +87,9 @@ saidOf c = heardAs (c .number) (c .place)
 pub record ChangesOn (f : Found) (address : ℕ) (number : List Row → ℕ) (after : List Row → List Row) (c : Change) : Type 0 where
   pub on : (board : List Row) → length board ≤ 30 → Finds board address f → Changes board (number board) (after board) c
 
-abbrev pub EnrolsOn : Found → ℕ → ℕ → Change → Type 0
-EnrolsOn f settings address =
-    ChangesOn f address (λ board. enrolNumber board settings address) (λ board. enrolRows board settings address)
+abbrev pub EnrolsOn : Found → (settings address gauge : ℕ) → Change → Type 0
+EnrolsOn f settings address gauge =
+    ChangesOn f address (λ board. enrolNumber board settings address gauge) (λ board. enrolRows board settings address gauge)
 
 -- Of a hearing the change names the place too.
 pub record HearsOn (f : Found) (minute address count : ℕ) (reply : List ℕ) (c : Change) : Type 0 where
@@ -89,3 +102,25 @@ RemovesOn f address = ChangesOn f address (λ board. findNumber board address) (
 -- The answer is that of looking, on every such board.
 pub record LooksOn (f : Found) (address : ℕ) (answer : Looked) : Type 0 where
   pub on : (board : List Row) → Finds board address f → answer ≡ lookedAt board address
+
+-- Whether a row may be polled so: 11, 17, 28, and 0 where it may.
+unfoldable pub mayPoll : List Row → (address raise reset : ℕ) → ℕ
+unfolding firstOf
+mayPoll board address raise reset =
+    firstOf
+    (ltb 999 address gives 11
+    ∷ not (onBoard address board) gives 17
+    ∷ unmarked (rowOf address board .gauge) raise reset gives 28
+    ∷ atOnce raise reset gives 28
+    ∷ [])
+
+pub record MayPollOn (f : Found) (address raise reset : ℕ) (number : ℕ) : Type 0 where
+  pub on : (board : List Row) → Finds board address f → number ≡ mayPoll board address raise reset
+
+-- A number that was answered already, or what writing the poll answers.
+abbrev pub orPoll : (number address : ℕ) → List ℕ → ℕ
+orPoll number address out = pick (eqb number 0) (writePollFault address out) number
+
+pub record WritesOr (number address raise reset : ℕ) (out : List ℕ) (answer : ℕ) (after : List ℕ) : Type 0 where
+  pub answers : answer ≡ orPoll number address out
+  pub leaves : after ≡ pick (eqb (orPoll number address out) 0) (firstBytes 2 (pollLine address (isSet raise) (isSet reset)) ++ drop 2 out) out

@@ -13,6 +13,9 @@ refused-look-requires c κs = search needs
 place-told-requires : tie.Need-place-told-requires
 place-told-requires c κs = search needs
 
+told-requires : tie.Need-told-requires
+told-requires c κs = search needs
+
 heard-told-requires : tie.Need-heard-told-requires
 heard-told-requires c κs = search needs
 
@@ -20,7 +23,8 @@ returns : tie.Need-returns
 returns c =
     let h = c .before .before in
     let p = h .before in
-    simp (p .before .refused-look .ensures, p .place-told .ensures, h .heard-told .ensures) (sym (told-none (p .before .before .args .row) (c .if1 .taken)))
+    let g = p .before in
+    simp (g .before .refused-look .ensures, g .told .ensures, p .place-told .ensures, h .heard-told .ensures) (sym (told-none (g .before .before .args .row) (c .if1 .taken)))
 
 temperature-by-requires : tie.Need-temperature-by-requires
 temperature-by-requires c κs = search needs
@@ -45,15 +49,17 @@ returns-2 c =
     let t = d .before in
     let h = t .before .before .before .before in
     let p = h .before in
-    let n = p .before in
+    let g = p .before in
+    let n = g .before in
     let row = n .before .args .row in
-    simp (n .refused-look .ensures, p .place-told .ensures, h .heard-told .ensures, t .temperature-by .ensures, toZ-ofZ {w = w16} {z = row .tenths} (record { sfits = t .before .struct-told .given .1 .1 .1 .0 .1 }), d .tenths-of .ensures, k .kind-of .ensures, m .marked .ensures, c .marked2 .ensures) (sym (told-some row (t .before .before .if1 .left)))
+    simp (n .refused-look .ensures, g .told .ensures, p .place-told .ensures, h .heard-told .ensures, t .temperature-by .ensures, toZ-ofZ {w = w16} {z = row .tenths} (record { sfits = t .before .struct-told .given .1 .1 .1 .0 .1 }), d .tenths-of .ensures, k .kind-of .ensures, m .marked .ensures, c .marked2 .ensures) (sym (told-some row (t .before .before .if1 .left)))
 
 pub tell-spec : {M : Type 1} → statement M
 tell-spec =
     tie.close
     (tie.spec
     refused-look-requires
+    told-requires
     place-told-requires
     heard-told-requires
     returns
