@@ -3,4 +3,6 @@ pub mod Cases
 pub mod Places
 pub mod Kept
 pub mod Steps
-pub mod Idle
+pub mod Words
+pub mod Alike
+pub mod Grown

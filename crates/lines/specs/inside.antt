@@ -1,3 +1,3 @@
 -- What only the code needs; nobody has to believe it.
 pub mod Safe
-pub mod Front
+pub mod Runs

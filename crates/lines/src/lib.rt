@@ -1,6 +1,6 @@
 // The two lines of a transmitter heard sample by sample. A host samples the mark line and the space line, hands over the samples in whatever batches
 // it has, and is handed back each message as bits, or its spoiling as a number. Its one public call is `sisal_hear_lines`.
-mod front;
+mod runs;
 mod state;
 mod step;
 
@@ -48,7 +48,7 @@ fn bad_timing(least: usize, most: usize, gap: usize) -> bool
     (most < least) | !within(1, 1000, least) | !within(1, 1000, most) | !within(1, 10000, gap)
 }
 
-// Hears samples up to the one that closes a message, or to the last. Before the first mark or space there is nothing to hear.
+// Hears samples up to the one that closes a message, or to the last, run by run: the first sample of a run by itself, and those like it at once.
 fn hear(least: usize, most: usize, gap: usize, begun: SoFar, samples: &[u8]) -> LinesTold
     requires { ⌜ 1 ≤ gap ⌝ }
     requires { ⌜ gap ≤ 10000 ⌝ }
@@ -56,13 +56,21 @@ fn hear(least: usize, most: usize, gap: usize, begun: SoFar, samples: &[u8]) -> 
     ensures { λ r. ⌜ r ≡ answered (hear (timing least most gap) begun (now (samples .entry))) ⌝ }
 {
     let mut s = begun;
-    let mut i = front::passed(s, samples);
+    let mut i = 0;
     while i < samples.len() {
-        s = step::after(least, most, s, samples[i]);
+        let sample = samples[i];
+        let end = runs::run_end(samples, i + 1, sample);
+        s = step::after(least, most, s, sample);
         i += 1;
         if step::closes(gap, s) {
             return state::closed(s, i);
         }
+        let wanted = step::wanted(gap, s, sample);
+        if wanted <= end - i {
+            return state::closed(s, i + wanted);
+        }
+        s = step::grown(s, sample, end - i);
+        i = end;
     }
     state::left_open(s, i)
 }

@@ -12,6 +12,7 @@ ghost use Rattle.lines.specs.Timing.{timing, tooLong};
 ghost use Rattle.lines.specs.SoFar.{soFar};
 ghost use Rattle.lines.specs.Step.{withBit, runEnded, longerIdle, afterIdle, afterLow, afterBoth, after};
 ghost use Rattle.lines.specs.inside.Safe.{Safe};
+ghost use Rattle.lines.specs.inside.Runs.{wantedOf, grown};
 
 // A mark is 1, at the place after the bits that have come.
 fn bit_at(line: u8, count: u16) -> u64
@@ -144,4 +145,49 @@ pub(crate) fn closes(gap: usize, s: SoFar) -> bool
     ensures { λ r. ⌜ r ≡ (eqb (s .line) 0 && leb gap (s .run)) ⌝ }
 {
     (s.line == 0) & (gap <= s.run as usize)
+}
+
+// How many samples more like the last one close what is open. Idle closes it; without an end where nothing is open, or the sample is not idle.
+pub(crate) fn wanted(gap: usize, s: SoFar, sample: u8) -> usize
+    ensures { λ r. ⌜ r ≡ wantedOf gap sample s ⌝ }
+{
+    if (sample == 0) & !((s.count == 0) & (s.fault == 0)) {
+        let run = s.run as usize;
+        return if run < gap { gap - run } else { 0 };
+    }
+    0xffff_ffff_ffff_ffff
+}
+
+// So many samples more of a run, counted up to a number at which it stops.
+fn longer_by(run: u32, more: usize, top: u32) -> u32
+    ensures { λ r. ⌜ r ≡ min (run + more) top ⌝ }
+{
+    if run < top {
+        if more < (top - run) as usize {
+            return run + more as u32;
+        }
+    }
+    top
+}
+
+// What was heard after so many samples more like the last one, where they close nothing.
+pub(crate) fn grown(s: SoFar, sample: u8, more: usize) -> SoFar
+    ensures { λ r. ⌜ r ≡ grown sample more s ⌝ }
+{
+    if sample == 0 {
+        if (s.count == 0) & (s.fault == 0) {
+            return s;
+        }
+        return SoFar {
+            bits: s.bits,
+            run: longer_by(s.run, more, 10000),
+            count: s.count,
+            line: 0,
+            fault: s.fault,
+        };
+    }
+    if s.line == 0 {
+        return s;
+    }
+    in_run(s, s.line, longer_by(s.run, more, 1001))
 }
