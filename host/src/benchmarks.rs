@@ -9,6 +9,7 @@ mod areas;
 mod items;
 mod joins;
 pub mod lines;
+mod modes;
 mod rounds;
 mod summaries;
 

@@ -25,6 +25,11 @@ impl Timing {
         let (left, right) = (format!("{left}, ns"), format!("{right}, ns"));
         format!("{:<40} {left:>16} {right:>16} {:>7}", "", "ratio")
     }
+
+    /// A row of the table in `docs/HOST.md`.
+    pub fn row(&self) -> String {
+        format!("| {} | {:.2} |", self.name, self.ratio)
+    }
 }
 
 impl Display for Timing {

@@ -1,5 +1,6 @@
 //! Times the proved library and the independent reading side by side, call for call, and prints
-//! the ratios. Words given to it choose the cases whose name has them.
+//! the ratios. Words given to it choose the cases whose name has them; `--table` before them prints
+//! the rows of the table in `docs/HOST.md` instead.
 
 use std::process::ExitCode;
 
@@ -18,16 +19,26 @@ fn main() -> ExitCode {
             return ExitCode::from(2);
         }
     };
+    let mut words: Vec<String> = std::env::args().skip(1).collect();
+    let table = words.first().is_some_and(|word| word == "--table");
+    if table {
+        words.remove(0);
+    }
     let benchmarks = Benchmarks {
         left: &Library,
         right: &IndependentReading,
         watch: Stopwatch::usual(),
         seed,
-        only: std::env::args().skip(1).collect::<Vec<_>>().join(" "),
+        only: words.join(" "),
     };
+    if table {
+        print_table(&benchmarks);
+        return ExitCode::SUCCESS;
+    }
     println!("call for call: neither side is put in place where it is called");
     println!("{}", Timing::heading("proved", "independent"));
     benchmarks.all(|timing| println!("{timing}"));
+    benchmarks.modes(|timing| println!("{timing}"));
     println!();
     println!("{}", Timing::heading("proved", "independent"));
     benchmarks.growth(|timing| println!("{timing}"));
@@ -43,6 +54,30 @@ fn main() -> ExitCode {
     benchmarks.joins(|timing| println!("{timing}"));
     benchmarks.rounds(|timing| println!("{timing}"));
     ExitCode::SUCCESS
+}
+
+/// The rows of the table in `docs/HOST.md`.
+#[cfg(target_arch = "x86_64")]
+fn print_table(
+    benchmarks: &sisalcove_host::benchmarks::Benchmarks<
+        sisalcove_host::library::Library,
+        sisalcove_host::reading::IndependentReading,
+    >,
+) {
+    println!("| Case | Ratio |");
+    println!("|---|---|");
+    // Two sets of cases have the listing, each beside its own.
+    let mut told = Vec::new();
+    let mut tell = |timing: &sisalcove_host::stopwatch::Timing| {
+        if !told.contains(&timing.name) {
+            println!("{}", timing.row());
+            told.push(timing.name.clone());
+        }
+    };
+    benchmarks.all(&mut tell);
+    benchmarks.modes(&mut tell);
+    benchmarks.summaries(&mut tell);
+    benchmarks.joins(&mut tell);
 }
 
 #[cfg(not(target_arch = "x86_64"))]
