@@ -10,6 +10,7 @@ pub mod Digits
 pub mod Upward
 pub mod Straight
 pub mod Constants
+pub mod Keys
 pub mod PairsAreDigits
 pub mod PairTable
 pub mod PairSteps
@@ -20,6 +21,7 @@ pub mod Verdict
 pub mod Refusals
 pub mod Fronts
 pub mod Counted
+pub mod Oddness
 pub mod Sums
 pub mod ToldBack
 pub mod Rising

@@ -228,7 +228,7 @@ uncounted-row (c ∷ cs) bits odd sofar place =
     go true a b e = e
     go false a b e = ap lost (less place)
 
-all-counted : (l : Level) → uncounted 0 l ≡ l
+pub all-counted : (l : Level) → uncounted 0 l ≡ l
 all-counted (known v) = refl
 all-counted (lost k) = ap lost (omega arith)
 

@@ -5,7 +5,7 @@ use mathlib.Core.Bool.{Bool, true, false, not, _&&_}
 use mathlib.Core.List.{List, [], _∷_}
 use Prim.Native.Nat.{ℕ, suc, _+_, _*_, _/_, _%_, _^_, _<_, _≤_}
 use native.Mathlib.Omega.{arith}
-use borrow.Author.Tests.{eqb-true, ltb-false}
+use borrow.Author.Tests.{eqb-true, ltb-true, ltb-false}
 use lib.Dec.{eqb, ltb}
 use lib.ListN.{length}
 use Rattle.frame.specs.declared.Reply.the-variants.{Read, Refused, Unreadable}
@@ -15,7 +15,7 @@ use Rattle.frame.specs.Charts.{Chart, sizeOf, isOdd, turned, placeIn}
 use Rattle.frame.specs.Level.{Level, known, lost, Mode, widthOf, readRow, levelOf, fillClear, noChart, valueOf, placeLost, aboveLargest}
 use Rattle.frame.specs.Temperature.{isBad}
 use Rattle.frame.specs.Reply.{modeIn, heatIn, parityRight, readingAt, refusedBy}
-use Rattle.frame.specs.inside.Packed.{levelNumber, levelCode, lineFault, lineReply, levelReply, heatReply}
+use Rattle.frame.specs.inside.Packed.{levelNumber, levelCode, lineFault, lineReply, levelReply, heatReply, levelledReply}
 use Rattle.frame.proofs.Answers.{refused-by}
 use Rattle.frame.proofs.Refusals.{plain-by}
 use Rattle.frame.proofs.Tables.{pick-case}
@@ -181,3 +181,12 @@ module _ (settings address count : ℕ) (s : List ℕ) where
                 ≡ heatReply settings count (line s) (levelCode (modeIn settings) (line s))
             go true e = rw e
             go false e = rw (e, level-value settings (line s) h)
+
+        -- both together
+        pub line-levelled : levelledReply settings count (line s) (levelCode (modeIn settings) (line s)) ≡ lineReply settings address count s
+        line-levelled = go (ltb (levelCode (modeIn settings) (line s)) 65536) refl
+          where
+            go : (b : Bool) → ltb (levelCode (modeIn settings) (line s)) 65536 ≡ b
+                → pick b (heatReply settings count (line s) (levelCode (modeIn settings) (line s))) (levelReply (levelCode (modeIn settings) (line s))) ≡ lineReply settings address count s
+            go true e = sym (line-read (ltb-true (levelCode (modeIn settings) (line s)) 65536 e))
+            go false e = sym (line-level (ltb-false (levelCode (modeIn settings) (line s)) 65536 e))

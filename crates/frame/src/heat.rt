@@ -1,9 +1,12 @@
 // Temperature in tenths of a degree, for types 1900 and 1800. Bit 40 of the line is bit 24 of its word, bit 55 is bit 9.
 ghost use mathlib.Core.Path.{_≡_};
 ghost use mathlib.Core.Bool.{false};
-ghost use Prim.Native.Nat.{_≤_, min};
-ghost use Rattle.frame.specs.Temperature.{limit, signed, isPlus, magnitude, degreesAt, heat1900, heat1800, putDegrees, putDegrees1900, putDegrees1800, putHeat1900, putHeat1800};
-ghost use Rattle.frame.specs.inside.Packed.{heatFor};
+ghost use mathlib.Core.Logic.{_≢_};
+ghost use Prim.Native.Nat.{_+_, _<_, _≤_, _^_, min};
+ghost use Rattle.frame.specs.Pick.{pick};
+ghost use Rattle.frame.specs.Line.{bit};
+ghost use Rattle.frame.specs.Temperature.{limit, signed, isPlus, magnitude, degreesAt, hundreds1900, heat1800, heatOf, putDegrees, putDegrees1900, putDegrees1800, putHeat1900, putHeat1800};
+ghost use Rattle.frame.specs.inside.Packed.{heatFor, heatBy};
 use crate::Temperature;
 use crate::line;
 
@@ -20,7 +23,7 @@ pub(crate) enum Told {
 
 // A sign and a number of tenths.
 fn degrees(plus: bool, m: u64) -> i16
-    requires { ⌜ m ≤ limit false ⌝ }
+    requires { ⌜ m < 2 ^ 13 ⌝ }
     ensures { λ r. ⌜ r ≡ signed plus m ⌝ }
 {
     let d = m as i16;
@@ -48,44 +51,87 @@ pub fn magnitude(d: i16) -> u64
     (0 - wide) as u64
 }
 
+// What the temperature bits read as in one number, which stays in a register where a `Told` goes through memory: degrees are their tenths,
+// and 2 ^ 13 with a plus; above these stand the other answers.
+const PLUS: u64 = 0x2000;
+
+const ABOVE: u64 = 0x4000;
+
+const BELOW: u64 = 0x4001;
+
+pub(crate) const ABSENT: u64 = 0x4002;
+
+const BAD: u64 = 0x4003;
+
+pub(crate) fn told_by(heat: u64) -> Told
+    ensures { λ r. ⌜ heatFor r ≡ heatBy heat ⌝ }
+{
+    if heat < ABOVE {
+        let d = degrees(heat / PLUS == 1, heat % PLUS);
+        return Told::Is(Temperature::Degrees(d));
+    }
+    match heat {
+        0x4000 => Told::Is(Temperature::Above),
+        0x4001 => Told::Is(Temperature::Below),
+        0x4002 => Told::Is(Temperature::Absent),
+        _ => Told::Bad,
+    }
+}
+
 // Sign and digits at bits 41 and 44-55, with these hundreds.
-fn degrees_at(n: u64, hundreds: u64) -> Told
+fn degrees_at(n: u64, hundreds: u64) -> u64
     requires { ⌜ hundreds ≤ 7 ⌝ }
-    ensures { λ r. ⌜ heatFor r ≡ degreesAt n hundreds ⌝ }
+    ensures { λ r. ⌜ heatBy r ≡ degreesAt n hundreds ⌝ }
 {
     let m = line::three(n, 9);
     if m == 1000 {
-        return Told::Bad;
+        return BAD;
     }
-    let d = degrees((n >> 23) % 2 == 1, hundreds * 1000 + m);
-    Told::Is(Temperature::Degrees(d))
+    (n >> 23) % 2 * PLUS + hundreds * 1000 + m
 }
 
-// Type 1900: bits 40, 42, 43 are the hundreds' bits 0, 1, 2, each inverted.
-pub(crate) fn read_1900(n: u64) -> Told
-    ensures { λ r. ⌜ heatFor r ≡ heat1900 n ⌝ }
+// The hundreds: of an 1800 bit 42; of a 1900 bits 40, 42, 43 are their bits 0, 1, 2, each inverted.
+fn hundreds(is_1800: bool, n: u64) -> u64
+    ensures { λ r. ⌜ (r ≡ pick is_1800 (bit n 42) (hundreds1900 n)) × (r ≤ 7) ⌝ }
 {
-    let hundreds = (1 - (n >> 24) % 2) + 2 * (1 - (n >> 22) % 2) + 4 * (1 - (n >> 21) % 2);
-    degrees_at(n, hundreds)
+    if is_1800 {
+        return (n >> 22) % 2;
+    }
+    (1 - (n >> 24) % 2) + 2 * (1 - (n >> 22) % 2) + 4 * (1 - (n >> 21) % 2)
 }
 
-// Type 1800: bit 43 is an error, above or, with bit 40, below; sign and digits are then not read. Else bit 42 is the
-// hundred.
-pub(crate) fn read_1800(n: u64) -> Told
-    ensures { λ r. ⌜ heatFor r ≡ heat1800 n ⌝ }
+// Type 1800 where bit 40 or 43 is set: bit 43 is an error, above or, with bit 40, below; sign and digits are then not read.
+fn beyond(n: u64) -> u64
+    requires { ⌜ (bit n 43 ≡ 0 → bit n 40 ≢ 0) ⌝ }
+    ensures { λ r. ⌜ heatBy r ≡ heat1800 n ⌝ }
 {
-    let below = (n >> 24) % 2;
-    let error = (n >> 21) % 2;
-    if error < below {
-        return Told::Bad;
+    if (n >> 21) % 2 == 0 {
+        return BAD;
     }
-    if error == 1 {
-        if below == 1 {
-            return Told::Is(Temperature::Below);
-        }
-        return Told::Is(Temperature::Above);
+    if (n >> 24) % 2 == 1 {
+        return BELOW;
     }
-    degrees_at(n, (n >> 22) % 2)
+    ABOVE
+}
+
+// How many error bits of an 1800 are set, 40 and 43; of a 1900 they are hundreds.
+fn errors(is_1800: bool, n: u64) -> u64
+    ensures { λ r. ⌜ r ≡ pick is_1800 (bit n 43 + bit n 40) 0 ⌝ }
+{
+    if is_1800 {
+        return (n >> 21) % 2 + (n >> 24) % 2;
+    }
+    0
+}
+
+// The temperature of either type.
+pub(crate) fn read(is_1800: bool, n: u64) -> u64
+    ensures { λ r. ⌜ heatBy r ≡ heatOf is_1800 n ⌝ }
+{
+    if errors(is_1800, n) != 0 {
+        return beyond(n);
+    }
+    degrees_at(n, hundreds(is_1800, n))
 }
 
 // The sign and the last three digits of a number of tenths.

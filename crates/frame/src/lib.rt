@@ -103,7 +103,7 @@ pub fn write_poll(address: u16, raise: bool, reset: bool, out: &mut [u8]) -> Wri
 pub fn read_reply(settings: u8, address: u16, count: usize, reply: &[u8]) -> Reply
     ensures { λ r. ⌜ ReadsReply settings address count (now (reply .entry)) r ⌝ }
 {
-    replies::read_with(false, settings, address, count, reply)
+    replies::read(settings, address, count, reply)
 }
 
 // The same answer by the second reader: a level in the decimal or a metric mode is read two digits at a time, from a table. Refuses 10, 11,
@@ -112,7 +112,7 @@ pub fn read_reply_by_pairs(settings: u8, address: u16, count: usize, reply: &[u8
     ensures plain { λ r. ⌜ ReadsReply settings address count (now (reply .entry)) r ⌝ }
     ensures paired { λ r. ⌜ ReadsReplyByPairs settings address count (now (reply .entry)) r ⌝ }
 {
-    replies::read_with(true, settings, address, count, reply)
+    replies::read_by_pairs(settings, address, count, reply)
 }
 
 // Writes a reply: a reading whose temperature is absent into the first 5 bytes, any other into the first 7. Refuses 10, 11, 15.

@@ -1,9 +1,9 @@
-// Bits on the line: the form of what is lent, its bytes as one word, and its marks.
+// Bits on the line: the form of what is lent, and its bytes as one word.
 ghost use mathlib.Core.Path.{_≡_};
 ghost use Prim.Native.Nat.{_+_, _*_, _^_, _≤_};
 ghost use mathlib.Core.Logic.{_≢_};
 ghost use lib.ListN.{length};
-ghost use Rattle.frame.specs.Line.{formed, line, marks, mark};
+ghost use Rattle.frame.specs.Line.{formed, line, mark};
 ghost use Rattle.frame.specs.inside.Packed.{threeBy, threeOf};
 
 // A line is lent in the right form: at most 64 bits, exactly the bytes for its count, pad bits 0.
@@ -85,20 +85,6 @@ pub(crate) fn pack(reply: &[u8]) -> u64
         return eight(front, four(two(reply[4], reply[5]), two(reply[6], 0)));
     }
     eight(front, four(two(reply[4], 0), 0))
-}
-
-// The marks of a reply, counted over its bytes.
-pub(crate) fn marks(reply: &[u8]) -> u32
-    requires { ⌜ length (now reply) ≤ 8 ⌝ }
-    ensures { λ r. ⌜ r ≡ marks (now (reply .entry)) ⌝ }
-{
-    let mut ones: u32 = 0;
-    let mut i = 0;
-    while i < reply.len() {
-        ones += u8::count_ones(reply[i]);
-        i += 1;
-    }
-    ones
 }
 
 // Three decimal digits, the last at `shift` bits above the lowest bit: their number, or 1000 where one is above 9.

@@ -4,8 +4,8 @@
 ghost use mathlib.Core.Path.{_≡_};
 ghost use Prim.Native.Nat.{_<_, _^_};
 ghost use Rattle.frame.specs.Level.{modeOf, fractionalMode, decimalMode, twentyMetreMode, thirtyMetreMode, putLevel};
-ghost use Rattle.frame.specs.inside.Packed.{levelCode, codeByPairs, secondCode};
-ghost use Rattle.frame.specs.inside.Constants.{fractional, decimalFeet, codesBy};
+ghost use Rattle.frame.specs.inside.Packed.{levelCode, secondCode};
+ghost use Rattle.frame.specs.inside.Constants.{Constants, fractional, decimalFeet, codesBy, pairedBy};
 use crate::level;
 use crate::pairs;
 
@@ -92,21 +92,6 @@ impl Decimal {
         )
     }
 
-    // Two digits at a time.
-    fn read_pairs(n: u64) -> u64
-        ensures { λ r. ⌜ r ≡ codeByPairs decimalMode n ⌝ }
-    {
-        pairs::read_by(
-            n,
-            Self::DIGITS,
-            Self::FIRST,
-            Self::BEFORE,
-            Self::AFTER,
-            Self::LARGEST,
-            Self::START,
-        )
-    }
-
     fn codes(v: u64) -> u64
         ensures { λ r. ⌜ (r ≡ codesBy decimalFeet v) × (r < 2 ^ 20) ⌝ }
     {
@@ -149,21 +134,6 @@ impl Metres20 {
             Self::AFTER,
             Self::LARGEST,
             Self::CHARTS,
-            Self::START,
-        )
-    }
-
-    // Two digits at a time.
-    fn read_pairs(n: u64) -> u64
-        ensures { λ r. ⌜ r ≡ codeByPairs twentyMetreMode n ⌝ }
-    {
-        pairs::read_by(
-            n,
-            Self::DIGITS,
-            Self::FIRST,
-            Self::BEFORE,
-            Self::AFTER,
-            Self::LARGEST,
             Self::START,
         )
     }
@@ -214,21 +184,6 @@ impl Metres30 {
         )
     }
 
-    // Two digits at a time.
-    fn read_pairs(n: u64) -> u64
-        ensures { λ r. ⌜ r ≡ codeByPairs thirtyMetreMode n ⌝ }
-    {
-        pairs::read_by(
-            n,
-            Self::DIGITS,
-            Self::FIRST,
-            Self::BEFORE,
-            Self::AFTER,
-            Self::LARGEST,
-            Self::START,
-        )
-    }
-
     fn write(v: u64) -> u64
         ensures { λ r. ⌜ r ≡ putLevel thirtyMetreMode v ⌝ }
     {
@@ -254,26 +209,74 @@ pub(crate) fn read_level(mode: u64, n: u64) -> u64
     }
 }
 
-// The same, two digits at a time where all digits but the first are decimal.
-fn read_level_by_pairs(mode: u64, n: u64) -> u64
-    ensures { λ r. ⌜ r ≡ secondCode mode n ⌝ }
+// The constants of the modes that are read by pairs, by their number: picked as numbers, so that no mode has code of its own and none is
+// guessed wrong where replies of several modes come one after another.
+fn digits_of(mode: u64) -> u64
+    ensures { λ r. ⌜ r ≡ pairedBy mode .digits ⌝ }
 {
     match mode {
-        0 => Fractional::read(n),
-        1 => Decimal::read_pairs(n),
-        2 => Metres20::read_pairs(n),
-        _ => Metres30::read_pairs(n),
+        1 => Decimal::DIGITS,
+        2 => Metres20::DIGITS,
+        _ => Metres30::DIGITS,
     }
 }
 
-// The level of a line by either reader.
-pub(crate) fn read_level_with(paired: bool, mode: u64, n: u64) -> u64
-    ensures { λ r. ⌜ r ≡ levelCode (modeOf mode) n ⌝ }
+fn first_of(mode: u64) -> u64
+    ensures { λ r. ⌜ r ≡ pairedBy mode .first ⌝ }
 {
-    if paired {
-        return read_level_by_pairs(mode, n);
+    match mode {
+        1 => Decimal::FIRST,
+        2 => Metres20::FIRST,
+        _ => Metres30::FIRST,
     }
-    read_level(mode, n)
+}
+
+fn fill_before(mode: u64) -> u64
+    ensures { λ r. ⌜ r ≡ pairedBy mode .before ⌝ }
+{
+    match mode {
+        1 => Decimal::BEFORE,
+        2 => Metres20::BEFORE,
+        _ => Metres30::BEFORE,
+    }
+}
+
+fn fill_after(mode: u64) -> u64
+    ensures { λ r. ⌜ r ≡ pairedBy mode .after ⌝ }
+{
+    match mode {
+        1 => Decimal::AFTER,
+        2 => Metres20::AFTER,
+        _ => Metres30::AFTER,
+    }
+}
+
+fn largest_of(mode: u64) -> u64
+    ensures { λ r. ⌜ r ≡ pairedBy mode .largest ⌝ }
+{
+    match mode {
+        1 => Decimal::LARGEST,
+        2 => Metres20::LARGEST,
+        _ => Metres30::LARGEST,
+    }
+}
+
+// The same, two digits at a time where all digits but the first are decimal. Every mode's digit reader starts with no odd digit above.
+pub(crate) fn read_level_by_pairs(mode: u64, n: u64) -> u64
+    ensures { λ r. ⌜ r ≡ secondCode mode n ⌝ }
+{
+    if mode == 0 {
+        return Fractional::read(n);
+    }
+    pairs::read_by(
+        n,
+        digits_of(mode),
+        first_of(mode),
+        fill_before(mode),
+        fill_after(mode),
+        largest_of(mode),
+        Decimal::START,
+    )
 }
 
 // The bits of a level in the mode of this number.

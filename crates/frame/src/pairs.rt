@@ -8,21 +8,30 @@ ghost use Rattle.frame.specs.Level.{Level};
 ghost use Rattle.frame.specs.Pairs.{noPair, entryOf, indexOf, readPairs, uncounted};
 ghost use Rattle.frame.specs.inside.Packed.{readCode, Below};
 ghost use Rattle.frame.specs.inside.Constants.{Constants, readPairsBy};
+use crate::charts;
 use crate::level;
-use crate::line;
 use crate::pair_table;
 
 // The mark for a pair in no chart. Every pair's number is below it.
 const NO_PAIR: u64 = 255;
 
-// The table's entry for a pair of codes, its first digit turned or straight.
+// One word or the other.
+fn either(odd: bool, turned: u64, straight: u64) -> u64
+    ensures { λ r. ⌜ r ≡ pick odd turned straight ⌝ }
+{
+    if odd { turned } else { straight }
+}
+
+// The table's entry for a pair of codes, its first digit turned or straight. Both halves are asked at once, so that a load need not wait for
+// the digit above.
 fn entry(odd: bool, first: u64, second: u64) -> u64
     requires { ⌜ first < 16 ⌝ }
     requires { ⌜ second < 16 ⌝ }
     ensures { λ r. ⌜ r ≡ entryOf (indexOf odd first second) ⌝ }
 {
-    let i = line::mark(odd) * 256 + first * 16 + second;
-    (pair_table::eight(i / 8) >> (8 * (i % 8))) % 256
+    let k = 2 * first + second / 8;
+    let word = either(odd, pair_table::turned(k), pair_table::straight(k));
+    (word >> (8 * (second % 8))) % 256
 }
 
 // The entry of the top one of `left` pairs.
@@ -35,8 +44,8 @@ fn top_pair(left: u64, bits: u64, odd: bool) -> u64
     entry(odd, (bits >> (at + 4)) % 16, (bits >> at) % 16)
 }
 
-// The place of the digit in no chart of a pair that is marked. 0000 is in the chart from either end: with it for the second code the pair
-// is marked again exactly if the first code is in no chart.
+// The place of the digit in no chart of a pair that is marked: its first code is in no chart, or else its second one. The table is asked in
+// one place only, `top_pair`, where the compiler can then put it.
 fn lost_place(left: u64, bits: u64, odd: bool, place: u64) -> u64
     requires { ⌜ 0 < left ⌝ }
     requires { ⌜ left ≤ 4 ⌝ }
@@ -44,7 +53,7 @@ fn lost_place(left: u64, bits: u64, odd: bool, place: u64) -> u64
     ensures { λ r. ⌜ (r ≡ pick (eqb (entryOf (indexOf odd (bits / 2 ^ (8 * (left - 1) + 4) % 16) 0)) noPair) place (suc place)) × (r ≤ 9) ⌝ }
 {
     let first = (bits >> (8 * (left - 1) + 4)) % 16;
-    if entry(odd, first, 0) == NO_PAIR {
+    if charts::digit(3, first, odd) == 16 {
         return place;
     }
     place + 1
@@ -77,18 +86,22 @@ fn read_pairs(left: u64, bits: u64, odd: bool, sofar: u64, place: u64) -> u64
     read_pairs(left - 1, bits, pair % 2 == 1, next, place + 2)
 }
 
-// What was read, where a digit 0000 that stands before the others is not counted in the place of a digit in no chart.
+// What was read, where digits 0000 that stand before the others are not counted in the place of a digit in no chart.
 fn less_zeros(zeros: u64, v: u64) -> u64
-    requires { ⌜ zeros ≤ 1 ⌝ }
+    requires { ⌜ zeros ≤ 2 ⌝ }
     ensures { λ r. ⌜ ((l : Level) → Below (2 ^ 32) l → v ≡ readCode l → r ≡ readCode (uncounted zeros l)) ⌝ }
 {
-    if level::LOST < v {
-        return v - zeros;
+    if v < level::LOST {
+        return v;
     }
-    v
+    if v < level::LOST + zeros {
+        return level::LOST;
+    }
+    v - zeros
 }
 
-// A level by its mode's constants, as `level::read_by` has them, two digits at a time: a digit 0000 stands before an odd number of digits.
+// A level by its mode's constants, as `level::read_by` has them, two digits at a time: digits 0000 stand before them, so
+// that there are six in every mode and the modes need no choice.
 pub(crate) fn read_by(
     n: u64,
     digits: u64,
@@ -98,6 +111,7 @@ pub(crate) fn read_by(
     largest: u64,
     start: bool,
 ) -> u64
+    requires { ⌜ 4 ≤ digits ⌝ }
     requires { ⌜ digits ≤ 5 ⌝ }
     requires { ⌜ 16 ≤ first ⌝ }
     requires { ⌜ first ≤ 17 ⌝ }
@@ -109,6 +123,6 @@ pub(crate) fn read_by(
         return 6 * level::FAULT;
     }
     let bits = level::digit_bits(n, first, after);
-    let v = read_pairs((digits + 1) / 2, bits, start, 0, 0);
-    level::judged(largest, less_zeros(digits % 2, v))
+    let v = read_pairs(3, bits, start, 0, 0);
+    level::judged(largest, less_zeros(6 - digits, v))
 }

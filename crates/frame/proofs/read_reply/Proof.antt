@@ -3,11 +3,11 @@ use borrow.Author.Needs.{needs}
 use Rattle.frame.proofs.read_reply.Statement.{statement}
 use Rattle.frame.proofs.read_reply.Tie as tie
 
-read-with-requires : tie.Need-read-with-requires
-read-with-requires c κs = search needs
+read-requires : tie.Need-read-requires
+read-requires c κs = search needs
 
 returns : tie.Need-returns
-returns c = record { answers = c .read-with .ensures }
+returns c = record { answers = c .read .ensures }
 
 pub read-reply-spec : {M : Type 1} → statement M
-read-reply-spec = tie.close (tie.spec read-with-requires returns)
+read-reply-spec = tie.close (tie.spec read-requires returns)

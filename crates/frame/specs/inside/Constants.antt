@@ -49,12 +49,16 @@ readBy k n =
     (levelNumber (k .largest) (readRow (rowOf (k .charts) (k .digits)) (cutBy k n) (k .start) 0 0))
     (6 * 2 ^ 16)
 
--- The same by pairs.
+-- The same by three pairs, whatever the digits: as many digits 0000 stand before them as are missing to six.
 abbrev pub readPairsBy : Constants → ℕ → ℕ
 readPairsBy k n =
     pick (fillAt n (k .before) (k .after))
-    (levelNumber (k .largest) (uncounted (k .digits % 2) (readPairs ((k .digits + 1) / 2) (cutBy k n) (k .start) 0 0)))
+    (levelNumber (k .largest) (uncounted (6 - k .digits) (readPairs 3 (cutBy k n) (k .start) 0 0)))
     (6 * 2 ^ 16)
+
+-- The constants of the mode of a number, where pairs read it.
+abbrev pub pairedBy : ℕ → Constants
+pairedBy k = pick (eqb k 1) decimalFeet (pick (eqb k 2) metres20 metres30)
 
 -- The codes of a level's digits, written from the ones digit up.
 abbrev pub codesBy : Constants → ℕ → ℕ

@@ -14,7 +14,8 @@ use Rattle.frame.specs.Line.{line, bit}
 use Rattle.frame.specs.Faults.{firstOf}
 use Rattle.frame.specs.Reply.{modeIn, replyTests, heatIn, readingAt, refusedBy}
 use Rattle.frame.specs.Charts.{Chart, oneBit, twoBits, feetTens, decimal, inches, sixteenths, placeIn, sizeOf, isOdd, turned, codeOf}
-use Rattle.frame.specs.Temperature.{Heat, told, bad, isBad, temperatureOf}
+use Rattle.frame.specs.declared.Temperature.the-variants as temperature
+use Rattle.frame.specs.Temperature.{Heat, told, bad, signed, isBad, temperatureOf}
 use Rattle.frame.specs.Level.{Level, known, lost, Mode, modeOf, levelOf, fillClear, readRow}
 use Rattle.frame.specs.Pairs.{levelByPairs, secondLevel}
 
@@ -106,6 +107,12 @@ abbrev pub heatFor : Told → Heat
 heatFor (Is t) = told t
 heatFor Bad = bad
 
+-- A temperature in one number: degrees are their tenths, and 2 ^ 13 with a plus; above these stand the other answers.
+abbrev pub heatBy : ℕ → Heat
+heatBy h =
+    pick (ltb h 0x4000) (told (temperature.Degrees (signed (eqb (h / 0x2000) 1) (h % 0x2000))))
+    (pick (eqb h 0x4000) (told temperature.Above) (pick (eqb h 0x4001) (told temperature.Below) (pick (eqb h 0x4002) (told temperature.Absent) bad)))
+
 -- What is left to test of a reply of the right form and length, all but the first five tests: faults 3 to 9, and what it answers.
 unfoldable pub lineFault : ℕ → ℕ → ℕ → List ℕ → ℕ
 unfolding firstOf
@@ -125,3 +132,12 @@ unfoldable pub heatReply : ℕ → ℕ → ℕ → ℕ → Reply
 heatReply settings count n level =
     pick (isBad (heatIn settings count n)) (Refused 9)
     (Read (record { level = level; temperature = temperatureOf (heatIn settings count n); alarm1 = eqb (bit n 38) 1; alarm0 = eqb (bit n 39) 1 }))
+
+-- The answer by the number of a level.
+abbrev pub levelledReply : ℕ → ℕ → ℕ → ℕ → Reply
+levelledReply settings count n code = pick (ltb code (2 ^ 16)) (heatReply settings count n code) (levelReply code)
+
+-- The answer by what the tests before the level gave: a refusal by its number, or the line, which begins with a 1.
+abbrev pub testedReply : ℕ → ℕ → ℕ → Reply
+testedReply settings count r =
+    pick (ltb r (2 ^ 63)) (Refused r) (levelledReply settings count r (levelCode (modeIn settings) r))

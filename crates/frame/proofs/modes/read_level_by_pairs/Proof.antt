@@ -1,6 +1,11 @@
--- `frame::modes::read_level_by_pairs` meets its contract: each arm is its mode. Assumes nothing.
-use mathlib.Core.Path.{_∙_}
-use Rattle.frame.proofs.SecondReader.{second-0, second-1, second-2, second-else}
+-- `frame::modes::read_level_by_pairs` meets its contract: of the fractional mode the plain reader, of the others their constants. Assumes
+-- nothing.
+use mathlib.Core.Path.{_≡_, _∙_}
+use mathlib.Core.Bool.{false}
+use Prim.Native.Nat.{ℕ}
+use Rattle.frame.specs.inside.Packed.{secondCode}
+use Rattle.frame.specs.inside.Constants.{Constants, readPairsBy, pairedBy}
+use Rattle.frame.proofs.SecondReader.{allowed, second-0, second-else}
 use borrow.Author.Needs.{needs}
 use Rattle.frame.proofs.modes.read_level_by_pairs.Statement.{statement}
 use Rattle.frame.proofs.modes.read_level_by_pairs.Tie as tie
@@ -8,39 +13,60 @@ use Rattle.frame.proofs.modes.read_level_by_pairs.Tie as tie
 read-requires : tie.Need-read-requires
 read-requires c κs = search needs
 
-read-pairs-requires : tie.Need-read-pairs-requires
-read-pairs-requires c κs = search needs
-
-read-pairs-requires-2 : tie.Need-read-pairs-requires-2
-read-pairs-requires-2 c κs = search needs
-
-read-pairs-requires-3 : tie.Need-read-pairs-requires-3
-read-pairs-requires-3 c κs = search needs
-
 returns : tie.Need-returns
-returns c = let a = c .before .before .args in c .read .ensures ∙ second-0 (a .mode) (a .n) (c .before .match .keys1)
+returns c = let a = c .before .before .args in c .read .ensures ∙ second-0 (a .mode) (a .n) (c .before .if1 .taken)
+
+digits-of-requires : tie.Need-digits-of-requires
+digits-of-requires c κs = search needs
+
+first-of-requires : tie.Need-first-of-requires
+first-of-requires c κs = search needs
+
+fill-before-requires : tie.Need-fill-before-requires
+fill-before-requires c κs = search needs
+
+fill-after-requires : tie.Need-fill-after-requires
+fill-after-requires c κs = search needs
+
+largest-of-requires : tie.Need-largest-of-requires
+largest-of-requires c κs = search needs
+
+read-by-requires : tie.Need-read-by-requires
+read-by-requires c κs =
+    let after = c .before in
+    let before = after .before in
+    let first = before .before in
+    let digits = first .before in
+    rw (digits .digits-of .ensures, first .first-of .ensures, before .fill-before .ensures, after .fill-after .ensures) (allowed (digits .before .before .args .mode))
 
 returns-2 : tie.Need-returns-2
-returns-2 c = let a = c .before .before .args in c .read-pairs .ensures ∙ second-1 (a .mode) (a .n) (c .before .match .keys2)
-
-returns-3 : tie.Need-returns-3
-returns-3 c = let a = c .before .before .args in c .read-pairs2 .ensures ∙ second-2 (a .mode) (a .n) (c .before .match .keys3)
-
-returns-4 : tie.Need-returns-4
-returns-4 c =
-    let a = c .before .before .args in
-    let r = c .before .match .rest in
-    c .read-pairs3 .ensures ∙ second-else (a .mode) (a .n) (r .0 .0 .1) (r .0 .1) (r .1)
+returns-2 c =
+    let largest = c .before in
+    let after = largest .before in
+    let before = after .before in
+    let first = before .before in
+    let digits = first .before in
+    let a = digits .before .before .args in
+    let k = a .mode in
+    let d : digits .digits-of .result ≡ pairedBy k .digits = digits .digits-of .ensures in
+    let f : first .first-of .result ≡ pairedBy k .first = first .first-of .ensures in
+    let b : before .fill-before .result ≡ pairedBy k .before = before .fill-before .ensures in
+    let e : after .fill-after .result ≡ pairedBy k .after = after .fill-after .ensures in
+    let l : largest .largest-of .result ≡ pairedBy k .largest = largest .largest-of .ensures in
+    let step : readPairsBy (record { digits = digits .digits-of .result; first = first .first-of .result; before = before .fill-before .result; after = after .fill-after .result; largest = largest .largest-of .result; charts = 0; start = false }) (a .n) ≡ secondCode k (a .n) =
+    rw (d, f, b, e, l) (second-else k (a .n) (digits .before .if1 .left)) in
+    c .read-by .ensures ∙ step
 
 pub read-level-by-pairs-spec : {M : Type 1} → statement M
 read-level-by-pairs-spec =
     tie.close
     (tie.spec
     read-requires
-    read-pairs-requires
-    read-pairs-requires-2
-    read-pairs-requires-3
     returns
-    returns-2
-    returns-3
-    returns-4)
+    digits-of-requires
+    first-of-requires
+    fill-before-requires
+    fill-after-requires
+    largest-of-requires
+    read-by-requires
+    returns-2)

@@ -2,7 +2,7 @@
 -- 2 ^ 32. Assumes nothing.
 use mathlib.Core.Path.{_≡_, sym, ap, _∙_}
 use mathlib.Core.Bool.{true, false}
-use Prim.Native.Nat.{ℕ, _+_, _*_, _/_, _%_, _^_, _≤_}
+use Prim.Native.Nat.{ℕ, _+_, _-_, _*_, _/_, _%_, _^_, _≤_}
 use native.Mathlib.Omega.{arith}
 use borrow.Author.Tests.{not-true, not-false}
 use Rattle.frame.specs.Level.{Level}
@@ -19,9 +19,6 @@ use Rattle.frame.proofs.pairs.read_by.Tie as tie
 under : (k : ℕ) (l : Level) → k ≤ 4 → Below ((0 + 1) * 100 ^ k) l → Below (2 ^ 32) l
 under k l h = below-more ((0 + 1) * 100 ^ k) (2 ^ 32) (omega (arith, hundred-le k h)) l
 
-three-pairs : (digits : ℕ) → digits ≤ 5 → (digits + 1) / 2 ≤ 3
-three-pairs digits h = omega arith
-
 fill-clear-requires : tie.Need-fill-clear-requires
 fill-clear-requires c κs = search needs
 
@@ -37,14 +34,11 @@ returns c =
 digit-bits-requires : tie.Need-digit-bits-requires
 digit-bits-requires c κs = search needs
 
-add-read-pairs : tie.Need-add-read-pairs
-add-read-pairs c = search needs
-
 read-pairs-requires : tie.Need-read-pairs-requires
-read-pairs-requires c κs =
-    let b = c .before .before .before in
-    let k = three-pairs (b .args .digits) (b .pre .0) in
-    (omega (arith, hundred-le ((b .args .digits + 1) / 2) (omega arith)), omega arith)
+read-pairs-requires c κs = (omega (arith, hundred-le 3 (omega arith)), omega arith)
+
+sub-less-zeros : tie.Need-sub-less-zeros
+sub-less-zeros c = search needs
 
 less-zeros-requires : tie.Need-less-zeros-requires
 less-zeros-requires c κs = search needs
@@ -59,13 +53,11 @@ returns-2 c =
     let clear : fillAt (a .n) (a .before) (a .after) ≡ true
     = sym (c .before .before .before .before .before .fill-clear .ensures) ∙ not-false _ (c .before .before .before .before .if1 .left) in
     let bits = a .n / 2 ^ (27 + a .after) % 2 ^ digitBits (a .first) (a .after) in
-    let pairs = (a .digits + 1) / 2 in
-    let zeros = a .digits % 2 in
-    let l = readPairs pairs bits (a .start) 0 0 in
+    let zeros = 6 - a .digits in
+    let l = readPairs 3 bits (a .start) 0 0 in
     let read : c .before .before .read-pairs .result ≡ readCode l =
-    c .before .before .read-pairs .ensures ∙ ap (λ (n : ℕ). readCode (readPairs pairs n (a .start) 0 0)) (c .before .before .before .digit-bits .ensures) in
-    let k = three-pairs (a .digits) (b .pre .0) in
-    let small : Below (2 ^ 32) l = under pairs l (omega arith) (pairs-below pairs bits (a .start) 0 0) in
+    c .before .before .read-pairs .ensures ∙ ap (λ (n : ℕ). readCode (readPairs 3 n (a .start) 0 0)) (c .before .before .before .digit-bits .ensures) in
+    let small : Below (2 ^ 32) l = under 3 l (omega arith) (pairs-below 3 bits (a .start) 0 0) in
     rw clear (c .judged .ensures (uncounted zeros l) (uncounted-below (2 ^ 32) zeros l small) (c .before .less-zeros .ensures l small read))
 
 pub read-by-spec : {M : Type 1} → statement M
@@ -76,8 +68,8 @@ read-by-spec =
     mul-result
     returns
     digit-bits-requires
-    add-read-pairs
     read-pairs-requires
+    sub-less-zeros
     less-zeros-requires
     judged-requires
     returns-2)

@@ -7,18 +7,11 @@ use Rattle.frame.proofs.replies.read_heat.Tie as tie
 returns : tie.Need-returns
 returns c = simp (eq-eqb _ _ (c .if1 .taken))
 
-read-1800-requires : tie.Need-read-1800-requires
-read-1800-requires c κs = search needs
+read-requires : tie.Need-read-requires
+read-requires c κs = search needs
 
 returns-2 : tie.Need-returns-2
-returns-2 c = simp (ne-eqb _ _ (c .before .before .if1 .left), eq-eqb _ _ (c .before .if2 .taken)) (c .read-1800 .ensures)
-
-read-1900-requires : tie.Need-read-1900-requires
-read-1900-requires c κs = search needs
-
-returns-3 : tie.Need-returns-3
-returns-3 c = simp (ne-eqb _ _ (c .before .before .if1 .left), ne-eqb _ _ (c .before .if2 .left)) (c .read-1900 .ensures)
+returns-2 c = simp (ne-eqb _ _ (c .before .if1 .left)) (c .read .ensures)
 
 pub read-heat-spec : {M : Type 1} → statement M
-read-heat-spec =
-    tie.close (tie.spec returns read-1800-requires returns-2 read-1900-requires returns-3)
+read-heat-spec = tie.close (tie.spec returns read-requires returns-2)

@@ -1,0 +1,16 @@
+-- `frame::modes::fill_after` meets its contract: each arm is its mode's constant. Assumes nothing.
+use borrow.Author.Tests.{ne-eqb}
+use Rattle.frame.proofs.modes.fill_after.Statement.{statement}
+use Rattle.frame.proofs.modes.fill_after.Tie as tie
+
+returns : tie.Need-returns
+returns c = rw (c .match .keys1)
+
+returns-2 : tie.Need-returns-2
+returns-2 c = rw (c .match .keys2)
+
+returns-3 : tie.Need-returns-3
+returns-3 c = let r = c .match .rest in simp (ne-eqb _ _ (r .0 .1), ne-eqb _ _ (r .1))
+
+pub fill-after-spec : {M : Type 1} → statement M
+fill-after-spec = tie.close (tie.spec returns returns-2 returns-3)
