@@ -6,7 +6,7 @@ ghost use lib.Dec.{eqb};
 ghost use Rattle.frame.specs.Pick.{pick};
 ghost use Rattle.frame.specs.Level.{Level};
 ghost use Rattle.frame.specs.Pairs.{noPair, entryOf, indexOf, readPairs, uncounted};
-ghost use Rattle.frame.specs.inside.Packed.{readCode, Below};
+ghost use Rattle.frame.specs.inside.Packed.{readCode, Below, levelNumber};
 ghost use Rattle.frame.specs.inside.Constants.{Constants, readPairsBy};
 use crate::charts;
 use crate::level;
@@ -86,18 +86,24 @@ fn read_pairs(left: u64, bits: u64, odd: bool, sofar: u64, place: u64) -> u64
     read_pairs(left - 1, bits, pair % 2 == 1, next, place + 2)
 }
 
-// What was read, where digits 0000 that stand before the others are not counted in the place of a digit in no chart.
-fn less_zeros(zeros: u64, v: u64) -> u64
-    requires { ⌜ zeros ≤ 2 ⌝ }
-    ensures { λ r. ⌜ ((l : Level) → Below (2 ^ 32) l → v ≡ readCode l → r ≡ readCode (uncounted zeros l)) ⌝ }
+// A place counted from the first digit of the mode: digits 0000 that stand before it are not counted.
+fn less_zeros(zeros: u64, place: u64) -> u64
+    ensures { λ r. ⌜ r ≡ place - zeros ⌝ }
 {
-    if v < level::LOST {
-        return v;
+    if place < zeros {
+        return 0;
     }
-    if v < level::LOST + zeros {
-        return level::LOST;
+    place - zeros
+}
+
+// What was read, as `level::judged` has it, with the place so counted.
+fn judged(largest: u64, zeros: u64, v: u64) -> u64
+    ensures { λ r. ⌜ ((l : Level) → Below (2 ^ 32) l → v ≡ readCode l → r ≡ levelNumber largest (uncounted zeros l)) ⌝ }
+{
+    if level::LOST <= v {
+        return 7 * level::FAULT + less_zeros(zeros, v - level::LOST);
     }
-    v - zeros
+    level::judged(largest, v)
 }
 
 // A level by its mode's constants, as `level::read_by` has them, two digits at a time: digits 0000 stand before them, so
@@ -124,5 +130,5 @@ pub(crate) fn read_by(
     }
     let bits = level::digit_bits(n, first, after);
     let v = read_pairs(3, bits, start, 0, 0);
-    level::judged(largest, less_zeros(6 - digits, v))
+    judged(largest, 6 - digits, v)
 }

@@ -2,15 +2,15 @@
 -- 2 ^ 32. Assumes nothing.
 use mathlib.Core.Path.{_≡_, sym, ap, _∙_}
 use mathlib.Core.Bool.{true, false}
-use Prim.Native.Nat.{ℕ, _+_, _-_, _*_, _/_, _%_, _^_, _≤_}
+use Prim.Native.Nat.{ℕ, _+_, _*_, _/_, _%_, _^_, _≤_}
 use native.Mathlib.Omega.{arith}
 use borrow.Author.Tests.{not-true, not-false}
 use Rattle.frame.specs.Level.{Level}
-use Rattle.frame.specs.Pairs.{readPairs, uncounted}
+use Rattle.frame.specs.Pairs.{readPairs}
 use Rattle.frame.specs.inside.Packed.{readCode, Below}
 use Rattle.frame.specs.inside.Constants.{fillAt, digitBits}
 use Rattle.frame.proofs.Digits.{below-more}
-use Rattle.frame.proofs.PairSteps.{hundred-le, pairs-below, uncounted-below}
+use Rattle.frame.proofs.PairSteps.{hundred-le, pairs-below}
 use borrow.Author.Needs.{needs}
 use Rattle.frame.proofs.pairs.read_by.Statement.{statement}
 use Rattle.frame.proofs.pairs.read_by.Tie as tie
@@ -37,28 +37,24 @@ digit-bits-requires c κs = search needs
 read-pairs-requires : tie.Need-read-pairs-requires
 read-pairs-requires c κs = (omega (arith, hundred-le 3 (omega arith)), omega arith)
 
-sub-less-zeros : tie.Need-sub-less-zeros
-sub-less-zeros c = search needs
-
-less-zeros-requires : tie.Need-less-zeros-requires
-less-zeros-requires c κs = search needs
+sub-judged : tie.Need-sub-judged
+sub-judged c = search needs
 
 judged-requires : tie.Need-judged-requires
 judged-requires c κs = search needs
 
 returns-2 : tie.Need-returns-2
 returns-2 c =
-    let b = c .before .before .before .before .before .before in
+    let b = c .before .before .before .before .before in
     let a = b .args in
     let clear : fillAt (a .n) (a .before) (a .after) ≡ true
-    = sym (c .before .before .before .before .before .fill-clear .ensures) ∙ not-false _ (c .before .before .before .before .if1 .left) in
+    = sym (c .before .before .before .before .fill-clear .ensures) ∙ not-false _ (c .before .before .before .if1 .left) in
     let bits = a .n / 2 ^ (27 + a .after) % 2 ^ digitBits (a .first) (a .after) in
-    let zeros = 6 - a .digits in
     let l = readPairs 3 bits (a .start) 0 0 in
-    let read : c .before .before .read-pairs .result ≡ readCode l =
-    c .before .before .read-pairs .ensures ∙ ap (λ (n : ℕ). readCode (readPairs 3 n (a .start) 0 0)) (c .before .before .before .digit-bits .ensures) in
+    let read : c .before .read-pairs .result ≡ readCode l =
+    c .before .read-pairs .ensures ∙ ap (λ (n : ℕ). readCode (readPairs 3 n (a .start) 0 0)) (c .before .before .digit-bits .ensures) in
     let small : Below (2 ^ 32) l = under 3 l (omega arith) (pairs-below 3 bits (a .start) 0 0) in
-    rw clear (c .judged .ensures (uncounted zeros l) (uncounted-below (2 ^ 32) zeros l small) (c .before .less-zeros .ensures l small read))
+    rw clear (c .judged .ensures l small read)
 
 pub read-by-spec : {M : Type 1} → statement M
 read-by-spec =
@@ -69,7 +65,6 @@ read-by-spec =
     returns
     digit-bits-requires
     read-pairs-requires
-    sub-less-zeros
-    less-zeros-requires
+    sub-judged
     judged-requires
     returns-2)
