@@ -1,6 +1,6 @@
 /*
  * A day at the desk: a board of three rows over libsisalcove.a. It enrols transmitters, hears good and damaged replies, removes and looks
- * up, tries a sensor profile and a 6500's poll, and says after each call what was answered; at the end it says what stands in the rows.
+ * up, tries a sensor profile, a 6500's poll and rows out of order, and says after each call what was answered; at the end it says what stands in the rows.
  *
  * ./build-library && examples/run
  */
@@ -29,6 +29,7 @@ static const char *name_of(uint8_t number)
     case SISAL_FAULT_PROFILE: return "temperature outside its profile";
     case SISAL_FAULT_PROFILE_TYPE: return "profile on an 1800";
     case SISAL_FAULT_RAISE_RESET: return "raise or reset";
+    case SISAL_FAULT_ORDER: return "order";
     default: return "of no name";
     }
 }
@@ -196,6 +197,19 @@ static void night(void)
     take_off(20);
 }
 
+/* The host exchanges two rows, and every call refuses them; exchanged back, all is as it was. */
+static void dawn(void)
+{
+    struct sisal_row first = rows[0];
+    rows[0] = rows[1];
+    rows[1] = first;
+    look(7);
+    enrol(SISAL_MODE_DECIMAL, 9);
+    rows[1] = rows[0];
+    rows[0] = first;
+    look(8);
+}
+
 int main(void)
 {
     memset(rows, 0, sizeof rows);
@@ -203,6 +217,7 @@ int main(void)
     noon();
     evening();
     night();
+    dawn();
     for (int i = 0; i < ROWS; i++)
         say_row(&rows[i]);
     return 0;

@@ -54,7 +54,7 @@ extern "C" {
 /* ---- the version ----------------------------------------------------------------------------------------------------------------- */
 
 /* It goes up with every change of a struct, of a call's arguments or of a number's meaning. */
-#define SISAL_VERSION 3u
+#define SISAL_VERSION 4u
 
 /* The version of the archive. Refuses nothing. */
 SISAL_ANSWER uint32_t sisal_version(void);
@@ -99,7 +99,8 @@ enum sisal_number {
     SISAL_FAULT_SITE = 34,          /* a site has more than 120 transmitters */
     SISAL_FAULT_NO_PLAN = 35,       /* no plan of areas exists for it */
     SISAL_FAULT_PLAN = 36,          /* a plan of areas is not accepted */
-    SISAL_FAULT_SUMMARY = 37        /* a summary with over 30 lines, an unused line not blank, lines not rising, or levels that do not fit */
+    SISAL_FAULT_SUMMARY = 37,       /* a summary with over 30 lines, an unused line not blank, lines not rising, or levels that do not fit */
+    SISAL_FAULT_ORDER = 38          /* a board whose rows in use are not first, in strictly rising address order */
 };
 
 /* ---- settings: one mode, with the two bits added where they apply ---------------------------------------------------------------- */
@@ -387,13 +388,20 @@ SISAL_ANSWER struct sisal_lines_told sisal_hear_lines(struct sisal_lines_so_far 
 /* ---- the board: the first 30 of the rows lent count ------------------------------------------------------------------------------ */
 
 /*
- * Enrols a transmitter in the first free row, with its sensor profile and mark in `gauge`, 0 for neither, no reading and fault 0: 0; or 10,
- * 11, 27, 18, 19, and no row is changed.
+ * The rows in use stand first, in strictly rising address order, and the free ones behind them; rows that are all free are so kept,
+ * whatever stands in them. Every call asks first that the rows that count are so kept, and refuses others by 38, with all else 0 and
+ * nothing changed. The calls below keep them so: enrolling and removing move rows, hearing changes one row, looking and polling none.
+ */
+
+/*
+ * Enrols a transmitter, with its sensor profile and mark in `gauge`, 0 for neither, no reading and fault 0: 0, and its row stands before the
+ * first with a greater address; the rows in use from there on have moved on by one, and the first free row is used up. Or 38, 10, 11, 27,
+ * 18, 19, and no row is changed.
  */
 SISAL_ANSWER uint8_t sisal_board_enrol(struct sisal_row *rows, size_t row_count, uint8_t settings, uint16_t address, uint8_t gauge);
 
 /*
- * Hears a reply to a poll of `address`: 0, and the row's reading, minute and fault 0 are set. Or 11, 14, 17, 10 (the row's own settings),
+ * Hears a reply to a poll of `address`: 0, and the row's reading, minute and fault 0 are set. Or 38, 11, 14, 17, 10 (the row's own settings),
  * and no row is changed; or, asked last, 1 to 9, and then 26 where the reply's temperature is outside the row's profile, and only the row's
  * fault is set, 7 with its place, which is answered too. Beside every other number `place` is 0. A hearing that answers 0 to 9 or 26 sets
  * the minute of the latest hearing; 0 sets the count of faulty replies to 0, and the others add one to it. An 1800 row and a reply with no
@@ -402,15 +410,18 @@ SISAL_ANSWER uint8_t sisal_board_enrol(struct sisal_row *rows, size_t row_count,
 SISAL_ANSWER struct sisal_heard sisal_board_hear(struct sisal_row *rows, size_t row_count, uint32_t minute, uint16_t address,
                                                  size_t count, const uint8_t *reply, size_t reply_bytes);
 
-/* Removes a transmitter and leaves its row free, all zeros: 0; or 11, 17, and no row is changed. */
+/*
+ * Removes a transmitter: 0, and the rows in use behind its row have moved up by one; the last of their places is left free, all zeros. Or
+ * 38, 11, 17, and no row is changed.
+ */
 SISAL_ANSWER uint8_t sisal_board_remove(struct sisal_row *rows, size_t row_count, uint16_t address);
 
-/* Looks a transmitter up. Refuses 11, 17, with all else 0. */
+/* Looks a transmitter up. Refuses 38, 11, 17, with all else 0. */
 SISAL_ANSWER struct sisal_standing sisal_board_look_up(const struct sisal_row *rows, size_t row_count, uint16_t address);
 
 /*
  * Writes the poll of a transmitter's row into the first 2 bytes, with raise or with reset where they are not 0: 0, and no other byte is
- * changed; or 11, 17, 28 (raise or reset to a row that is not marked as a 6500, or both at once), 15, and no byte is changed.
+ * changed; or 38, 11, 17, 28 (raise or reset to a row that is not marked as a 6500, or both at once), 15, and no byte is changed.
  * sisal_write_poll asks no row.
  */
 SISAL_ANSWER uint8_t sisal_board_poll(const struct sisal_row *rows, size_t row_count, uint16_t address, uint8_t raise, uint8_t reset,

@@ -191,6 +191,15 @@ fn night<C: Core>(desk: &mut Desk<C>) {
     desk.remove(20, Ok(()));
 }
 
+/// The host exchanges two rows, and every call refuses them; exchanged back, all is as it was.
+fn dawn<C: Core>(desk: &mut Desk<C>) {
+    desk.rows.swap(0, 1);
+    desk.look(7, Err(Fault::Order));
+    desk.enrol(1, 9, Err(Fault::Order));
+    desk.rows.swap(0, 1);
+    desk.look(8, Ok(standing(0, None, 0)));
+}
+
 /// The whole day, on any core.
 pub fn day(core: &impl Core) {
     let rows = vec![core.row(&Row::default()); 3];
@@ -199,6 +208,7 @@ pub fn day(core: &impl Core) {
     noon(&mut desk);
     evening(&mut desk);
     night(&mut desk);
+    dawn(&mut desk);
     let rows: Vec<Row> = desk.rows.iter().map(|row| core.says(row)).collect();
     let first = Row {
         in_use: true,

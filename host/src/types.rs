@@ -84,6 +84,7 @@ pub enum Fault {
     NoPlan = 35,
     PlanRefused = 36,
     Summary = 37,
+    Order = 38,
 }
 
 impl Fault {
@@ -129,6 +130,7 @@ impl Fault {
         Fault::NoPlan,
         Fault::PlanRefused,
         Fault::Summary,
+        Fault::Order,
     ];
 
     /// The number the paper gives it.

@@ -7,6 +7,7 @@ pub mod digits;
 pub mod items;
 pub mod joins;
 pub mod lines;
+pub mod order;
 pub mod profiles;
 pub mod rounds;
 pub mod since;
@@ -171,6 +172,26 @@ macro_rules! tests_on {
         #[test]
         fn a_summary_of_no_slots_and_of_a_bad_size() {
             $crate::vectors::summaries::sizes(&$core);
+        }
+
+        #[test]
+        fn a_board_in_address_order() {
+            $crate::vectors::order::in_order(&$core);
+        }
+
+        #[test]
+        fn boards_lent_in_order_or_not() {
+            $crate::vectors::order::lent(&$core);
+        }
+
+        #[test]
+        fn a_board_out_of_order() {
+            $crate::vectors::order::out_of_order(&$core);
+        }
+
+        #[test]
+        fn what_is_left_in_free_rows() {
+            $crate::vectors::order::left_over(&$core);
         }
 
         #[test]

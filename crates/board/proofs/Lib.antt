@@ -1,5 +1,8 @@
 -- The laws that the proofs of the functions cite.
 pub mod Places
+pub mod Order
+pub mod Carried
+pub mod Searched
 pub mod Faults
 pub mod Gauges
 pub mod Told

@@ -1,5 +1,5 @@
 -- Document 01, "Fault numbers" and "The board": what each call answers, and what it leaves of the rows. One record for each call
--- fixes both, for all rows of whatever bytes and number.
+-- fixes both, for all rows of whatever bytes and number. Every call asks 38 first (`Order.antt`); what it then asks stands here.
 use mathlib.Core.Path.{_≡_}
 use mathlib.Core.Bool.{Bool, not}
 use mathlib.Core.List.{List, [], _∷_, _++_}
@@ -18,9 +18,10 @@ use Rattle.board.specs.declared.Looked.{Looked}
 use Rattle.board.specs.declared.Row.{Row}
 use Rattle.board.specs.Gauge.{outsideBy, profileMisplaced, gaugeTold, unmarked, atOnce}
 use Rattle.board.specs.Row.{Last, lastBy, lastOf, rowBy, keptAs, placeTold, heardAt, heardTold, Minute, minuteBy, freeRow, newRow, withReading, withFault, setsFault}
-use Rattle.board.specs.Rows.{boardOf, beyond, placeOf, onBoard, rowOf, placeFree, hasFree}
+use Rattle.board.specs.Rows.{boardOf, beyond, placeOf, onBoard, rowOf, hasFree}
+use Rattle.board.specs.Order.{inOrder, insertRow, withoutRow}
 
--- Enrolling: 10, 11, 27, 18, 19. It takes the first free row; a refused enrolment changes no row.
+-- Enrolling: 10, 11, 27, 18, 19. The new row is put among the others by its address; a refused enrolment changes no row.
 unfoldable pub enrolNumber : List Row → (settings address gauge : ℕ) → ℕ
 unfolding firstOf
 enrolNumber board settings address gauge =
@@ -34,11 +35,11 @@ enrolNumber board settings address gauge =
 
 unfoldable pub enrolRows : List Row → (settings address gauge : ℕ) → List Row
 enrolRows board settings address gauge =
-    pick (eqb (enrolNumber board settings address gauge) 0) (set board (placeFree board) (newRow settings address gauge)) board
+    pick (eqb (enrolNumber board settings address gauge) 0) (insertRow (newRow settings address gauge) board) board
 
 pub record Enrols (rows : List Row) (settings address gauge : ℕ) (answer : ℕ) (after : List Row) : Type 0 where
-  pub answers : answer ≡ enrolNumber (boardOf rows) settings address gauge
-  pub leaves : after ≡ enrolRows (boardOf rows) settings address gauge ++ beyond rows
+  pub answers : answer ≡ inOrder (boardOf rows) (enrolNumber (boardOf rows) settings address gauge) 38
+  pub leaves : after ≡ inOrder (boardOf rows) (enrolRows (boardOf rows) settings address gauge) (boardOf rows) ++ beyond rows
 
 -- What reading a reply by a row's own settings byte gives: 10 or 1 to 9, 0 where it is accepted.
 abbrev pub faultBy : Row → ℕ → ℕ → List ℕ → ℕ
@@ -79,21 +80,21 @@ abbrev pub heardAs : (number place : ℕ) → Heard
 heardAs number place = record { number = number; place = place }
 
 pub record Hears (rows : List Row) (minute address count : ℕ) (reply : List ℕ) (answer : Heard) (after : List Row) : Type 0 where
-  pub answers : answer ≡ heardAs (hearNumber (boardOf rows) address count reply) (hearPlace (boardOf rows) address count reply)
-  pub leaves : after ≡ hearRows (boardOf rows) minute address count reply ++ beyond rows
+  pub answers : answer ≡ inOrder (boardOf rows) (heardAs (hearNumber (boardOf rows) address count reply) (hearPlace (boardOf rows) address count reply)) (heardAs 38 0)
+  pub leaves : after ≡ inOrder (boardOf rows) (hearRows (boardOf rows) minute address count reply) (boardOf rows) ++ beyond rows
 
 -- Removing, or looking at a row: 11, 17.
 unfoldable pub findNumber : List Row → ℕ → ℕ
 unfolding firstOf
 findNumber board address = firstOf (ltb 999 address gives 11 ∷ not (onBoard address board) gives 17 ∷ [])
 
--- Removing leaves the row free. A refused removal changes no row.
+-- Removing takes the row out, and those behind it move up. A refused removal changes no row.
 unfoldable pub removeRows : List Row → ℕ → List Row
-removeRows board address = pick (eqb (findNumber board address) 0) (set board (placeOf address board) freeRow) board
+removeRows board address = pick (eqb (findNumber board address) 0) (withoutRow address board) board
 
 pub record Removes (rows : List Row) (address : ℕ) (answer : ℕ) (after : List Row) : Type 0 where
-  pub answers : answer ≡ findNumber (boardOf rows) address
-  pub leaves : after ≡ removeRows (boardOf rows) address ++ beyond rows
+  pub answers : answer ≡ inOrder (boardOf rows) (findNumber (boardOf rows) address) 38
+  pub leaves : after ≡ inOrder (boardOf rows) (removeRows (boardOf rows) address) (boardOf rows) ++ beyond rows
 
 -- What looking answers is laid out as a row is, with the refusal's number, 0 for none, where a row says whether it is in use.
 abbrev pub answerBy : ℕ → Row → Looked
@@ -132,7 +133,7 @@ lookedAt board address =
     pick (eqb (findNumber board address) 0) (told (rowOf address board)) (refusedLook (findNumber board address))
 
 pub record LooksUp (rows : List Row) (address : ℕ) (answer : Looked) : Type 0 where
-  pub answers : answer ≡ lookedAt (boardOf rows) address
+  pub answers : answer ≡ inOrder (boardOf rows) (lookedAt (boardOf rows) address) (refusedLook 38)
 
 -- The last good reading that an answer tells of.
 abbrev pub lastTold : Looked → Last
@@ -162,5 +163,5 @@ rowPollBytes board address raise reset out =
     (firstBytes 2 (pollLine address (isSet raise) (isSet reset)) ++ drop 2 out) out
 
 pub record PollsRow (rows : List Row) (address raise reset : ℕ) (out : List ℕ) (answer : ℕ) (after : List ℕ) : Type 0 where
-  pub answers : answer ≡ rowPollNumber (boardOf rows) address raise reset out
-  pub leaves : after ≡ rowPollBytes (boardOf rows) address raise reset out
+  pub answers : answer ≡ inOrder (boardOf rows) (rowPollNumber (boardOf rows) address raise reset out) 38
+  pub leaves : after ≡ inOrder (boardOf rows) (rowPollBytes (boardOf rows) address raise reset out) out

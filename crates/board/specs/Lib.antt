@@ -2,5 +2,6 @@
 pub mod Gauge
 pub mod Row
 pub mod Rows
+pub mod Order
 pub mod Calls
 pub mod inside

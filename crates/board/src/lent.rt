@@ -1,9 +1,8 @@
-// The rows that the host lends: the board is copied out of them, and one row is stored back.
+// The rows that the host lends: the board is copied out of them, and a run of rows is stored back.
 ghost use mathlib.Core.Path.{_≡_};
-ghost use Prim.Native.Nat.{_≤_};
 ghost use lib.ListN.{length};
 ghost use Rattle.board.specs.Rows.{boardOf};
-ghost use Rattle.board.specs.inside.ByValue.{Loaded, Finds, counted, putIn};
+ghost use Rattle.board.specs.inside.ByValue.{Loaded, Finds, counted, FitsIn, moved};
 use crate::Row;
 use crate::rows;
 use crate::value;
@@ -41,14 +40,21 @@ pub(crate) fn find(rows: &[Row], address: u16) -> Found
     value::find(b, address)
 }
 
-// Makes the change where its place is below n, the number of rows that count, so never past the thirtieth; and answers its number.
-pub(crate) fn put(rows: &mut [Row], n: usize, c: Change) -> u8
-    requires { ⌜ n ≤ length (now rows) ⌝ }
-    ensures { λ r. ⌜ (r ≡ c .number) × (now (rows .exit) ≡ putIn n (c .at) (c .row) (now (rows .entry))) ⌝ }
+// Makes the change: over its run of places each takes the row that comes, and hands on the one that stood in it. Answers its number.
+pub(crate) fn put(rows: &mut [Row], c: Change) -> u8
+    requires { ⌜ FitsIn (length (now rows)) c ⌝ }
+    ensures { λ r. ⌜ (r ≡ c .number) × (now (rows .exit) ≡ moved c (now (rows .entry))) ⌝ }
 {
-    let at = c.at;
-    if at < n {
-        rows[at] = c.row;
+    let mut at = c.at;
+    let mut held = c.row;
+    let mut left = c.count;
+    while 0 < left {
+        at = at - c.down;
+        let old = rows[at];
+        rows[at] = held;
+        held = old;
+        at = at + c.up;
+        left = left - 1;
     }
     c.number
 }

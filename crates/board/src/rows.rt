@@ -2,7 +2,6 @@
 ghost use mathlib.Core.Path.{_≡_};
 ghost use lib.ListN.{replicate};
 ghost use Rattle.board.specs.Row.{freeRow, newRow, isFree, withReading, withFault, placeTold, heardAt, heardTold, more, setsFault};
-ghost use Rattle.board.specs.Rows.{holds};
 ghost use Rattle.board.specs.Calls.{told, refusedLook};
 use crate::Looked;
 use crate::Row;
@@ -53,15 +52,6 @@ pub(crate) fn is_free(row: Row) -> bool
     ensures { λ r. ⌜ r ≡ isFree row ⌝ }
 {
     row.used == 0
-}
-
-pub(crate) fn has_address(row: Row, address: u16) -> bool
-    ensures { λ r. ⌜ r ≡ holds address row ⌝ }
-{
-    if is_free(row) {
-        return false;
-    }
-    row.address == address
 }
 
 pub(crate) fn with_reading(row: Row, reading: Reading, minute: u32) -> Row

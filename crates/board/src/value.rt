@@ -1,8 +1,11 @@
-// The board by value: an array of 30 rows, of which the first n count. One search finds all that a call asks of it; each call then decides,
-// in the order of document 01, which one row changes, or that none does.
+// The board by value: an array of 30 rows, of which the first n count. One pass finds all that a call asks of it; each call then decides,
+// in the order of the documents, over which places a row is carried, or that none changes.
 ghost use mathlib.Core.Path.{_≡_};
-ghost use Prim.Native.Nat.{_≤_};
-ghost use Rattle.board.specs.inside.ByValue.{rowsOf, Finds, freeAfter, changeOf, refusal, heardChange, saidOf, EnrolsOn, HearsOn, RemovesOn, LooksOn, readChange, MayPollOn, WritesOr};
+ghost use mathlib.Core.Bool.{_&&_};
+ghost use Prim.Native.Nat.{_+_, _<_, _≤_};
+ghost use lib.Dec.{eqb, leb, ltb};
+ghost use Rattle.frame.specs.Pick.{pick};
+ghost use Rattle.board.specs.inside.ByValue.{rowsOf, Finds, Bounded, passed, foundBy, changeOf, refusal, heardChange, saidOf, EnrolsOn, HearsOn, RemovesOn, LooksOn, readChange, MayPollOn, WritesOr};
 use crate::Heard;
 use crate::Looked;
 use crate::Row;
@@ -17,22 +20,39 @@ pub(crate) struct Board {
     pub n: usize,
 }
 
-// Row `at` becomes `row`, or no row changes where `at` is not on the board; and the number that the call answers, with the place of the
-// unreadable digit beside 7.
+// A row is carried over a run of `count` places: each takes the row that comes, the first `row`, and hands on the one that stood in it. The
+// places go on from `at`, where `up` is 1 and `down` 0, or back from the one before it, where `up` is 0 and `down` 1. And the number that the
+// call answers, with the place of the unreadable digit beside 7.
 pub(crate) struct Change {
     pub at: usize,
+    pub count: usize,
+    pub up: usize,
+    pub down: usize,
     pub row: Row,
     pub number: u8,
     pub place: u8,
 }
 
-// What a search for an address finds: the number n of rows that count, the place of the address's row, or n where it has none, the
-// row there, which means nothing where the place is n, and the place of the first free row, or n, where the address has no row.
+// What a pass over the rows has seen so far: how many are in use, and how many of these have a smaller address than the one asked for; the
+// least address that may follow; whether no free row was passed; and whether the rows are so kept.
+pub(crate) struct Search {
+    pub used: usize,
+    pub below: usize,
+    pub least: u32,
+    pub dense: bool,
+    pub kept: bool,
+}
+
+// What a search for an address finds: the number n of rows that count, and whether they are kept in order. Where they are: the place of
+// the address's row, or n where it has none, the row there, which means nothing where the place is n, the place of the first free row, and
+// the place where the address stands or is to stand.
 pub(crate) struct Found {
     pub at: usize,
     pub n: usize,
     pub row: Row,
     pub free: usize,
+    pub spot: usize,
+    pub kept: bool,
 }
 
 pub(crate) fn of_rows(rows: [Row; 30], n: usize) -> Board
@@ -41,51 +61,112 @@ pub(crate) fn of_rows(rows: [Row; 30], n: usize) -> Board
     Board { rows: rows, n: n }
 }
 
-// The first free place so far, once row i has been passed too.
-fn free_after(free: usize, n: usize, i: usize, row: Row) -> usize
-    ensures { λ r. ⌜ r ≡ freeAfter free n i row ⌝ }
+// How many rows in use have a smaller address, once one more has been passed.
+fn below_after(below: usize, passed: u16, address: u16) -> usize
+    requires { ⌜ below < 30 ⌝ }
+    ensures { λ r. ⌜ r ≡ pick (ltb passed address) (below + 1) below ⌝ }
 {
-    if free < n {
-        return free;
+    if passed < address {
+        return below + 1;
     }
+    below
+}
+
+// Whether a row in use may stand where it stands.
+fn rises(s: Search, address: u16) -> bool
+    ensures { λ r. ⌜ r ≡ s .kept && (s .dense && leb (s .least) address) ⌝ }
+{
+    if !s.kept {
+        return false;
+    }
+    if !s.dense {
+        return false;
+    }
+    s.least <= address as u32
+}
+
+// One row more has been passed.
+fn pass(s: Search, row: Row, address: u16) -> Search
+    requires { ⌜ (s .used < 30) × (s .below ≤ s .used) ⌝ }
+    ensures { λ r. ⌜ r ≡ passed address s row ⌝ }
+{
     if rows::is_free(row) {
-        return i;
+        let mut next = s;
+        next.dense = false;
+        return next;
+    }
+    let below = below_after(s.below, row.address, address);
+    let kept = rises(s, row.address);
+    Search {
+        used: s.used + 1,
+        below: below,
+        least: row.address as u32 + 1,
+        dense: s.dense,
+        kept: kept,
+    }
+}
+
+// The place of the address's row, or n where it has none.
+fn place_in(s: Search, n: usize, stands: u16, address: u16) -> usize
+    ensures { λ r. ⌜ r ≡ pick (ltb (s .below) (s .used) && eqb stands address) (s .below) n ⌝ }
+{
+    if s.used <= s.below {
+        return n;
+    }
+    if stands == address {
+        return s.below;
     }
     n
 }
 
-// Finds the first row in use that holds the address, and else the first free one. The array is indexed and not the board, and a row is
-// read before n is compared: so the compiler searches the array where `load` filled it, and makes no copy. Where no row counts, row 0 of
-// the array is read, and its place is not below n.
+// A place, or the first where it is not on the board.
+fn on_board(place: usize, n: usize) -> usize
+    ensures { λ r. ⌜ r ≡ pick (ltb place n) place 0 ⌝ }
+{
+    if place < n {
+        return place;
+    }
+    0
+}
+
+// What was found, once all n rows have been passed; `row` is the one at the place for the address, where that is on the board.
+fn told(s: Search, n: usize, row: Row, address: u16) -> Found
+    ensures { λ r. ⌜ r ≡ foundBy s n row address ⌝ }
+{
+    let at = place_in(s, n, row.address, address);
+    Found {
+        at: at,
+        n: n,
+        row: row,
+        free: s.used,
+        spot: s.below,
+        kept: s.kept,
+    }
+}
+
+// Passes over the rows once. The array is indexed and not the board, so that the compiler searches it where `load` filled it.
 pub(crate) fn find(b: Board, address: u16) -> Found
     requires { ⌜ b .n ≤ 30 ⌝ }
     ensures { λ r. ⌜ Finds (rowsOf b) address r ⌝ }
 {
     let n = b.n;
     let held = b.rows;
-    let mut free = n;
+    let mut s = Search {
+        used: 0,
+        below: 0,
+        least: 0,
+        dense: true,
+        kept: true,
+    };
     let mut i: usize = 0;
-    loop {
+    while i < n {
         let row = held[i];
-        if rows::has_address(row, address) {
-            return Found {
-                at: i,
-                n: n,
-                row: row,
-                free: free,
-            };
-        }
-        free = free_after(free, n, i, row);
+        s = pass(s, row, address);
         i = i + 1;
-        if n <= i {
-            return Found {
-                at: n,
-                n: n,
-                row: row,
-                free: free,
-            };
-        }
     }
+    let spot = on_board(s.below, n);
+    let row = held[spot];
+    told(s, n, row, address)
 }
 
 fn refused(number: u8) -> Change
@@ -93,17 +174,24 @@ fn refused(number: u8) -> Change
 {
     let row = rows::free_row();
     Change {
-        at: 30,
+        at: 0,
+        count: 0,
+        up: 1,
+        down: 0,
         row: row,
         number: number,
         place: 0,
     }
 }
 
-// Enrolling: 10, 11, 27, 18, 19.
+// Enrolling: 38, 10, 11, 27, 18, 19. The rows from the new one's place up to the first free one move on by one.
 pub(crate) fn enrol(f: Found, settings: u8, address: u16, gauge: u8) -> Change
+    requires { ⌜ Bounded f ⌝ }
     ensures { λ r. ⌜ EnrolsOn f settings address gauge r ⌝ }
 {
+    if !f.kept {
+        return refused(38);
+    }
     if 15 < settings {
         return refused(10);
     }
@@ -121,7 +209,10 @@ pub(crate) fn enrol(f: Found, settings: u8, address: u16, gauge: u8) -> Change
     }
     let row = rows::new_row(settings, address, gauge);
     Change {
-        at: f.free,
+        at: f.spot,
+        count: f.free - f.spot + 1,
+        up: 1,
+        down: 0,
         row: row,
         number: 0,
         place: 0,
@@ -134,6 +225,9 @@ fn changed(at: usize, row: Row, number: u8, place: u8) -> Change
 {
     Change {
         at: at,
+        count: 1,
+        up: 1,
+        down: 0,
         row: row,
         number: number,
         place: place,
@@ -178,10 +272,13 @@ pub(crate) fn said(c: Change) -> Heard
     }
 }
 
-// Hearing: 11, 14, 17, then what the frame answers by the row's settings, and 26 by the row's profile.
+// Hearing: 38, 11, 14, 17, then what the frame answers by the row's settings, and 26 by the row's profile.
 pub(crate) fn hear(f: Found, minute: u32, address: u16, count: usize, reply: &[u8]) -> Change
     ensures { λ r. ⌜ HearsOn f minute address count (now (reply .entry)) r ⌝ }
 {
+    if !f.kept {
+        return refused(38);
+    }
     if 999 < address {
         return refused(11);
     }
@@ -196,10 +293,14 @@ pub(crate) fn hear(f: Found, minute: u32, address: u16, count: usize, reply: &[u
     heard(f.at, rows::heard_at(row, minute), minute, answer)
 }
 
-// Removing: 11, 17.
+// Removing: 38, 11, 17. The rows behind the one found move up by one, from the last in use on, whose place is left free.
 pub(crate) fn remove(f: Found, address: u16) -> Change
+    requires { ⌜ Bounded f ⌝ }
     ensures { λ r. ⌜ RemovesOn f address r ⌝ }
 {
+    if !f.kept {
+        return refused(38);
+    }
     if 999 < address {
         return refused(11);
     }
@@ -208,17 +309,23 @@ pub(crate) fn remove(f: Found, address: u16) -> Change
     }
     let row = rows::free_row();
     Change {
-        at: f.at,
+        at: f.free,
+        count: f.free - f.spot,
+        up: 0,
+        down: 1,
         row: row,
         number: 0,
         place: 0,
     }
 }
 
-// Looking: 11, 17.
+// Looking: 38, 11, 17.
 pub(crate) fn look(f: Found, address: u16) -> Looked
     ensures { λ r. ⌜ LooksOn f address r ⌝ }
 {
+    if !f.kept {
+        return rows::refused_look(38);
+    }
     if 999 < address {
         return rows::refused_look(11);
     }
@@ -229,10 +336,13 @@ pub(crate) fn look(f: Found, address: u16) -> Looked
     rows::tell(row)
 }
 
-// Whether a row may be polled so: 11, 17, 28. Raise or reset is only for a marked row, and never both.
+// Whether a row may be polled so: 38, 11, 17, 28. Raise or reset is only for a marked row, and never both.
 pub(crate) fn may_poll(f: Found, address: u16, raise: u8, reset: u8) -> u8
     ensures { λ r. ⌜ MayPollOn f address raise reset r ⌝ }
 {
+    if !f.kept {
+        return 38;
+    }
     if 999 < address {
         return 11;
     }

@@ -19,7 +19,8 @@ use Rattle.frame.specs.Reply.{ReadsReply, modeIn, replyTests, replyFault, refus
 use Rattle.board.specs.declared.Row.{Row}
 use Rattle.board.specs.Row.{freeRow, newRow, withReading, withFault, setsFault, heardAt}
 use Rattle.board.specs.Rows.{placeOf, placeFree, rowOf}
-use Rattle.board.specs.Calls.{enrolNumber, enrolRows, faultBy, outsideAt, hearNumber, hearPlace, hearRows, findNumber, removeRows, lookedAt, told, refusedLook}
+use Rattle.board.specs.Calls.{enrolNumber, faultBy, outsideAt, hearNumber, hearPlace, hearRows, findNumber, lookedAt, told, refusedLook}
+use Rattle.promises_order.specs.OldBoard.{oldEnrolRows as enrolRows, oldRemoveRows as removeRows}
 
 module _ (board : List Row) (settings address gauge : ℕ) where
   pub enrol-keeps : eqb (enrolNumber board settings address gauge) 0 ≡ false → enrolRows board settings address gauge ≡ board

@@ -23,11 +23,13 @@ use Rattle.board.specs.declared.Row.{Row}
 use Rattle.board.specs.Gauge.{is6500, outsideBy, unmarked, atOnce}
 use Rattle.board.specs.Row.{freeRow, newRow, withReading, withFault, setsFault, heardAt}
 use Rattle.board.specs.Rows.{boardOf, beyond, placeOf, placeFree, rowOf}
-use Rattle.board.specs.Calls.{Enrols, Hears, Removes, LooksUp, PollsRow, heardAs, enrolNumber, outsideAt, hearNumber, hearPlace, findNumber, told, rowPollBytes}
+use Rattle.board.specs.Calls.{heardAs, enrolNumber, outsideAt, hearNumber, hearPlace, findNumber, told, rowPollBytes}
+use Rattle.promises_order.specs.OldBoard.{OldEnrols as Enrols, OldHears as Hears, OldRemoves as Removes, OldLooksUp as LooksUp, OldPollsRow as PollsRow}
 use Rattle.board.specs.inside.ByValue.{mayPoll, orPoll}
 use Rattle.board.proofs.Faults.{sets-by, sets-7, sets-26, not-10, not-11, not-14, not-17}
 use Rattle.board.proofs.Numbers.{enrol-10, enrol-11, enrol-27, enrol-18, enrol-19, enrol-0, hear-11, hear-14, hear-17, readNumber, read-refused, read-outside, read-good, hear-read, find-11, find-17, find-0, may-11, may-17, may-by, may-28, may-0, denied, polled}
-use Rattle.promises_board.specs.Calls.{rowAt, IsRowOf, IsFirstFree, OnlyRow, EnrolPromise, HearPromise, RemovePromise, LookPromise, MayAsk, neither, to-raise, to-reset, PollPromise, BoardCalls, BoardOneOutcome}
+use Rattle.promises_order.specs.Places.{rowAt}
+use Rattle.promises_board.specs.Calls.{IsRowOf, IsFirstFree, OnlyRow, EnrolPromise, HearPromise, RemovePromise, LookPromise, MayAsk, neither, to-raise, to-reset, PollPromise, BoardCalls, BoardOneOutcome}
 use Rattle.promises_board.specs.Profiles.{OutOfRange}
 use Rattle.promises_frame.specs.Calls.{PollLeft}
 use Rattle.promises_frame.proofs.OnlyItsBytes.{only-its-bytes}

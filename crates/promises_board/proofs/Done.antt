@@ -15,10 +15,12 @@ use Rattle.board.specs.declared.Row.{Row}
 use Rattle.board.specs.Gauge.{profileMisplaced}
 use Rattle.board.specs.Row.{isFree, freeRow, newRow, withReading, withFault, setsFault, heardAt}
 use Rattle.board.specs.Rows.{boardOf, beyond, holds, placeOf, placeFree, rowOf}
-use Rattle.board.specs.Calls.{Enrols, Hears, Removes, enrolNumber, hearNumber, hearPlace, findNumber}
+use Rattle.board.specs.Calls.{enrolNumber, hearNumber, hearPlace, findNumber}
+use Rattle.promises_order.specs.OldBoard.{OldEnrols as Enrols, OldHears as Hears, OldRemoves as Removes}
 use Rattle.board.proofs.Faults.{not-11, not-14, not-17}
 use Rattle.board.proofs.Numbers.{enrol-10, enrol-11, enrol-27, enrol-18, enrol-19, hear-11, hear-14, hear-17, readNumber, read-zero, hear-read, find-11, find-17}
-use Rattle.promises_board.specs.Calls.{rowAt, OnBoard, IsRowOf, Unknown, IsFirstFree, NoFree, at-row, unknown, at-free, none-free, BoardCases, OnlyRow}
+use Rattle.promises_order.specs.Places.{rowAt, OnBoard}
+use Rattle.promises_board.specs.Calls.{IsRowOf, Unknown, IsFirstFree, NoFree, at-row, unknown, at-free, none-free, BoardCases, OnlyRow}
 use Rattle.promises_board.proofs.Places.{board-on, on-board, same-row, is-holds, place-row, at-place, before-place, set-rows, unchanged}
 use Rattle.promises_frame.proofs.Cases.{by-lt}
 use Rattle.promises_board.proofs.Ranges.{checked}

@@ -17,7 +17,8 @@ use Rattle.board.specs.declared.Heard.{Heard}
 use Rattle.board.specs.declared.Row.{Row}
 use Rattle.board.specs.Row.{inUse, freeRow, heardAt, withReading, withFault, setsFault}
 use Rattle.board.specs.Rows.{boardOf, beyond, holds, placeOf, rowOf, onBoard}
-use Rattle.board.specs.Calls.{Hears, hearNumber, hearPlace, hearRows, heardAs}
+use Rattle.board.specs.Calls.{hearNumber, hearPlace, hearRows, heardAs}
+use Rattle.promises_order.specs.OldBoard.{OldHears as Hears}
 use Rattle.board.proofs.Places.{place-le, place-before, place-at, place-is}
 use Rattle.promises_frame.proofs.Cases.{by-lt, both}
 use Rattle.promises_board.proofs.After.{numberBy}

@@ -21,7 +21,8 @@ use Rattle.board.specs.declared.Row.{Row}
 use Rattle.board.specs.Gauge.{profileMisplaced, unmarked, atOnce}
 use Rattle.board.specs.Row.{isFree, inUse, freeRow, newRow, withReading, withFault, setsFault, heardAt}
 use Rattle.board.specs.Rows.{boardOf, beyond, holds, placeBy, placeOf, placeFree, rowOf, onBoard, hasFree}
-use Rattle.board.specs.Calls.{enrolNumber, enrolRows, hearNumber, hearPlace, hearRows, heardAs, findNumber, removeRows, lookedAt, told, refusedLook, rowPollNumber, rowPollBytes}
+use Rattle.board.specs.Calls.{enrolNumber, hearNumber, hearPlace, hearRows, heardAs, findNumber, lookedAt, told, refusedLook, rowPollNumber, rowPollBytes}
+use Rattle.promises_order.specs.OldBoard.{oldEnrolRows as enrolRows, oldRemoveRows as removeRows}
 use Rattle.board.proofs.Places.{place-at}
 use Rattle.promises_board.proofs.After.{numberBy}
 use Rattle.promises_board.specs.Free.{cleared, Alike, BoardFree}

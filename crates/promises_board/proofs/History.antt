@@ -15,12 +15,13 @@ use Rattle.board.specs.declared.Row.{Row}
 use Rattle.board.specs.Gauge.{profileMisplaced}
 use Rattle.board.specs.Row.{isFree, inUse, freeRow, newRow}
 use Rattle.board.specs.Rows.{boardOf, placeOf, placeFree}
-use Rattle.board.specs.Calls.{Enrols}
+use Rattle.promises_order.specs.OldBoard.{OldEnrols as Enrols}
 use Rattle.board.proofs.Numbers.{enrol-19, enrol-0}
-use Rattle.promises_board.specs.Calls.{rowAt, OnBoard, Holds, Unknown, OnlyRow}
-use Rattle.promises_board.specs.History.{History, begun, enrolled, heard, removed, looked, polled, Empty, NoneTwice, taken, given, BoardHistory}
+use Rattle.promises_order.specs.Places.{rowAt, OnBoard, Empty}
+use Rattle.promises_board.specs.Calls.{Holds, Unknown, OnlyRow}
+use Rattle.promises_board.specs.History.{History, begun, enrolled, heard, removed, looked, polled, NoneTwice, taken, given, BoardHistory}
 use Rattle.promises_board.proofs.Places.{on-board, board-on, same-row, unknown-off}
-use Rattle.promises_board.proofs.Count.{used, used-set, used-none, used-full, used-room}
+use Rattle.promises_order.proofs.Count.{used, used-set, used-none, used-full, used-room}
 use Rattle.promises_frame.proofs.Cases.{by-lt}
 use Rattle.promises_board.proofs.Done.{set-only, Enrolled, not-enrolled, took, enrol-done, Removed, not-removed, gave, remove-done, HearDone, not-heard, faulty, good, hear-done}
 

@@ -4,7 +4,6 @@ pub mod Places
 pub mod Ranges
 pub mod After
 pub mod Told
-pub mod Count
 -- The promises.
 pub mod Calls
 pub mod Done
@@ -18,4 +17,5 @@ pub mod EitherOrder
 pub mod Since
 pub mod OneView
 pub mod View
+pub mod Now
 pub mod Promises

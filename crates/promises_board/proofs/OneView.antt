@@ -21,12 +21,14 @@ use Rattle.board.specs.declared.Row.{Row}
 use Rattle.board.specs.Gauge.{Profile, is6500, outside, outsideBy, profileMisplaced, gaugeTold, atOnce}
 use Rattle.board.specs.Row.{freeRow, newRow, heardAt, withReading, withFault, setsFault, more}
 use Rattle.board.specs.Rows.{boardOf, placeOf, placeFree, rowOf}
-use Rattle.board.specs.Calls.{Enrols, Hears, Removes, PollsRow, rowPollNumber, rowPollBytes, heardAs, enrolNumber, hearNumber, hearPlace, findNumber, lookedAt, told, refusedLook}
+use Rattle.board.specs.Calls.{rowPollNumber, rowPollBytes, heardAs, enrolNumber, hearNumber, hearPlace, findNumber, lookedAt, told, refusedLook}
+use Rattle.promises_order.specs.OldBoard.{OldEnrols as Enrols, OldHears as Hears, OldRemoves as Removes, OldPollsRow as PollsRow}
 use Rattle.board.specs.inside.ByValue.{mayPoll, orPoll}
 use Rattle.board.proofs.Gauges.{profile-told, mark-told}
 use Rattle.board.proofs.Faults.{sets-some}
 use Rattle.board.proofs.Numbers.{enrol-10, enrol-11, enrol-27, enrol-18, enrol-19, enrol-0, hear-11, hear-14, hear-17, readNumber, hear-read, find-0, may-11, may-17, may-by, denied, polled}
-use Rattle.promises_board.specs.Calls.{rowAt, OnBoard, Holds, IsRowOf, OnlyRow}
+use Rattle.promises_order.specs.Places.{rowAt, OnBoard}
+use Rattle.promises_board.specs.Calls.{Holds, IsRowOf, OnlyRow}
 use Rattle.promises_board.specs.History.{NoneTwice}
 use Rattle.promises_board.specs.View.{view, SameView, FreeAlike}
 use Rattle.promises_frame.proofs.Cases.{by-lt}

@@ -14,7 +14,8 @@ use Rattle.board.specs.Row.{isFree, inUse, freeRow}
 use Rattle.board.specs.Rows.{boardOf, beyond, holds, placeBy, placeOf, placeFree}
 use Rattle.board.proofs.Places.{place-le, place-before, place-at, place-is}
 use Rattle.promises_frame.proofs.Cases.{both}
-use Rattle.promises_board.specs.Calls.{rowAt, OnBoard, Holds, IsRowOf, Unknown, IsFirstFree, NoFree, OnlyRow}
+use Rattle.promises_order.specs.Places.{rowAt, OnBoard}
+use Rattle.promises_board.specs.Calls.{Holds, IsRowOf, Unknown, IsFirstFree, NoFree, OnlyRow}
 
 -- A test that fails does not hold.
 neither : (a : Bool) → a ≡ true → a ≡ false → ⊥

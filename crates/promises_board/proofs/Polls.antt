@@ -23,11 +23,13 @@ use Rattle.board.specs.declared.Row.{Row}
 use Rattle.board.specs.Gauge.{is6500, unmarked, atOnce}
 use Rattle.board.specs.Row.{inUse, freeRow, newRow}
 use Rattle.board.specs.Rows.{boardOf, placeOf, placeFree, onBoard, rowOf}
-use Rattle.board.specs.Calls.{PollsRow, rowPollBytes}
+use Rattle.board.specs.Calls.{rowPollBytes}
+use Rattle.promises_order.specs.OldBoard.{OldPollsRow as PollsRow}
 use Rattle.promises_frame.proofs.FirstFault.{AllClear, all-clear}
 use Rattle.promises_frame.proofs.Polls.{poll-then-read}
-use Rattle.promises_board.specs.Calls.{rowAt, OnBoard, IsRowOf, OnlyRow}
-use Rattle.promises_board.specs.History.{History, begun, enrolled, heard, removed, looked, polled, Empty}
+use Rattle.promises_order.specs.Places.{rowAt, OnBoard, Empty}
+use Rattle.promises_board.specs.Calls.{IsRowOf, OnlyRow}
+use Rattle.promises_board.specs.History.{History, begun, enrolled, heard, removed, looked, polled}
 use Rattle.promises_board.specs.Orders.{pollTable, pollOrder}
 use Rattle.promises_board.specs.Polls.{Marked, gaugeGiven, BoardPoll}
 use Rattle.promises_board.proofs.Tests.{differs, and-false, neither-of}

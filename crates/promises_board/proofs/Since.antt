@@ -15,10 +15,12 @@ use Rattle.board.specs.declared.Looked.{Looked}
 use Rattle.board.specs.declared.Row.{Row}
 use Rattle.board.specs.Row.{isFree, inUse, freeRow, newRow, heardAt, withReading, withFault, setsFault, more, Minute, never, at}
 use Rattle.board.specs.Rows.{boardOf, placeOf, placeFree}
-use Rattle.board.specs.Calls.{Enrols, Hears, Removes, LooksUp, heardAs, lookedAt, minuteTold}
+use Rattle.board.specs.Calls.{heardAs, lookedAt, minuteTold}
+use Rattle.promises_order.specs.OldBoard.{OldEnrols as Enrols, OldHears as Hears, OldRemoves as Removes, OldLooksUp as LooksUp}
 use Rattle.board.proofs.Faults.{sets-some, not-0}
-use Rattle.promises_board.specs.Calls.{rowAt, OnBoard, Holds, IsRowOf, Unknown, OnlyRow}
-use Rattle.promises_board.specs.History.{History, begun, enrolled, heard, removed, looked, polled, Empty, NoneTwice}
+use Rattle.promises_order.specs.Places.{rowAt, OnBoard, Empty}
+use Rattle.promises_board.specs.Calls.{Holds, IsRowOf, Unknown, OnlyRow}
+use Rattle.promises_board.specs.History.{History, begun, enrolled, heard, removed, looked, polled, NoneTwice}
 use Rattle.promises_board.specs.Since.{counted, since, latest, BoardSince}
 use Rattle.promises_frame.proofs.Cases.{by-lt}
 use Rattle.promises_board.proofs.Places.{place-row}

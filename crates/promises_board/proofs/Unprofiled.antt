@@ -20,9 +20,11 @@ use Rattle.board.specs.declared.Row.{Row}
 use Rattle.board.specs.Gauge.{Profile, noProfile, copper, platinum, profileOf, outside}
 use Rattle.board.specs.Row.{heardAt, withReading, withFault, setsFault}
 use Rattle.board.specs.Rows.{boardOf, beyond, placeOf, onBoard, rowOf}
-use Rattle.board.specs.Calls.{Hears, heardAs, outsideAt, hearNumber, hearPlace, hearRows}
+use Rattle.board.specs.Calls.{heardAs, outsideAt, hearNumber, hearPlace, hearRows}
+use Rattle.promises_order.specs.OldBoard.{OldHears as Hears}
 use Rattle.board.proofs.Faults.{sets-26, sets-9}
-use Rattle.promises_board.specs.Calls.{rowAt, IsRowOf, OnlyRow}
+use Rattle.promises_order.specs.Places.{rowAt}
+use Rattle.promises_board.specs.Calls.{IsRowOf, OnlyRow}
 use Rattle.promises_board.specs.Unprofiled.{numberBefore, placeBefore, rowsBefore, HeardBefore, Unchecked, no-profile, of-1800, no-temperature, withNumber, BoardProfiles}
 use Rattle.promises_board.proofs.Tests.{differs, and-false}
 use Rattle.promises_board.proofs.Places.{place-row, row-place, same-row}

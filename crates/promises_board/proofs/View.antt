@@ -13,14 +13,16 @@ use Rattle.board.specs.declared.Heard.{Heard}
 use Rattle.board.specs.declared.Row.{Row}
 use Rattle.board.specs.Row.{isFree, inUse, freeRow}
 use Rattle.board.specs.Rows.{boardOf, placeOf, rowOf, placeFree, hasFree}
-use Rattle.board.specs.Calls.{Enrols, Hears, Removes, told}
+use Rattle.board.specs.Calls.{told}
+use Rattle.promises_order.specs.OldBoard.{OldEnrols as Enrols, OldHears as Hears, OldRemoves as Removes}
 use Rattle.board.proofs.Numbers.{find-0}
-use Rattle.promises_board.specs.Calls.{rowAt, Unknown}
-use Rattle.promises_board.specs.History.{Empty, NoneTwice}
+use Rattle.promises_order.specs.Places.{rowAt, Empty}
+use Rattle.promises_board.specs.Calls.{Unknown}
+use Rattle.promises_board.specs.History.{NoneTwice}
 use Rattle.promises_board.specs.View.{view, SameView, FreeAlike, freeIn, AsManyFree, SideBySide, both-begun, both-enrol, both-hear, both-remove, both-look, both-poll, AnsweredAlike, BoardView}
 use Rattle.promises_frame.proofs.Cases.{by-lt}
 use Rattle.promises_board.proofs.Places.{same-row, board-on, place-row}
-use Rattle.promises_board.proofs.Count.{used, used-none, used-full, used-room}
+use Rattle.promises_order.proofs.Count.{used, used-none, used-full, used-room}
 use Rattle.promises_board.proofs.Done.{off-unknown, enrol-done, remove-done, hear-done}
 use Rattle.promises_board.proofs.After.{look-told}
 use Rattle.promises_board.proofs.Readings.{looked-bad, looked-unknown}

@@ -18,17 +18,10 @@ use Rattle.board.specs.declared.Looked.{Looked}
 use Rattle.board.specs.declared.Row.{Row}
 use Rattle.board.specs.Gauge.{is6500, profileMisplaced, gaugeTold}
 use Rattle.board.specs.Row.{isFree, inUse, lastOf, freeRow, newRow, withReading, withFault, placeTold, heardAt, heardOf}
-use Rattle.board.specs.Calls.{Enrols, Hears, Removes, LooksUp, PollsRow, heardAs, refusedLook, lastTold, minuteTold}
+use Rattle.board.specs.Calls.{heardAs, refusedLook, lastTold, minuteTold}
+use Rattle.promises_order.specs.Places.{rowAt, OnBoard}
+use Rattle.promises_order.specs.OldBoard.{OldEnrols as Enrols, OldHears as Hears, OldRemoves as Removes, OldLooksUp as LooksUp, OldPollsRow as PollsRow}
 use Rattle.promises_board.specs.Profiles.{OutOfRange, Checked}
-
--- The row at a place, counted from 0; a free row past the last.
-abbrev pub rowAt : List Row → ℕ → Row
-rowAt rows i = getD rows i freeRow
-
--- A place on the board: among the first 30 rows, and a row that was lent.
-pub record OnBoard (rows : List Row) (i : ℕ) : Type 0 where
-  pub counts : i < 30
-  pub lent : i < length rows
 
 -- A row in use holds this address.
 pub record Holds (row : Row) (address : ℕ) : Type 0 where

@@ -8,7 +8,7 @@ use Rattle.board.specs.declared.Looked.{Looked}
 use Rattle.board.specs.declared.Row.{Row}
 use Rattle.board.specs.Row.{isFree, freeRow}
 use Rattle.board.specs.Rows.{boardOf}
-use Rattle.board.specs.Calls.{Enrols, Hears, Removes, LooksUp, PollsRow}
+use Rattle.promises_order.specs.OldBoard.{OldEnrols as Enrols, OldHears as Hears, OldRemoves as Removes, OldLooksUp as LooksUp, OldPollsRow as PollsRow}
 
 -- A row with nothing left in it where it is free.
 abbrev pub cleared : Row → Row

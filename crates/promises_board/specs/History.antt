@@ -12,8 +12,9 @@ use Rattle.board.specs.declared.Looked.{Looked}
 use Rattle.board.specs.declared.Row.{Row}
 use Rattle.board.specs.Gauge.{profileMisplaced}
 use Rattle.board.specs.Row.{isFree}
-use Rattle.board.specs.Calls.{Enrols, Hears, Removes, LooksUp, PollsRow}
-use Rattle.promises_board.specs.Calls.{rowAt, OnBoard, Holds, Unknown}
+use Rattle.promises_order.specs.OldBoard.{OldEnrols as Enrols, OldHears as Hears, OldRemoves as Removes, OldLooksUp as LooksUp, OldPollsRow as PollsRow}
+use Rattle.promises_order.specs.Places.{Empty, OnBoard, rowAt}
+use Rattle.promises_board.specs.Calls.{Holds, Unknown}
 
 -- Calls one after another, the latest last, each with an outcome that its contract allows.
 pub data History (start : List Row) : List Row → Type 0 where
@@ -25,10 +26,6 @@ pub data History (start : List Row) : List Row → Type 0 where
   looked : {rows : List Row} (address : ℕ) (answer : Looked) → History start rows → LooksUp rows address answer → History start rows
   polled : {rows : List Row} (address raise reset : ℕ) (out : List ℕ) (answer : ℕ) (after : List ℕ) → History start rows
       → PollsRow rows address raise reset out answer after → History start rows
-
--- An empty board: each of its rows is free, whatever else stands in it.
-abbrev pub Empty : List Row → Type 0
-Empty rows = (i : ℕ) → OnBoard rows i → isFree (rowAt rows i) ≡ true
 
 -- No address is in use twice.
 abbrev pub NoneTwice : List Row → Type 0

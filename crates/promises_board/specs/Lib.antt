@@ -9,4 +9,5 @@ pub mod Polls
 pub mod Since
 pub mod Free
 pub mod View
+pub mod Now
 pub mod Promises

@@ -8,7 +8,7 @@ use Rattle.frame.specs.Faults.{Test, _gives_}
 use Rattle.board.specs.declared.Row.{Row}
 use Rattle.board.specs.Gauge.{profileMisplaced, unmarked, atOnce}
 use Rattle.board.specs.Rows.{boardOf, onBoard, rowOf, hasFree}
-use Rattle.board.specs.Calls.{Enrols, PollsRow}
+use Rattle.promises_order.specs.OldBoard.{OldEnrols as Enrols, OldPollsRow as PollsRow}
 use Rattle.promises_frame.specs.FirstFault.{FirstThatApplies}
 
 abbrev pub enrolTable : List Row → (settings address gauge : ℕ) → List Test

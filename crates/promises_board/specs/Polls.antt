@@ -13,9 +13,10 @@ use Rattle.frame.specs.Poll.{ReadsPoll}
 use Rattle.board.specs.declared.Looked.{Looked}
 use Rattle.board.specs.declared.Row.{Row}
 use Rattle.board.specs.Gauge.{is6500}
-use Rattle.board.specs.Calls.{Enrols, Removes, LooksUp, PollsRow}
-use Rattle.promises_board.specs.Calls.{rowAt, IsRowOf}
-use Rattle.promises_board.specs.History.{History, begun, enrolled, heard, removed, looked, polled, Empty}
+use Rattle.promises_order.specs.OldBoard.{OldEnrols as Enrols, OldRemoves as Removes, OldLooksUp as LooksUp, OldPollsRow as PollsRow}
+use Rattle.promises_order.specs.Places.{rowAt, Empty}
+use Rattle.promises_board.specs.Calls.{IsRowOf}
+use Rattle.promises_board.specs.History.{History, begun, enrolled, heard, removed, looked, polled}
 
 -- The address has a row, which is marked as a 6500.
 pub record Marked (rows : List Row) (address : ℕ) : Type 0 where

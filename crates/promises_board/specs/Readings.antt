@@ -1,4 +1,5 @@
--- The last good reading: a good hearing is what the next look tells, and a faulty one keeps it. Said by the answers of the calls alone.
+-- The last good reading: a good hearing is what the next look tells, and a faulty one keeps it. Said by the answers of the calls alone, of any four
+-- calls: it holds of those of the board as it was, and of those of today.
 use mathlib.Core.Path.{_≡_}
 use mathlib.Core.Bool.{true}
 use mathlib.Core.List.{List}
@@ -11,14 +12,15 @@ use Rattle.board.specs.declared.Looked.{Looked}
 use Rattle.board.specs.declared.Row.{Row}
 use Rattle.board.specs.Gauge.{gaugeTold}
 use Rattle.board.specs.Row.{none, good, never, at, more, setsFault}
-use Rattle.board.specs.Calls.{Enrols, Hears, Removes, LooksUp, heardAs, lastTold, minuteTold}
+use Rattle.board.specs.Calls.{heardAs, lastTold, minuteTold}
 
 -- A reading that the frame makes of this reply, by these settings, for this address.
 pub record Reads (settings address count : ℕ) (reply : List ℕ) : Type 0 where
   pub reading : Reading
   pub accepted : ReadsReply settings address count reply (Read reading)
 
-pub record BoardReadings : Type 0 where
+pub record BoardReadings (Enrols : List Row → ℕ → ℕ → ℕ → ℕ → List Row → Type 0) (Hears : List Row → ℕ → ℕ → ℕ → List ℕ → Heard → List Row → Type 0)
+    (Removes : List Row → ℕ → ℕ → List Row → Type 0) (LooksUp : List Row → ℕ → Looked → Type 0) : Type 0 where
   -- A hearing that answered 0, then a look: the reading of that reply, by the row's settings, with its minute, fault 0, no faulty
   -- reply counted, and this minute as the one it was last heard.
   pub heard : (rows after : List Row) (minute address count place : ℕ) (reply : List ℕ) (told : Looked)

@@ -10,9 +10,10 @@ use Rattle.board.specs.declared.Heard.{Heard}
 use Rattle.board.specs.declared.Looked.{Looked}
 use Rattle.board.specs.declared.Row.{Row}
 use Rattle.board.specs.Row.{inUse, setsFault, Minute, never, at}
-use Rattle.board.specs.Calls.{Hears, LooksUp, minuteTold}
-use Rattle.promises_board.specs.Calls.{rowAt, OnBoard}
-use Rattle.promises_board.specs.History.{History, begun, enrolled, heard, removed, looked, polled, Empty}
+use Rattle.board.specs.Calls.{minuteTold}
+use Rattle.promises_order.specs.OldBoard.{OldHears as Hears, OldLooksUp as LooksUp}
+use Rattle.promises_order.specs.Places.{rowAt, OnBoard, Empty}
+use Rattle.promises_board.specs.History.{History, begun, enrolled, heard, removed, looked, polled}
 
 -- The hearings of an address in a history that answered a fault of the row, since the last one that answered 0 or since its enrolment. A hearing
 -- that did not reach the row is not counted.

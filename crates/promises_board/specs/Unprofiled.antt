@@ -14,8 +14,10 @@ use Rattle.board.specs.declared.Heard.{Heard}
 use Rattle.board.specs.declared.Row.{Row}
 use Rattle.board.specs.Row.{rowBy, ownerOf, keptOf, heardAt, withReading, withFault}
 use Rattle.board.specs.Rows.{boardOf, beyond, placeOf, onBoard, rowOf}
-use Rattle.board.specs.Calls.{Hears, heardAs}
-use Rattle.promises_board.specs.Calls.{rowAt, IsRowOf}
+use Rattle.board.specs.Calls.{heardAs}
+use Rattle.promises_order.specs.OldBoard.{OldHears as Hears}
+use Rattle.promises_order.specs.Places.{rowAt}
+use Rattle.promises_board.specs.Calls.{IsRowOf}
 
 -- A hearing as it was before the request: no number after 9, and 1 to 9 alone set a row's fault.
 module _ (board : List Row) (minute address count : ℕ) (reply : List ℕ) where

@@ -12,8 +12,10 @@ use Rattle.board.specs.declared.Looked.{Looked}
 use Rattle.board.specs.declared.Row.{Row}
 use Rattle.board.specs.Row.{isFree}
 use Rattle.board.specs.Rows.{boardOf, rowOf, hasFree}
-use Rattle.board.specs.Calls.{Enrols, Hears, Removes, LooksUp, PollsRow, lookedAt}
-use Rattle.promises_board.specs.History.{Empty, NoneTwice}
+use Rattle.board.specs.Calls.{lookedAt}
+use Rattle.promises_order.specs.OldBoard.{OldEnrols as Enrols, OldHears as Hears, OldRemoves as Removes, OldLooksUp as LooksUp, OldPollsRow as PollsRow}
+use Rattle.promises_order.specs.Places.{Empty}
+use Rattle.promises_board.specs.History.{NoneTwice}
 
 -- What a look tells of an address, and two boards of which every look tells the same.
 abbrev pub view : List Row → ℕ → Looked

@@ -2,7 +2,7 @@
 ghost use Rattle.recorder.specs.Version.{SisalVersion};
 
 // The number that the header calls SISAL_VERSION. It goes up with every change that a host compiled before it would not survive.
-const VERSION: u32 = 3;
+const VERSION: u32 = 4;
 
 // Answers the version of the archive; refuses nothing.
 #[no_mangle]

@@ -79,14 +79,49 @@ pub fn rows(random: &mut Random) -> Vec<Row> {
         3 | 4 => 30,
         _ => random.below(31),
     };
-    let kind = random.below(4);
+    let kind = random.below(8);
     let pool = 1 + random.below(40);
     let row = |place: usize| match kind {
-        0 => Row::default(),
-        1 => crowded_row(random, place),
+        0 | 1 => Row::default(),
+        2 | 3 => crowded_row(random, place),
         _ => hostile_row(random, pool),
     };
-    (0..count).map(row).collect()
+    let mut rows: Vec<Row> = (0..count).map(row).collect();
+    if !random.one_in(6) {
+        keep(&mut rows);
+    }
+    if random.one_in(8) && rows.len() > 1 {
+        disturb(random, &mut rows);
+    }
+    rows
+}
+
+/// Puts rows out of order, if only just: two exchanged, one with its neighbour's address, or a hole.
+fn disturb(random: &mut Random, rows: &mut [Row]) {
+    let used = rows.iter().take(ROWS).filter(|row| row.in_use).count();
+    let at = random.below(used.clamp(1, rows.len() - 1));
+    match random.below(3) {
+        0 => rows.swap(at, at + 1),
+        1 => rows[at + 1].address = rows[at].address,
+        _ => rows[at].in_use = false,
+    }
+}
+
+/// Keeps the rows that count in order: of two with one address the second is set free, what stands
+/// in it stays, and so it does in the other free rows.
+fn keep(rows: &mut [Row]) {
+    let count = rows.len().min(ROWS);
+    let board = &mut rows[..count];
+    board.sort_by_key(|row| (!row.in_use, row.address));
+    for at in 1..count {
+        if board[..at]
+            .iter()
+            .any(|row| row.in_use && row.address == board[at].address)
+        {
+            board[at].in_use = false;
+        }
+    }
+    board.sort_by_key(|row| !row.in_use);
 }
 
 /// A row of a board that is all but full, with free rows past the thirtieth.
@@ -196,8 +231,8 @@ mod tests {
     #[test]
     fn every_outcome_is_reached() {
         let mut random = Random::new(crate::random::SEED, 0);
-        let mut seen = [[0u32; 29]; 5];
-        for _ in 0..1_200 {
+        let mut seen = [[0u32; 39]; 5];
+        for _ in 0..1_800 {
             let mut rows = rows(&mut random);
             for _ in 0..100 {
                 let (call, answer) = match board_call(&mut random, &rows) {
@@ -227,11 +262,11 @@ mod tests {
             }
         }
         let answers: [&[usize]; 5] = [
-            &[0, 10, 11, 18, 19, 27],
-            &[0, 1, 2, 3, 4, 5, 6, 7, 8, 9, 10, 11, 14, 17, 26],
-            &[0, 11, 17],
-            &[0, 11, 17],
-            &[0, 11, 15, 17, 28],
+            &[0, 10, 11, 18, 19, 27, 38],
+            &[0, 1, 2, 3, 4, 5, 6, 7, 8, 9, 10, 11, 14, 17, 26, 38],
+            &[0, 11, 17, 38],
+            &[0, 11, 17, 38],
+            &[0, 11, 15, 17, 28, 38],
         ];
         for (call, answers) in answers.iter().enumerate() {
             for &number in *answers {

@@ -13,7 +13,19 @@ fn board(rows: &[Row]) -> &[Row] {
     &rows[..rows.len().min(ROWS)]
 }
 
-/// The first row in use that holds an address.
+/// Refuses by 38 rows that are not kept in order: those in use first, by strictly rising address.
+fn kept(rows: &[Row]) -> Answer<()> {
+    let used = board(rows).iter().filter(|row| row.in_use).count();
+    let (front, behind) = board(rows).split_at(used);
+    let rising = front.windows(2).all(|two| two[0].address < two[1].address);
+    if rising && behind.iter().all(|row| !row.in_use) {
+        Ok(())
+    } else {
+        Err(Fault::Order)
+    }
+}
+
+/// The row in use that holds an address.
 fn place(rows: &[Row], address: u16) -> Option<usize> {
     let held = |row: &Row| row.in_use && row.address == address;
     board(rows).iter().position(held)
@@ -46,8 +58,10 @@ fn outside(row: &Row, temperature: Temperature) -> bool {
     }
 }
 
-/// Enrols a transmitter in the first free row. Refusals: 10, 11, 27, 18, 19.
+/// Enrols a transmitter: the first free row is used up, and turned to the front of the rows in use
+/// with a greater address. Refusals: 38, 10, 11, 27, 18, 19.
 pub fn enrol(rows: &mut [Row], settings: u8, address: u16, gauge: u8) -> Answer<()> {
+    kept(rows)?;
     if settings > LARGEST_SETTINGS {
         return Err(Fault::Settings);
     }
@@ -60,8 +74,9 @@ pub fn enrol(rows: &mut [Row], settings: u8, address: u16, gauge: u8) -> Answer<
     if place(rows, address).is_some() {
         return Err(Fault::Twice);
     }
-    let free = rows.iter_mut().take(ROWS).find(|row| !row.in_use);
-    *free.ok_or(Fault::NoRow)? = Row {
+    let free = board(rows).iter().position(|row| !row.in_use);
+    let free = free.ok_or(Fault::NoRow)?;
+    rows[free] = Row {
         in_use: true,
         address,
         settings,
@@ -72,16 +87,20 @@ pub fn enrol(rows: &mut [Row], settings: u8, address: u16, gauge: u8) -> Answer<
         heard: 0,
         gauge,
     };
+    let smaller = rows[..free].iter().filter(|row| row.address < address);
+    let at = smaller.count();
+    rows[at..=free].rotate_right(1);
     Ok(())
 }
 
-/// Hears a reply to a poll of `address`. Refusals: 11, 14, 17, 10, then 1 to 9, 26.
+/// Hears a reply to a poll of `address`. Refusals: 38, 11, 14, 17, 10, then 1 to 9, 26.
 ///
 /// A good reply sets reading, minute and fault 0; the faults 1 to 9, and 26 for a temperature
 /// outside the row's profile, set the row's fault, 7 with the place of the unreadable digit, and
 /// leave its last good reading as it is. Both are heard: the row has this minute, and its count of
 /// faulty replies starts again or grows by one, up to 65,535.
 pub fn hear(rows: &mut [Row], minute: u32, address: u16, count: usize, reply: &[u8]) -> Answer<()> {
+    kept(rows)?;
     if address > LARGEST_ADDRESS {
         return Err(Fault::AskedAddress);
     }
@@ -112,17 +131,23 @@ pub fn hear(rows: &mut [Row], minute: u32, address: u16, count: usize, reply: &[
     }
 }
 
-/// Removes a transmitter and leaves its row free and cleared. Refusals: 11, 17.
+/// Removes a transmitter: its row is cleared and turned behind the others in use. Refusals: 38, 11,
+/// 17.
 pub fn remove(rows: &mut [Row], address: u16) -> Answer<()> {
+    kept(rows)?;
     if address > LARGEST_ADDRESS {
         return Err(Fault::AskedAddress);
     }
-    *held(rows, address)? = Row::default();
+    let at = place(rows, address).ok_or(Fault::Unknown)?;
+    let used = board(rows).iter().filter(|row| row.in_use).count();
+    rows[at] = Row::default();
+    rows[at..used].rotate_left(1);
     Ok(())
 }
 
-/// Looks a transmitter up. Refusals: 11, 17.
+/// Looks a transmitter up. Refusals: 38, 11, 17.
 pub fn look_up(rows: &[Row], address: u16) -> Answer<Standing> {
+    kept(rows)?;
     if address > LARGEST_ADDRESS {
         return Err(Fault::AskedAddress);
     }
@@ -140,8 +165,9 @@ pub fn look_up(rows: &[Row], address: u16) -> Answer<Standing> {
 }
 
 /// Writes a row's poll into the first 2 bytes. Raise or reset goes to a marked row only, and never
-/// both at once. Refusals: 11, 17, 28, 15.
+/// both at once. Refusals: 38, 11, 17, 28, 15.
 pub fn poll(rows: &[Row], address: u16, raise: u8, reset: u8, out: &mut [u8]) -> Answer<()> {
+    kept(rows)?;
     if address > LARGEST_ADDRESS {
         return Err(Fault::AskedAddress);
     }

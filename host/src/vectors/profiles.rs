@@ -57,8 +57,8 @@ const POLLS: &[Asked] = &[
     (9, 255, 0, 9, 0, b"\xa0\x09"),
 ];
 
-/// A board of five rows after the enrolments; the row of address 7 is then removed, which clears
-/// it, and taken again with a copper bulb.
+/// A board of five rows after the enrolments; address 7 is then removed, which leaves a cleared row
+/// behind the others, and taken again with a copper bulb.
 fn board<C: Core>(core: &C) -> Vec<C::Row>
 where
     C::Row: PartialEq + Debug,
@@ -69,7 +69,7 @@ where
         assert_eq!(number(&answered), answer, "{settings} {address} {gauge}");
     }
     assert_eq!(core.remove(&mut rows, 7), Ok(()));
-    assert_eq!(rows[0], core.row(&Row::default()));
+    assert_eq!(rows[4], core.row(&Row::default()));
     assert_eq!(core.enrol(&mut rows, 1, 7, 1), Ok(()));
     rows
 }

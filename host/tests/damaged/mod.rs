@@ -68,7 +68,13 @@ pub enum Damage {
     HeardKeptByFault,
     LatestMinuteIsLargest,
     RowPastThirtiethUsed,
-    LastRowCounts,
+    EnrolsBehindOthers,
+    RemovalLeavesHole,
+    FreedRowKept,
+    SameAddressTwice,
+    HoleBetweenRows,
+    LookAsksNoOrder,
+    SettingsBeforeOrder,
     RemovalKeepsAddress,
     UnknownBeforeForm,
     SettingsOfRowNotAsked,
@@ -90,6 +96,22 @@ pub enum Damage {
 use Damage::*;
 
 impl Damage {
+    /// The rows as a look takes them that does not ask for the order, or asks too little.
+    fn tidied(self, rows: &[Row]) -> Vec<Row> {
+        let count = rows.len().min(30);
+        let mut rows = rows[..count].to_vec();
+        match self {
+            SameAddressTwice => rows.dedup_by_key(|row| (row.in_use, row.address)),
+            HoleBetweenRows => rows.sort_by_key(|row| !row.in_use),
+            LookAsksNoOrder => {
+                rows.sort_by_key(|row| (!row.in_use, row.address));
+                rows.dedup_by_key(|row| (row.in_use, row.address));
+            }
+            _ => {}
+        }
+        rows
+    }
+
     /// Whether a reading that a row was rightly set to is refused by 26: at an end of the row's
     /// profile, or beyond it in an 1800 row.
     fn refuses(self, row: &Row) -> bool {
@@ -396,8 +418,17 @@ impl Core for Damaged {
     }
 
     fn enrol(&self, rows: &mut [Row], settings: u8, address: u16, gauge: u8) -> Answer<()> {
+        if self.0 == SettingsBeforeOrder && settings > 15 {
+            return Err(Fault::Settings);
+        }
         let answer = board::enrol(rows, settings, address, gauge);
         match (self.0, answer) {
+            (EnrolsBehindOthers, Ok(())) => {
+                let used = rows.iter().take(30).filter(|row| row.in_use).count();
+                let at = rows.iter().position(|row| row.address == address);
+                rows[at.unwrap_or(0)..used].rotate_left(1);
+                Ok(())
+            }
             (RowPastThirtiethUsed, Err(Fault::NoRow)) if rows.len() > 30 => {
                 board::enrol(&mut rows[30..], settings, address, gauge)
             }
@@ -425,13 +456,6 @@ impl Core for Damaged {
         reply: &[u8],
     ) -> Answer<()> {
         let before = rows.to_vec();
-        if self.0 == LastRowCounts {
-            let rows = &mut rows[..before.len().min(30)];
-            rows.reverse();
-            let answer = board::hear(rows, minute, address, count, reply);
-            rows.reverse();
-            return answer;
-        }
         let answer = board::hear(rows, minute, address, count, reply);
         let mine = rows
             .iter()
@@ -486,6 +510,15 @@ impl Core for Damaged {
     fn remove(&self, rows: &mut [Row], address: u16) -> Answer<()> {
         let before = rows.to_vec();
         board::remove(rows, address)?;
+        let mine = |row: &Row| row.in_use && row.address == address;
+        if let Some(mine) = before.iter().position(mine) {
+            let last = before.iter().take(30).filter(|row| row.in_use).count() - 1;
+            match self.0 {
+                RemovalLeavesHole => rows[mine..=last].rotate_right(1),
+                FreedRowKept => rows[last].settings = before[last].settings,
+                _ => {}
+            }
+        }
         for (row, before) in rows.iter_mut().zip(before) {
             match self.0 {
                 RemovalKeepsAddress => row.address = before.address,
@@ -497,7 +530,8 @@ impl Core for Damaged {
     }
 
     fn look_up(&self, rows: &[Row], address: u16) -> Answer<Standing> {
-        let mut standing = board::look_up(rows, address)?;
+        let tidied = self.0.tidied(rows);
+        let mut standing = board::look_up(&tidied, address)?;
         let mine = rows.iter().find(|row| row.in_use && row.address == address);
         if let (GaugeToldAsItStands, Some(mine)) = (self.0, mine) {
             standing.gauge = mine.gauge;

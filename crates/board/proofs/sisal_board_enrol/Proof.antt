@@ -44,7 +44,7 @@ use Rattle.board.specs.declared.value.Found.{Found}
 use Rattle.board.specs.declared.value.Change.{Change}
 use Rattle.board.specs.Rows.{boardOf}
 use Rattle.board.specs.Calls.{Enrols}
-use Rattle.board.specs.inside.ByValue.{Finds, putIn, EnrolsOn}
+use Rattle.board.specs.inside.ByValue.{Bounded, Finds, moved, EnrolsOn}
 use Rattle.board.proofs.LendShared.{Kept, lends, has-back}
 use Rattle.board.proofs.Settled.{within, settles}
 use Rattle.board.proofs.Thin.{found-val, change-val, shared-rows, mut-rows, Find, Put, find-says, lent-as, slice-val, to-find, goes-find, to-put, goes-put, Stored}
@@ -75,7 +75,7 @@ abbrev stayed : Stays (call.ended .signature .params) (call.ended .kept)
 stayed = (gave-slice (0 ∷ []) tt (plain (λ _. T.the-row)), (stay-none (λ _. u8) yes, (stay-none (λ _. u16) yes, (stay-none (λ _. u8) yes, tt))))
 
 -- what the three callees say together is the call's outcome
-settled : (ys : List Row) (g a k : ℕ) (r : Found) (c : Change) → Finds (boardOf ys) a r → EnrolsOn r g a k c → (f : ℕ) (zs : List Row) → (f ≡ c .number) × (zs ≡ putIn (r .n) (c .at) (c .row) ys) → Enrols ys g a k f zs
+settled : (ys : List Row) (g a k : ℕ) (r : Found) (c : Change) → Finds (boardOf ys) a r → EnrolsOn r g a k c → (f : ℕ) (zs : List Row) → (f ≡ c .number) × (zs ≡ moved c ys) → Enrols ys g a k f zs
 settled ys g a k r c finds made f zs e = let s = settles ys a r finds _ _ c made f zs e in record { answers = s .0; leaves = s .1 }
 
 module _ {M : Type 1} (𝓤 : URA M) (H : Heap 𝓤) (A : Atoms 𝓤) (mem : Memory → SProp 𝓤) (run : Routine → Fun 𝓤) where
@@ -109,9 +109,9 @@ module _ {M : Type 1} (𝓤 : URA M) (H : Heap 𝓤) (A : Atoms 𝓤) (W : Given
   abbrev to-core : Found → Core 𝓤 H A mem run .Ghost
   to-core r = ((tt, tt, tt, (r, (g, (a, (k, tt)))), (found-val r ∷ [], (vint w8 g ∷ [], (vint w16 a ∷ [], (vint w8 k ∷ [], tt))))), tt)
 
-  goes-core : (r : Found) → Is F.the-row r (found-val r ∷ []) → ent 𝓤 (emp 𝓤) (Core 𝓤 H A mem run .pre (to-core r))
-  goes-core r is =
-      qed W [] ∵ nothing ! $ nothing ! $ owned ! u8 (Is u8) (uint-makes 𝓤 H A W w8) k _ (refl, k-fits) $ fjoin ! $ owned ! u16 (Is u16) (uint-makes 𝓤 H A W w16) a _ (refl, a-fits) $ fjoin ! $ owned ! u8 (Is u8) (uint-makes 𝓤 H A W w8) g _ (refl, g-fits) $ fjoin ! $ owned ! F.the-row (Is F.the-row) (LL.makes F.the-type F′.the-plain 𝓤 H A) r _ is $ fjoin ! $ move ! (1 ∷ 0 ∷ []) $ join ! $ frame ! $ done !
+  goes-core : (r : Found) → Bounded r → Is F.the-row r (found-val r ∷ []) → ent 𝓤 (emp 𝓤) (Core 𝓤 H A mem run .pre (to-core r))
+  goes-core r bounds is =
+      qed W [] ∵ says ! bounds $ nothing ! $ nothing ! $ owned ! u8 (Is u8) (uint-makes 𝓤 H A W w8) k _ (refl, k-fits) $ fjoin ! $ owned ! u16 (Is u16) (uint-makes 𝓤 H A W w16) a _ (refl, a-fits) $ fjoin ! $ owned ! u8 (Is u8) (uint-makes 𝓤 H A W w8) g _ (refl, g-fits) $ fjoin ! $ owned ! F.the-row (Is F.the-row) (LL.makes F.the-type F′.the-plain 𝓤 H A) r _ is $ fjoin ! $ move ! (1 ∷ 0 ∷ []) $ done !
 
   module _ (C : Calls 𝓤 H) (Λ : Loops 𝓤 H) (fm : FmC 𝓤 H (W .laws) C) (l₀ l₁ l₂ l₃ l₄ l₅ l₆ l₇ l₈ l₉ l₁₀ : ℕ) where
     abbrev En : Env 𝓤 H
@@ -132,13 +132,13 @@ module _ {M : Type 1} (𝓤 : URA M) (H : Heap 𝓤) (A : Atoms 𝓤) (W : Given
     puts known r c finds made is-r is-c =
         assigns ! (addr ! (from ! (fld ! refl (hop ! (look-in ! 20 (sub ! 0 refl (whole !))) (stop !))))) (from ! (stop !)) (init ! 4 refl (tt, tt)) $
         assigns ! (agg ! (and-then ! (load ! (from ! (stop !)) (look ! 4 refl)) (and-then ! (load ! (from ! (fld ! refl (stop !))) (look-in ! 20 (sub ! 1 refl (whole !)))) (no-more !)))) (from ! (stop !)) (init ! 2 refl (tt, (tt, (record { fits = gn .0 }, tt)))) $
-        move ! (1 ∷ 0 ∷ []) $ use2 W (raw (Put 𝓤 H A mem run .pre (to-put 𝓤 H A mem run W b o ys κ q γ (r .n) c))) (goes-put 𝓤 H A mem run W b o ys κ q γ (r .n) c (within ys a r finds) (LL.owed F.the-type F′.the-laws r _ is-r .1 .0 .1) is-c) $
+        move ! (1 ∷ 0 ∷ []) $ use2 W (raw (Put 𝓤 H A mem run .pre (to-put 𝓤 H A mem run W b o ys κ q γ c))) (goes-put 𝓤 H A mem run W b o ys κ q γ c (within ys a r finds _ _ c made) is-c) $
         -- [what `put` asks; _10; …]
-        calls-at ! fm (Put 𝓤 H A mem run) known (to-put 𝓤 H A mem run W b o ys κ q γ (r .n) c) (and-then ! (load ! (from ! (stop !)) (look ! 1 refl)) (and-then ! (load ! (from ! (fld ! refl (stop !))) (look-in ! 11 (sub ! 1 refl (whole !)))) (and-then ! (load ! (from ! (stop !)) (look ! 9 refl)) (no-more !)))) (λ u.
-        use1 W (later (some (λ (f : ℕ). ((‵ (flft κ q) ⊛ ‵ ftrue) ⊛ ‵ (u8 .own f (u ∷ []))) ⊛ raw (ensured 𝓤 H A put′.ended (put′.clauses 𝓤 H A mem run) (κ, tt) (x γ, (r .n, (c, tt))) tt f)))) (id⊢ 𝓤 _) $ await ! tt $ pick ! (λ f.
+        calls-at ! fm (Put 𝓤 H A mem run) known (to-put 𝓤 H A mem run W b o ys κ q γ c) (and-then ! (load ! (from ! (stop !)) (look ! 1 refl)) (and-then ! (load ! (from ! (stop !)) (look ! 9 refl)) (no-more !))) (λ u.
+        use1 W (later (some (λ (f : ℕ). ((‵ (flft κ q) ⊛ ‵ ftrue) ⊛ ‵ (u8 .own f (u ∷ []))) ⊛ raw (ensured 𝓤 H A put′.ended (put′.clauses 𝓤 H A mem run) (κ, tt) (x γ, (c, tt)) tt f)))) (id⊢ 𝓤 _) $ await ! tt $ pick ! (λ f.
         -- what `put` ensures, at some last list
-        split ! $ move ! (1 ∷ []) $ use1 W (some (λ (zs : List Row × (Unit {0} × (Unit {0} × Unit {0}))). ‵ (lasts put′.ended (κ, tt) (x γ, (r .n, (c, tt))) zs) ⊛ raw (fact 𝓤 (Stored 𝓤 H A mem run W b o ys (r .n) c f (zs .0))))) (id⊢ 𝓤 _) $ pick ! (λ zs.
-        split ! $ move ! (1 ∷ []) $ heard ! (Stored 𝓤 H A mem run W b o ys (r .n) c f (zs .0)) (λ e. fsplit ! $ fsplit ! $ move ! (1 ∷ []) $ feqL ! (λ l.
+        split ! $ move ! (1 ∷ []) $ use1 W (some (λ (zs : List Row × (Unit {0} × Unit {0})). ‵ (lasts put′.ended (κ, tt) (x γ, (c, tt)) zs) ⊛ raw (fact 𝓤 (Stored 𝓤 H A mem run W b o ys c f (zs .0))))) (id⊢ 𝓤 _) $ pick ! (λ zs.
+        split ! $ move ! (1 ∷ []) $ heard ! (Stored 𝓤 H A mem run W b o ys c f (zs .0)) (λ e. fsplit ! $ fsplit ! $ move ! (1 ∷ []) $ feqL ! (λ l.
         -- [the last list; …; the token and the result; _10; …]
         move ! (2 ∷ []) $ split ! $ move ! (1 ∷ []) $ peeks ! u8 (Is u8) (shows 𝓤 H A u8) f (u ∷ []) (λ is.
         land ! (from ! (stop !)) (init ! 24 refl (uint-lawful 𝓤 H A W w8 .typed f _ is .0)) $ drop ! $
@@ -151,7 +151,7 @@ module _ {M : Type 1} (𝓤 : URA M) (H : Heap 𝓤) (A : Atoms 𝓤) (W : Given
     works : Triple 𝓤 (C #core) (Core 𝓤 H A mem run) → Triple 𝓤 (C #put) (Put 𝓤 H A mem run) → (r : Found) → Finds (boardOf ys) a r → Is F.the-row r (found-val r ∷ [])
         → Sq W (With (‵ (froom D′.mir l₆ 0)) (‵ (fat fullShare F′.mir l₅ 0 (found-val r)))) (runs C Λ En body.t-4 (atRet En Post))
     works known-core known-put r finds is-r =
-        use0 W (raw (Core 𝓤 H A mem run .pre (to-core r))) (goes-core r is-r) $
+        use0 W (raw (Core 𝓤 H A mem run .pre (to-core r))) (goes-core r (finds .bounds) is-r) $
         calls-at ! fm (Core 𝓤 H A mem run) known-core (to-core r) (and-then ! (load ! (from ! (stop !)) (look ! 13 refl)) (and-then ! (load ! (from ! (stop !)) (look ! 19 refl)) (and-then ! (load ! (from ! (stop !)) (look ! 17 refl)) (and-then ! (load ! (from ! (stop !)) (look ! 15 refl)) (no-more !))))) (λ u.
         use1 W (later (some (λ (c : Change). (‵ ftrue ⊛ ‵ (D.the-row .own c (u ∷ []))) ⊛ raw (ensured 𝓤 H A core.ended (core.clauses 𝓤 H A mem run) tt (r, (g, (a, (k, tt)))) tt c)))) (id⊢ 𝓤 _) $ await ! tt $ pick ! (λ c.
         split ! $ move ! (1 ∷ []) $ use1 W (raw (fact 𝓤 (EnrolsOn r g a k c))) (core-says 𝓤 H A mem run g a k r c) $ heard ! (EnrolsOn r g a k c) (λ made. split ! $ drop ! $

@@ -2,6 +2,7 @@
 -- was found and reads the reply, `put`, which is passed the borrow itself, makes the change, and `said` tells its number and place. What the four say together is
 -- the call's outcome by `Settled`. The machine values of what was found and of the change are rewritten to the ones that their types spell.
 use mathlib.Core.Path.{_≡_, refl, _∙_, ap, subst}
+use mathlib.Core.Bool.{Bool, true, false}
 use Prim.Native.Nat.{ℕ, _<_, _^_}
 use mathlib.Core.List.{List, [], _∷_}
 use lib.ListN.{length}
@@ -44,10 +45,12 @@ use Rattle.board.specs.declared.Row.{Row}
 use Rattle.board.specs.declared.value.Change.{Change}
 use Rattle.board.specs.declared.value.Found.{Found}
 use Rattle.board.specs.Rows.{boardOf}
-use Rattle.board.specs.Calls.{Hears, heardAs, hearNumber}
-use Rattle.board.specs.inside.ByValue.{Finds, putIn, HearsOn, saidOf}
+use Rattle.frame.specs.Pick.{pick as by-test}
+use Rattle.board.specs.Order.{kept, inOrder}
+use Rattle.board.specs.Calls.{Hears, heardAs, hearNumber, hearPlace}
+use Rattle.board.specs.inside.ByValue.{Finds, moved, HearsOn, saidOf}
 use Rattle.board.proofs.LendShared.{Kept, lends, has-back}
-use Rattle.board.proofs.Settled.{board-few, within, settles}
+use Rattle.board.proofs.Settled.{within, settles}
 use Rattle.board.proofs.Thin.{found-val, change-val, shared-rows, mut-rows, Find, Put, find-says, lent-as, slice-val, to-find, goes-find, to-put, goes-put, Stored}
 use Rattle.board.proofs.Row as T
 use Rattle.board.proofs.Heard as E
@@ -82,10 +85,14 @@ abbrev stayed : Stays (call.ended .signature .params) (call.ended .kept)
 stayed = (gave-slice (0 ∷ []) tt (plain (λ _. T.the-row)), (stay-none (λ _. u32) yes, (stay-none (λ _. u16) yes, (stay-none (λ _. usize) yes, (stay-none-slice (1 ∷ []) tt (plain (λ _. u8)) yes, tt)))))
 
 -- what the four callees say together is the call's outcome
-settled : (ys : List Row) (m a k : ℕ) (y : List ℕ) (r : Found) (c : Change) → Finds (boardOf ys) a r → HearsOn r m a k y c → (h : Heard) → h ≡ saidOf c → (zs : List Row) → zs ≡ putIn (r .n) (c .at) (c .row) ys → Hears ys m a k y h zs
+settled : (ys : List Row) (m a k : ℕ) (y : List ℕ) (r : Found) (c : Change) → Finds (boardOf ys) a r → HearsOn r m a k y c → (h : Heard) → h ≡ saidOf c → (zs : List Row) → zs ≡ moved c ys → Hears ys m a k y h zs
 settled ys m a k y r c finds made h is zs e =
     let s = settles ys a r finds _ _ c (made .changes) (c .number) zs (refl, e) in
-    record { answers = is ∙ ap (λ (n : ℕ). heardAs n (c .place)) (s .0) ∙ ap (heardAs (hearNumber (boardOf ys) a k y)) (made .names (boardOf ys) (board-few ys) finds); leaves = s .1 }
+    record { answers = is ∙ ap (λ (n : ℕ). heardAs n (c .place)) (s .0) ∙ ap (heardAs (inOrder (boardOf ys) (hearNumber (boardOf ys) a k y) 38)) (made .names (boardOf ys) finds) ∙ said-by (kept (boardOf ys)); leaves = s .1 }
+  where
+    said-by : (t : Bool) → heardAs (by-test t (hearNumber (boardOf ys) a k y) 38) (by-test t (hearPlace (boardOf ys) a k y) 0) ≡ by-test t (heardAs (hearNumber (boardOf ys) a k y) (hearPlace (boardOf ys) a k y)) (heardAs 38 0)
+    said-by true = refl
+    said-by false = refl
 
 module _ {M : Type 1} (𝓤 : URA M) (H : Heap 𝓤) (A : Atoms 𝓤) (mem : Memory → SProp 𝓤) (run : Routine → Fun 𝓤) where
   abbrev Core : Contract 𝓤
@@ -169,13 +176,13 @@ module _ {M : Type 1} (𝓤 : URA M) (H : Heap 𝓤) (A : Atoms 𝓤) (W : Given
     puts known known-said r c finds made is-r is-c =
         assigns ! (addr ! (from ! (fld ! refl (hop ! (look-in ! 26 (sub ! 0 refl (whole !))) (stop !))))) (from ! (stop !)) (init ! 6 refl (tt, tt)) $
         assigns ! (agg ! (and-then ! (load ! (from ! (stop !)) (look ! 6 refl)) (and-then ! (load ! (from ! (fld ! refl (stop !))) (look-in ! 26 (sub ! 1 refl (whole !)))) (no-more !)))) (from ! (stop !)) (init ! 4 refl (tt, (tt, (record { fits = gn .0 }, tt)))) $
-        move ! (1 ∷ 0 ∷ []) $ use2 W (raw (Put 𝓤 H A mem run .pre (to-put 𝓤 H A mem run W b o ys κ q γ (r .n) c))) (goes-put 𝓤 H A mem run W b o ys κ q γ (r .n) c (within ys a r finds) (LL.owed F.the-type F′.the-laws r _ is-r .1 .0 .1) is-c) $
+        move ! (1 ∷ 0 ∷ []) $ use2 W (raw (Put 𝓤 H A mem run .pre (to-put 𝓤 H A mem run W b o ys κ q γ c))) (goes-put 𝓤 H A mem run W b o ys κ q γ c (within ys a r finds _ _ c (made .changes)) is-c) $
         -- [what `put` asks; the reply's token; what the reply owns; _12; …]
-        calls-at ! fm (Put 𝓤 H A mem run) known (to-put 𝓤 H A mem run W b o ys κ q γ (r .n) c) (and-then ! (load ! (from ! (stop !)) (look ! 3 refl)) (and-then ! (load ! (from ! (fld ! refl (stop !))) (look-in ! 15 (sub ! 1 refl (whole !)))) (and-then ! (load ! (from ! (stop !)) (look ! 13 refl)) (no-more !)))) (λ u.
-        use1 W (later (some (λ (f : ℕ). ((‵ (flft κ q) ⊛ ‵ ftrue) ⊛ ‵ (u8 .own f (u ∷ []))) ⊛ raw (ensured 𝓤 H A put′.ended (put′.clauses 𝓤 H A mem run) (κ, tt) (x γ, (r .n, (c, tt))) tt f)))) (id⊢ 𝓤 _) $ await ! tt $ pick ! (λ f.
+        calls-at ! fm (Put 𝓤 H A mem run) known (to-put 𝓤 H A mem run W b o ys κ q γ c) (and-then ! (load ! (from ! (stop !)) (look ! 3 refl)) (and-then ! (load ! (from ! (stop !)) (look ! 13 refl)) (no-more !))) (λ u.
+        use1 W (later (some (λ (f : ℕ). ((‵ (flft κ q) ⊛ ‵ ftrue) ⊛ ‵ (u8 .own f (u ∷ []))) ⊛ raw (ensured 𝓤 H A put′.ended (put′.clauses 𝓤 H A mem run) (κ, tt) (x γ, (c, tt)) tt f)))) (id⊢ 𝓤 _) $ await ! tt $ pick ! (λ f.
         -- what `put` ensures, at some last list
-        split ! $ move ! (1 ∷ []) $ use1 W (some (λ (zs : List Row × (Unit {0} × (Unit {0} × Unit {0}))). ‵ (lasts put′.ended (κ, tt) (x γ, (r .n, (c, tt))) zs) ⊛ raw (fact 𝓤 (Stored 𝓤 H A mem run W b o ys (r .n) c f (zs .0))))) (id⊢ 𝓤 _) $ pick ! (λ zs.
-        split ! $ move ! (1 ∷ []) $ heard ! (Stored 𝓤 H A mem run W b o ys (r .n) c f (zs .0)) (λ e. fsplit ! $ fsplit ! $ move ! (1 ∷ []) $ feqL ! (λ l.
+        split ! $ move ! (1 ∷ []) $ use1 W (some (λ (zs : List Row × (Unit {0} × Unit {0})). ‵ (lasts put′.ended (κ, tt) (x γ, (c, tt)) zs) ⊛ raw (fact 𝓤 (Stored 𝓤 H A mem run W b o ys c f (zs .0))))) (id⊢ 𝓤 _) $ pick ! (λ zs.
+        split ! $ move ! (1 ∷ []) $ heard ! (Stored 𝓤 H A mem run W b o ys c f (zs .0)) (λ e. fsplit ! $ fsplit ! $ move ! (1 ∷ []) $ feqL ! (λ l.
         -- [the last list; …; the token and the result; the reply's token; what the reply owns; _12; …]
         move ! (2 ∷ []) $ split ! $ move ! (1 ∷ []) $ peeks ! u8 (Is u8) (shows 𝓤 H A u8) f (u ∷ []) (λ is.
         land ! (from ! (stop !)) (init ! 10 refl (uint-lawful 𝓤 H A W w8 .typed f _ is .0)) $ drop ! $

@@ -1,11 +1,11 @@
--- How the code goes about it: the board as an array by value with a count, and a change of one row of it or of none. A reader of
--- document 01 need not believe this file.
+-- How the code goes about it: the board as an array by value with a count, one pass over it, and a row carried over a run of its places. A
+-- reader of the documents need not believe this file.
 use mathlib.Core.Path.{_≡_}
-use mathlib.Core.Bool.{not}
+use mathlib.Core.Bool.{Bool, true, false, not, _&&_, _||_}
 use mathlib.Core.List.{List, [], _∷_, _++_}
-use Prim.Native.Nat.{ℕ, _<_, _≤_}
-use lib.Dec.{eqb, ltb}
-use lib.ListN.{length, take, drop, set}
+use Prim.Native.Nat.{ℕ, zero, suc, _+_, _-_, _<_, _≤_}
+use lib.Dec.{eqb, leb, ltb}
+use lib.ListN.{length, take, drop, getD, set}
 use Rattle.frame.specs.declared.Reading.{Reading}
 use Rattle.frame.specs.declared.Reply.{Reply}
 use Rattle.frame.specs.declared.Reply.the-variants.{Read, Refused, Unreadable}
@@ -20,10 +20,12 @@ use Rattle.board.specs.declared.Row.{Row}
 use Rattle.board.specs.declared.value.Board.{Board}
 use Rattle.board.specs.declared.value.Change.{Change}
 use Rattle.board.specs.declared.value.Found.{Found}
+use Rattle.board.specs.declared.value.Search.{Search}
 use Rattle.board.specs.Gauge.{outsideBy, unmarked, atOnce}
 use Rattle.board.specs.Row.{isFree, freeRow, withReading, withFault, setsFault}
-use Rattle.board.specs.Rows.{boardOf, placeOf, onBoard, rowOf, placeFree}
-use Rattle.board.specs.Calls.{enrolNumber, enrolRows, hearNumber, hearPlace, hearRows, heardAs, findNumber, removeRows, lookedAt}
+use Rattle.board.specs.Rows.{boardOf, placeBy, placeOf, onBoard, rowOf, placeFree}
+use Rattle.board.specs.Order.{kept, inOrder}
+use Rattle.board.specs.Calls.{enrolNumber, enrolRows, hearNumber, hearPlace, hearRows, heardAs, findNumber, removeRows, lookedAt, refusedLook}
 
 -- The rows that a board by value holds.
 abbrev pub rowsOf : Board → List Row
@@ -34,38 +36,90 @@ pub record Loaded (rows : List Row) (b : Board) : Type 0 where
   pub count : b .n ≡ length (boardOf rows)
   pub held : rowsOf b ≡ boardOf rows
 
--- What a search for an address finds on a board: how many rows it has, the place of the row, which is that number where there is
--- none, the row where there is one, and where there is none the first free place.
+-- The first row that is free or has at least this address: where the address stands, or is to stand.
+abbrev pub reaches : ℕ → Row → Bool
+reaches address row = isFree row || leb address (row .address)
+
+abbrev pub placeFor : ℕ → List Row → ℕ
+placeFor address board = placeBy (reaches address) board
+
+-- What is known of the rows passed, once one more has been passed.
+abbrev pub passed : ℕ → Search → Row → Search
+passed address s row =
+    pick (isFree row) (record { used = s .used; below = s .below; least = s .least; dense = false; kept = s .kept })
+    (record {
+      used = s .used + 1;
+      below = pick (ltb (row .address) address) (s .below + 1) (s .below);
+      least = row .address + 1;
+      dense = s .dense;
+      kept = s .kept && (s .dense && leb (s .least) (row .address));
+    })
+
+-- And once all have been passed.
+unfoldable pub searched : ℕ → Search → List Row → Search
+searched address s [] = s
+searched address s (row ∷ rows) = searched address (passed address s row) rows
+
+abbrev pub unsearched : Search
+unsearched = record { used = 0; below = 0; least = 0; dense = true; kept = true }
+
+-- What was found on n rows, where `row` is the one at the place for the address.
+abbrev pub foundBy : Search → ℕ → Row → ℕ → Found
+foundBy s n row address =
+    record { at = pick (ltb (s .below) (s .used) && eqb (row .address) address) (s .below) n; n = n; row = row; free = s .used; spot = s .below; kept = s .kept }
+
+-- The places that a search names are in their order.
+pub record Bounded (f : Found) : Type 0 where
+  pub spot-free : f .spot ≤ f .free
+  pub free-few : f .free ≤ 30
+
+-- What a search for an address finds on a board: how many rows it has, and whether they are so kept. Where they are: the place of the row,
+-- which is their number where there is none, the row where there is one, the first free place, and the place for the address.
 pub record Finds (board : List Row) (address : ℕ) (f : Found) : Type 0 where
   pub count : f .n ≡ length board
-  pub place : f .at ≡ placeOf address board
-  pub there : f .at < f .n → f .row ≡ rowOf address board
-  pub vacant : f .n ≤ f .at → f .free ≡ placeFree board
-
--- The first free place among the rows passed, or n, once row i has been passed too.
-abbrev pub freeAfter : ℕ → ℕ → ℕ → Row → ℕ
-freeAfter free n i row = pick (ltb free n) free (pick (isFree row) i n)
+  pub bounds : Bounded f
+  pub order : f .kept ≡ kept board
+  pub place : kept board ≡ true → f .at ≡ placeOf address board
+  pub there : kept board ≡ true → f .at < f .n → f .row ≡ rowOf address board
+  pub vacant : kept board ≡ true → f .free ≡ placeFree board
+  pub stands : kept board ≡ true → f .spot ≡ placeFor address board
+  pub found : f .at < f .n → f .spot ≡ f .at
 
 -- How many of so many rows count.
 abbrev pub counted : ℕ → ℕ
 counted n = pick (ltb 30 n) 30 n
 
--- Row `at` of the first n becomes `row`; no row does where `at` is n or more.
-abbrev pub putIn : ℕ → ℕ → Row → List Row → List Row
-putIn n at row rows = pick (ltb at n) (set rows at row) rows
+-- A row carried over `count` places: each takes the row that comes, and hands on the one that stood in it. The places go on from `at`, where
+-- `up` is 1 and `down` 0, or back from the one before it, where `up` is 0 and `down` 1.
+unfoldable pub carry : (up down count at : ℕ) → Row → List Row → List Row
+carry up down zero at row rows = rows
+carry up down (suc count) at row rows = carry up down count (at - down + up) (getD rows (at - down) freeRow) (set rows (at - down) row)
+
+-- All of these places are among the first n.
+pub data Within (n up down count at : ℕ) : Type 0 where
+  onward : up ≡ 1 → down ≡ 0 → at + count ≤ n → Within n up down count at
+  backward : up ≡ 0 → down ≡ 1 → count ≤ at → at ≤ n → Within n up down count at
+
+-- What a change makes of rows, and that it is of the first n alone.
+abbrev pub moved : Change → List Row → List Row
+moved c rows = carry (c .up) (c .down) (c .count) (c .at) (c .row) rows
+
+abbrev pub FitsIn : ℕ → Change → Type 0
+FitsIn n c = Within n (c .up) (c .down) (c .count) (c .at)
 
 -- What a change answers, and what it makes of a board.
 pub record Changes (board : List Row) (number : ℕ) (after : List Row) (c : Change) : Type 0 where
   pub answers : c .number ≡ number
-  pub leaves : putIn (length board) (c .at) (c .row) board ≡ after
+  pub leaves : moved c board ≡ after
+  pub fits : FitsIn (length board) c
 
 -- A change of the row at a place, with the number that is answered and the place that it names.
 abbrev pub changeOf : ℕ → Row → ℕ → ℕ → Change
-changeOf at row number place = record { at = at; row = row; number = number; place = place }
+changeOf at row number place = record { at = at; count = 1; up = 1; down = 0; row = row; number = number; place = place }
 
--- A change of no row: place 30 is on no board.
+-- A change of no row.
 abbrev pub refusal : ℕ → Change
-refusal number = changeOf 30 freeRow number 0
+refusal number = record { at = 0; count = 0; up = 1; down = 0; row = freeRow; number = number; place = 0 }
 
 -- The change that a reading makes of the row at a place: 26 where its temperature is outside the row's profile.
 abbrev pub readChange : ℕ → Row → ℕ → Reading → Change
@@ -83,9 +137,9 @@ heardChange at row minute (Unreadable p) = changeOf at (withFault row 7 p) 7 p
 abbrev pub saidOf : Change → Heard
 saidOf c = heardAs (c .number) (c .place)
 
--- The change is the call's on every board of at most 30 rows on which a search for the address finds f.
+-- The change is the call's on every board on which a search for the address finds f: 38, and no row, on one not so kept.
 pub record ChangesOn (f : Found) (address : ℕ) (number : List Row → ℕ) (after : List Row → List Row) (c : Change) : Type 0 where
-  pub on : (board : List Row) → length board ≤ 30 → Finds board address f → Changes board (number board) (after board) c
+  pub on : (board : List Row) → Finds board address f → Changes board (inOrder board (number board) 38) (inOrder board (after board) board) c
 
 abbrev pub EnrolsOn : Found → (settings address gauge : ℕ) → Change → Type 0
 EnrolsOn f settings address gauge =
@@ -94,14 +148,14 @@ EnrolsOn f settings address gauge =
 -- Of a hearing the change names the place too.
 pub record HearsOn (f : Found) (minute address count : ℕ) (reply : List ℕ) (c : Change) : Type 0 where
   pub changes : ChangesOn f address (λ board. hearNumber board address count reply) (λ board. hearRows board minute address count reply) c
-  pub names : (board : List Row) → length board ≤ 30 → Finds board address f → c .place ≡ hearPlace board address count reply
+  pub names : (board : List Row) → Finds board address f → c .place ≡ inOrder board (hearPlace board address count reply) 0
 
 abbrev pub RemovesOn : Found → ℕ → Change → Type 0
 RemovesOn f address = ChangesOn f address (λ board. findNumber board address) (λ board. removeRows board address)
 
 -- The answer is that of looking, on every such board.
 pub record LooksOn (f : Found) (address : ℕ) (answer : Looked) : Type 0 where
-  pub on : (board : List Row) → Finds board address f → answer ≡ lookedAt board address
+  pub on : (board : List Row) → Finds board address f → answer ≡ inOrder board (lookedAt board address) (refusedLook 38)
 
 -- Whether a row may be polled so: 11, 17, 28, and 0 where it may.
 unfoldable pub mayPoll : List Row → (address raise reset : ℕ) → ℕ
@@ -115,7 +169,7 @@ mayPoll board address raise reset =
     ∷ [])
 
 pub record MayPollOn (f : Found) (address raise reset : ℕ) (number : ℕ) : Type 0 where
-  pub on : (board : List Row) → Finds board address f → number ≡ mayPoll board address raise reset
+  pub on : (board : List Row) → Finds board address f → number ≡ inOrder board (mayPoll board address raise reset) 38
 
 -- A number that was answered already, or what writing the poll answers.
 abbrev pub orPoll : (number address : ℕ) → List ℕ → ℕ

@@ -1,0 +1,17 @@
+-- `board::value::below_after` meets its contract, test by test.
+use borrow.Author.Needs.{needs}
+use borrow.Author.Tests.{lt-ltb, le-ltb}
+use Rattle.board.proofs.value.below_after.Statement.{statement}
+use Rattle.board.proofs.value.below_after.Tie as tie
+
+add-result : tie.Need-add-result
+add-result c = search needs
+
+returns : tie.Need-returns
+returns c = simp (lt-ltb _ _ (c .if1 .taken))
+
+returns-2 : tie.Need-returns-2
+returns-2 c = simp (le-ltb _ _ (c .if1 .left))
+
+pub below-after-spec : {M : Type 1} → statement M
+below-after-spec = tie.close (tie.spec add-result returns returns-2)

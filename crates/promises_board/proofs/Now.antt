@@ -1,0 +1,175 @@
+-- Today's calls, from the promises of the board as it was: of rows so kept a hearing, a look and a poll have the outcome that they had, and an enrolment and a
+-- removal leave the same rows in use, so that a look tells the same after them; rows not so kept are refused by 38 and stay.
+use mathlib.Core.Path.{_≡_, refl, sym, _∙_, ap, subst}
+use mathlib.Core.Bool.{Bool, true, false}
+use mathlib.Core.List.{List, _++_}
+use Prim.Native.Nat.{ℕ, _<_, _≤_}
+use native.Mathlib.Omega.{arith}
+use lib.Dec.{eqb}
+use lib.ListN.{take-append-drop}
+use Rattle.frame.specs.Pick.{pick}
+use Rattle.board.specs.declared.Heard.{Heard}
+use Rattle.board.specs.declared.Looked.{Looked}
+use Rattle.board.specs.declared.Row.{Row}
+use Rattle.board.specs.Row.{newRow, setsFault}
+use Rattle.board.specs.Rows.{boardOf, beyond}
+use Rattle.board.specs.Order.{kept, insertRow, withoutRow}
+use Rattle.board.specs.Calls.{Enrols, Hears, Removes, LooksUp, PollsRow, heardAs, refusedLook, enrolNumber, enrolRows, findNumber, removeRows, lookedAt}
+use Rattle.board.proofs.Order.{neither}
+use Rattle.board.proofs.Numbers.{enrol-10, enrol-11, enrol-27, enrol-18, enrol-19, enrol-0, find-11, find-17, find-0}
+use Rattle.promises_order.specs.OldBoard.{OldEnrols, OldRemoves, OldLooksUp, oldEnrolRows, oldRemoveRows}
+use Rattle.promises_order.specs.Order.{SoKept, SameInUse}
+use Rattle.promises_order.proofs.Held.{row-of, on-held, first, some}
+use Rattle.promises_order.proofs.SoKept.{so-kept, kept-so}
+use Rattle.promises_order.proofs.Boards.{same-looked}
+use Rattle.promises_order.proofs.Order.{in-order, board-order}
+use Rattle.promises_board.specs.Readings.{BoardReadings}
+use Rattle.promises_board.specs.Now.{EnrolNow, RemoveNow, BoardCallsNow}
+use Rattle.promises_board.proofs.Places.{row-on, unknown-off, free-on, none-free}
+use Rattle.promises_board.proofs.Calls.{board-calls}
+use Rattle.promises_board.proofs.Readings.{board-readings}
+
+-- Rows are so kept or not.
+by-order : {A : Type 0} (rows : List Row) → (SoKept rows → A) → ((SoKept rows → ⊥) → A) → A
+by-order {A} rows f g = go (kept (boardOf rows)) refl
+  where
+    go : (t : Bool) → kept (boardOf rows) ≡ t → A
+    go true k = f (so-kept rows k)
+    go false k = g (λ so. neither (kept-so rows so) k)
+
+not-set : setsFault 38 ≡ false
+unfolding setsFault
+not-set = refl
+
+-- A call that answered another number than 38 was of rows so kept.
+hear-so : (rows : List Row) (minute address count n place : ℕ) (reply : List ℕ) (after : List Row) → (n ≡ 38 → ⊥) → Hears rows minute address count reply (heardAs n place) after → SoKept rows
+hear-so rows minute address count n place reply after ne e =
+    by-order rows (λ so. so) (λ none. absurd (ne (ap (λ (h : Heard). h .number) (board-order .hear-38 rows minute address count reply (heardAs n place) after none e .0))))
+
+enrol-so : (rows : List Row) (settings address gauge : ℕ) (after : List Row) → Enrols rows settings address gauge 0 after → SoKept rows
+enrol-so rows settings address gauge after e =
+    by-order rows (λ so. so) (λ none. let z : _≡_ {A = ℕ} 0 38 = board-order .enrol-38 rows settings address gauge 0 after none e .0 in absurd (omega arith))
+
+-- A look after rows have moved is that of the rows as they would have stood.
+look-moved : (before after : List Row) (address : ℕ) (told : Looked) → SameInUse before after → SoKept after → LooksUp after address told → OldLooksUp before address told
+look-moved before after address told same so e =
+    record {
+      answers = board-order .look-up-as-before after address told so e .answers
+          ∙ sym (same-looked (boardOf before) (boardOf after) address (on-held address (boardOf before) ∙ ap some (same address) ∙ sym (on-held address (boardOf after))) (row-of address (boardOf before) ∙ ap first (same address) ∙ sym (row-of address (boardOf after))));
+    }
+
+-- Rows not so kept and left as they are: both looks are refused by 38.
+both-38 : (rows after : List Row) (address : ℕ) (before told : Looked) → (SoKept rows → ⊥) → after ≡ rows → LooksUp rows address before → LooksUp after address told → told ≡ before
+both-38 rows after address before told none is e f =
+    board-order .look-up-38 after address told (λ so. none (subst SoKept is so)) f ∙ sym (board-order .look-up-38 rows address before none e)
+
+module _ (rows : List Row) (settings address gauge : ℕ) where
+  -- what an enrolment left of the old board
+  abbrev enrolled-before : List Row
+  enrolled-before = oldEnrolRows (boardOf rows) settings address gauge ++ beyond rows
+
+  enrols-before : OldEnrols rows settings address gauge (enrolNumber (boardOf rows) settings address gauge) enrolled-before
+  enrols-before = record { answers = refl; leaves = refl }
+
+module _ (rows : List Row) (address : ℕ) where
+  abbrev removed-before : List Row
+  removed-before = oldRemoveRows (boardOf rows) address ++ beyond rows
+
+  removes-before : OldRemoves rows address (findNumber (boardOf rows) address) removed-before
+  removes-before = record { answers = refl; leaves = refl }
+
+pub readings-now : BoardReadings Enrols Hears Removes LooksUp
+readings-now =
+    record {
+      heard = λ rows after minute address count place reply told hears looks.
+          let so = hear-so rows minute address count 0 place reply after (λ z. omega arith) hears in
+          let later = board-order .hear-keeps rows minute address count reply (heardAs 0 place) after so hears in
+          board-readings .heard rows after minute address count place reply told (board-order .hear-as-before rows minute address count reply (heardAs 0 place) after so hears) (board-order .look-up-as-before after address told later looks);
+      accepted = λ rows after minute address count place reply told hears looks.
+          let so = hear-so rows minute address count 0 place reply after (λ z. omega arith) hears in
+          let later = board-order .hear-keeps rows minute address count reply (heardAs 0 place) after so hears in
+          board-readings .accepted rows after minute address count place reply told (board-order .hear-as-before rows minute address count reply (heardAs 0 place) after so hears) (board-order .look-up-as-before after address told later looks);
+      kept = λ rows after minute address count fault place reply before told sets looked hears looks.
+          let so = hear-so rows minute address count fault place reply after (λ z. neither sets (ap setsFault z ∙ not-set)) hears in
+          let later = board-order .hear-keeps rows minute address count reply (heardAs fault place) after so hears in
+          board-readings .kept rows after minute address count fault place reply before told sets (board-order .look-up-as-before rows address before so looked) (board-order .hear-as-before rows minute address count reply (heardAs fault place) after so hears) (board-order .look-up-as-before after address told later looks);
+      started = λ rows after settings address gauge told enrols looks.
+          let so = enrol-so rows settings address gauge after enrols in
+          let later = board-order .enrol-keeps rows settings address gauge 0 after so enrols in
+          let was = board-order .enrol-as-before rows settings address gauge (enrolNumber (boardOf rows) settings address gauge) 0 (enrolled-before rows settings address gauge) after so (enrols-before rows settings address gauge) enrols in
+          board-readings .started rows (enrolled-before rows settings address gauge) settings address gauge told
+          (subst (λ (n : ℕ). OldEnrols rows settings address gauge n (enrolled-before rows settings address gauge)) (was .0) (enrols-before rows settings address gauge))
+          (look-moved (enrolled-before rows settings address gauge) after address told (was .1) later looks);
+      hear-apart = λ rows after minute address other count reply answer before told ne looked hears looks.
+          by-order rows
+          (λ so. board-readings .hear-apart rows after minute address other count reply answer before told ne (board-order .look-up-as-before rows address before so looked) (board-order .hear-as-before rows minute other count reply answer after so hears)
+          (board-order .look-up-as-before after address told (board-order .hear-keeps rows minute other count reply answer after so hears) looks))
+          (λ none. both-38 rows after address before told none (board-order .hear-38 rows minute other count reply answer after none hears .1) looked looks);
+      enrol-apart = λ rows after settings address gauge other answer before told ne looked enrols looks.
+          by-order rows
+          (λ so.
+          let was = board-order .enrol-as-before rows settings other gauge (enrolNumber (boardOf rows) settings other gauge) answer (enrolled-before rows settings other gauge) after so (enrols-before rows settings other gauge) enrols in
+          board-readings .enrol-apart rows (enrolled-before rows settings other gauge) settings address gauge other (enrolNumber (boardOf rows) settings other gauge) before told ne (board-order .look-up-as-before rows address before so looked) (enrols-before rows settings other gauge)
+          (look-moved (enrolled-before rows settings other gauge) after address told (was .1) (board-order .enrol-keeps rows settings other gauge answer after so enrols) looks))
+          (λ none. both-38 rows after address before told none (board-order .enrol-38 rows settings other gauge answer after none enrols .1) looked looks);
+      remove-apart = λ rows after address other answer before told ne looked removes looks.
+          by-order rows
+          (λ so.
+          let was = board-order .remove-as-before rows other (findNumber (boardOf rows) other) answer (removed-before rows other) after so (removes-before rows other) removes in
+          board-readings .remove-apart rows (removed-before rows other) address other (findNumber (boardOf rows) other) before told ne (board-order .look-up-as-before rows address before so looked) (removes-before rows other)
+          (look-moved (removed-before rows other) after address told (was .1) (board-order .remove-keeps rows other answer after so removes) looks))
+          (λ none. both-38 rows after address before told none (board-order .remove-38 rows other answer after none removes .1) looked looks);
+    }
+
+-- The cases of an enrolment and of a removal: the number is the one that was asked, and beside a refusal the board is left.
+module _ (rows : List Row) (so : SoKept rows) where
+  k : kept (boardOf rows) ≡ true
+  k = kept-so rows so
+
+  left : (now after : List Row) → now ≡ boardOf rows → after ≡ pick (kept (boardOf rows)) now (boardOf rows) ++ beyond rows → after ≡ rows
+  left now after is e = e ∙ ap (λ (zs : List Row). zs ++ beyond rows) (in-order (boardOf rows) now (boardOf rows) k ∙ is) ∙ take-append-drop 30 rows
+
+  module _ (settings address gauge answer : ℕ) (after : List Row) (e : Enrols rows settings address gauge answer after) where
+    number : answer ≡ enrolNumber (boardOf rows) settings address gauge
+    number = e .answers ∙ in-order (boardOf rows) (enrolNumber (boardOf rows) settings address gauge) 38 k
+
+    refused : (n : ℕ) → eqb n 0 ≡ false → enrolNumber (boardOf rows) settings address gauge ≡ n → (answer ≡ n) × (after ≡ rows)
+    unfolding enrolRows
+    refused n z is = (number ∙ is, left (enrolRows (boardOf rows) settings address gauge) after (ap (λ (m : ℕ). pick (eqb m 0) (insertRow (newRow settings address gauge) (boardOf rows)) (boardOf rows)) is ∙ ap (λ (t : Bool). pick t (insertRow (newRow settings address gauge) (boardOf rows)) (boardOf rows)) z) (e .leaves))
+
+    enrol-now : EnrolNow rows settings address gauge answer after
+    enrol-now =
+        record {
+          bad-settings = λ s. refused 10 refl (enrol-10 (boardOf rows) settings address gauge s);
+          bad-address = λ s a. refused 11 refl (enrol-11 (boardOf rows) settings address gauge s a);
+          misplaced = λ s a m. refused 27 refl (enrol-27 (boardOf rows) settings address gauge s a m);
+          twice = λ s a m i p. refused 18 refl (enrol-18 (boardOf rows) settings address gauge s a m (row-on rows address i p));
+          no-row = λ s a m u f. refused 19 refl (enrol-19 (boardOf rows) settings address gauge s a m (unknown-off rows address u) (none-free rows f));
+          enrolled = λ s a m u i p. number ∙ enrol-0 (boardOf rows) settings address gauge s a m (unknown-off rows address u) (free-on rows i p);
+        }
+
+  module _ (address answer : ℕ) (after : List Row) (e : Removes rows address answer after) where
+    found : answer ≡ findNumber (boardOf rows) address
+    found = e .answers ∙ in-order (boardOf rows) (findNumber (boardOf rows) address) 38 k
+
+    not-found : (n : ℕ) → eqb n 0 ≡ false → findNumber (boardOf rows) address ≡ n → (answer ≡ n) × (after ≡ rows)
+    unfolding removeRows
+    not-found n z is = (found ∙ is, left (removeRows (boardOf rows) address) after (ap (λ (m : ℕ). pick (eqb m 0) (withoutRow address (boardOf rows)) (boardOf rows)) is ∙ ap (λ (t : Bool). pick t (withoutRow address (boardOf rows)) (boardOf rows)) z) (e .leaves))
+
+    remove-now : RemoveNow rows address answer after
+    remove-now =
+        record {
+          bad-address = λ a. not-found 11 refl (find-11 (boardOf rows) address a);
+          unknown = λ a u. not-found 17 refl (find-17 (boardOf rows) address a (unknown-off rows address u));
+          removed = λ a i p. found ∙ find-0 (boardOf rows) address a (row-on rows address i p);
+        }
+
+pub calls-now : BoardCallsNow
+calls-now =
+    record {
+      enrol = λ rows settings address gauge answer after so e. enrol-now rows so settings address gauge answer after e;
+      hear = λ rows minute address count reply answer after so e. board-calls .hear rows minute address count reply answer after (board-order .hear-as-before rows minute address count reply answer after so e);
+      remove = λ rows address answer after so e. remove-now rows so address answer after e;
+      look-up = λ rows address answer so e. board-calls .look-up rows address answer (board-order .look-up-as-before rows address answer so e);
+      poll = λ rows address raise reset out answer after so e. board-calls .poll rows address raise reset out answer after (board-order .poll-as-before rows address raise reset out answer after so e);
+    }
