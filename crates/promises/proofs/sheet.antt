@@ -1,8 +1,4 @@
--- Where stores go, the slot that a save takes, the last used slot, one save, and what becomes of it.
-pub mod StorePlaces
-pub mod TakenSlot
-pub mod LastUsedSlot
-pub mod SaveMade
+-- What becomes of one save.
 pub mod Fates
 -- The promises.
 pub mod OneSave

@@ -19,7 +19,8 @@ use Rattle.sheet.specs.Save.{saveFault, storesMade}
 use Rattle.promises_frame.proofs.Cases.{by-lt}
 use Rattle.promises.specs.sheet.History.{Save, History, begun, saved, blankSheet, allStores}
 use Rattle.promises.specs.sheet.SlotsInOrder.{hasSlot, slotOfSave, slotsOfSaves}
-use Rattle.promises.proofs.sheet.Fates.{Fate, refused, idle, broken, closed, fate, clear-fault}
+use Rattle.sheet.proofs.Refusals.{clear-fault}
+use Rattle.promises.proofs.sheet.Fates.{Fate, refused, idle, broken, closed, fate}
 use Rattle.promises.proofs.sheet.ListAndFull.{slots-of, long-so, sized}
 use Rattle.promises.proofs.sheet.SlotsInOrder.{fills}
 use Rattle.promises_way.specs.Recording.{entryFor}

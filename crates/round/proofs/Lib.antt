@@ -2,3 +2,4 @@
 pub mod Turns
 pub mod Trying
 pub mod Lent
+pub mod Counting

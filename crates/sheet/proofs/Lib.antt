@@ -10,3 +10,8 @@ pub mod LastUsed
 pub mod Records
 pub mod Storing
 pub mod Refusals
+-- Where stores go, the slot that a save takes, the last used slot, and one save.
+pub mod StorePlaces
+pub mod TakenSlot
+pub mod LastUsedSlot
+pub mod SaveMade

@@ -1,5 +1,6 @@
 // The month sheet: records of polls kept in slots of 32 bytes, on a sheet that the caller lends. Its public calls are `save` and `look`.
 mod bytes;
+pub mod into;
 mod next;
 mod record;
 mod slot;
@@ -7,9 +8,9 @@ mod stores;
 pub mod view;
 mod words;
 
+use into::put_into;
 use next::next_slot;
 use record::check;
-use stores::make_stores;
 ghost use mathlib.Core.Path.{_≡_};
 ghost use Rattle.sheet.specs.Record.{entryOf};
 ghost use Rattle.sheet.specs.Slots.{lengthAllowed};
@@ -73,14 +74,11 @@ pub fn save(
         return Saved::Refused(fault);
     }
     let next = next_slot(sheet);
-    if sheet.len() / 32 <= next {
-        return Saved::Refused(13);
-    }
     let head = Head {
         settings: settings,
         minute: minute,
         address: address,
         count: count,
     };
-    Saved::Stores(make_stores(sheet, 32 * next, head, reply, allowance))
+    put_into(sheet, next, head, reply, allowance)
 }

@@ -21,10 +21,11 @@ use Rattle.sheet.specs.Save.{saveFault, savedNumber, storesMade}
 use Rattle.sheet.proofs.Refusals.{save-fault}
 use Rattle.promises.specs.sheet.History.{Save, Takes, History, begun, saved, blankSheet, allStores, isClosed, countOf, closedIn, brokenIn, recordsOf}
 use Rattle.promises.specs.sheet.ListAndFull.{slotLeft, covered, Begins, ListAndFull}
-use Rattle.promises.proofs.sheet.TakenSlot.{drop-replicate}
-use Rattle.promises.proofs.sheet.LastUsedSlot.{BlankFrom, next-le, list-blank}
-use Rattle.promises.proofs.sheet.SaveMade as made-law
-use Rattle.promises.proofs.sheet.Fates.{Clear, clear-fault, Fate, refused, idle, broken, closed, fate}
+use Rattle.sheet.proofs.TakenSlot.{drop-replicate}
+use Rattle.sheet.proofs.LastUsedSlot.{BlankFrom, next-le, list-blank}
+use Rattle.sheet.proofs.SaveMade as made-law
+use Rattle.sheet.proofs.Refusals.{Clear, clear-fault}
+use Rattle.promises.proofs.sheet.Fates.{Fate, refused, idle, broken, closed, fate}
 use Rattle.promises.proofs.sheet.OneSave.{one-save}
 
 -- What a save counts as, by the stores that it made.

@@ -22,13 +22,14 @@ use Rattle.sheet.specs.Save.{saveFault, Saves, savedNumber, storesMade}
 use Rattle.sheet.proofs.Storing.{stores-length, store-at, made-length}
 use Rattle.promises.specs.sheet.History.{Save, Takes, allStores}
 use Rattle.promises.specs.sheet.OneSave.{storesOf, nth, Count, Next, OneSave}
-use Rattle.promises.proofs.sheet.StorePlaces.{Places, places-take, places-at, places-all, Between, stores-between, made-keeps, made-stored}
-use Rattle.promises.proofs.sheet.TakenSlot.{blank-is, good-short, version-made}
-use Rattle.promises.proofs.sheet.LastUsedSlot.{next-le, next-blank, next-used}
-use Rattle.promises.proofs.sheet.SaveMade as made-law
+use Rattle.sheet.proofs.StorePlaces.{Places, places-take, places-at, places-all, Between, stores-between, made-keeps, made-stored}
+use Rattle.sheet.proofs.TakenSlot.{blank-is, good-short, version-made}
+use Rattle.sheet.proofs.LastUsedSlot.{next-le, next-blank, next-used}
+use Rattle.sheet.proofs.SaveMade as made-law
 use Rattle.sheet.proofs.SlotParts.{slot-long}
-use Rattle.promises.proofs.sheet.SaveMade.{slot-byte}
-use Rattle.promises.proofs.sheet.Fates.{Clear, clear, Fate, refused, idle, broken, closed, fate}
+use Rattle.sheet.proofs.SaveMade.{slot-byte}
+use Rattle.sheet.proofs.Refusals.{Clear, clear}
+use Rattle.promises.proofs.sheet.Fates.{Fate, refused, idle, broken, closed, fate}
 
 -- Two stores of one record go to two places.
 apart : (at size j k : ℕ) → j < k → k < size + 2 → at + turnOf size j ≢ at + turnOf size k

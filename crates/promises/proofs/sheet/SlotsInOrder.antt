@@ -17,8 +17,8 @@ use Rattle.sheet.specs.Save.{storesMade}
 use Rattle.promises_frame.proofs.Cases.{by-lt}
 use Rattle.promises.specs.sheet.History.{Save, Takes, History, begun, saved, blankSheet, allStores}
 use Rattle.promises.specs.sheet.SlotsInOrder.{hasSlot, slotOfSave, slotsOfSaves, SlotsInOrder}
-use Rattle.promises.proofs.sheet.LastUsedSlot.{next-le}
-use Rattle.promises.proofs.sheet.SaveMade as made-law
+use Rattle.sheet.proofs.LastUsedSlot.{next-le}
+use Rattle.sheet.proofs.SaveMade as made-law
 use Rattle.promises.proofs.sheet.Fates.{Fate, refused, idle, broken, closed, fate}
 use Rattle.promises.proofs.sheet.OneSave.{one-save}
 use Rattle.promises.proofs.sheet.ListAndFull.{blank-slots, next-first, slots-of, long-so}

@@ -24,8 +24,8 @@ use Rattle.summary.proofs.Shaped.{handed-worked}
 use Rattle.promises.specs.summary.Chain.{Step, Goes, Chain}
 use Rattle.promises.specs.summary.Chain as chain
 use Rattle.promises.specs.summary.AtAnyMoment.{AtAnyMoment}
-use Rattle.promises.proofs.sheet.SaveMade as made-law
-use Rattle.promises.proofs.sheet.Fates.{Clear, clear}
+use Rattle.sheet.proofs.SaveMade as made-law
+use Rattle.sheet.proofs.Refusals.{Clear, clear}
 use Rattle.promises.proofs.summary.Kept.{Became, summary-bad, save-bad, closed, short, became, save-number}
 
 -- the list after a save that was made

@@ -1,38 +1,16 @@
--- `sheet::save` meets its contract: each return is one case of the law `save-fault`, which gives the number by the sheet's size, the record's checks
+-- `sheet::save` meets its contract: each return is one case of the law `into-fault`, which gives the number by the sheet's size, the record's checks
 -- and whether a slot is left. Assumes nothing.
 use mathlib.Core.Path.{_≡_, refl, sym, ap, _∙_}
 use mathlib.Core.Bool.{true, false}
-use mathlib.Core.List.{List}
-use Prim.Native.Nat.{ℕ, _≤_, _<_, _*_}
-use native.Mathlib.Omega.{arith}
+use Prim.Native.Nat.{ℕ}
 use borrow.Author.Needs.{needs}
-use borrow.Author.Tests.{eq-eqb, ne-eqb, le-leb, lt-leb, not-true, not-false}
+use borrow.Author.Tests.{eq-eqb, ne-eqb, not-true, not-false}
 use lib.Dec.{eqb}
-use lib.ListN.{take}
-use Rattle.frame.specs.Faults.{firstOf}
-use Rattle.sheet.specs.declared.Saved.the-variants.{Stores}
-use Rattle.sheet.specs.Record.{Entry, entryOf, checks, passes}
-use Rattle.sheet.specs.Slots.{sizeAllowed, slots, next}
-use Rattle.sheet.specs.Stores.{made, stores, after}
-use Rattle.sheet.specs.Save.{saveFault}
-use Rattle.sheet.proofs.Records.{passes-formed, formed-few}
-use Rattle.sheet.proofs.Refusals.{save-fault, refuses, makes}
+use Rattle.sheet.specs.Record.{Entry, entryOf, passes}
+use Rattle.sheet.specs.Slots.{sizeAllowed, next}
+use Rattle.sheet.proofs.Refusals.{wrong-size, fails, into-refuses, into-saves, told-saves}
 use Rattle.sheet.proofs.save.Statement.{statement}
 use Rattle.sheet.proofs.save.Tie as tie
-
--- the four ends
-module _ (s : List ℕ) (e : Entry) where
-  wrong-size : sizeAllowed s ≡ false → saveFault s e ≡ 12
-  wrong-size h = save-fault s e ∙ simp h
-
-  fails : sizeAllowed s ≡ true → passes e ≡ false → saveFault s e ≡ firstOf (checks e)
-  fails h p = save-fault s e ∙ simp (h, p)
-
-  full : sizeAllowed s ≡ true → passes e ≡ true → slots s ≤ next s → saveFault s e ≡ 13
-  full h p f = save-fault s e ∙ simp (h, p, le-leb (slots s) (next s) f)
-
-  room : sizeAllowed s ≡ true → passes e ≡ true → next s < slots s → saveFault s e ≡ 0
-  room h p f = save-fault s e ∙ simp (h, p, lt-leb (slots s) (next s) f)
 
 -- what the call was handed
 abbrev entry : tie.Start → Entry
@@ -54,7 +32,8 @@ returns c =
     let a = c .before .before .before .before in
     let wrong : sizeAllowed (a .args .sheet .now) ≡ false =
     sym (c .before .size-allowed .ensures) ∙ not-true (c .before .size-allowed .result) (c .if1 .taken) in
-    refuses (a .args .sheet .now) (entry a) (a .args .allowance) 12 (wrong-size (a .args .sheet .now) (entry a) wrong) refl
+    let s = a .args .sheet .now in
+    into-saves s (entry a) (a .args .allowance) _ s (into-refuses s (next s) (entry a) (a .args .allowance) 12 (wrong-size s (next s) (entry a) wrong) refl)
 
 check-requires : tie.Need-check-requires
 check-requires c κs = search needs
@@ -63,50 +42,31 @@ returns-2 : tie.Need-returns-2
 unfolding passes
 returns-2 c =
     let a = c .before .before .before .before .before .before in
+    let s = a .args .sheet .now in
     let no : eqb (c .before .check .result) 0 ≡ false = ne-eqb _ _ (c .if2 .taken) in
     let bad : passes (entry a) ≡ false = ap (λ (n : ℕ). eqb n 0) (sym (c .before .check .ensures)) ∙ no in
-    refuses (a .args .sheet .now) (entry a) (a .args .allowance) (c .before .check .result)
-    (fails (a .args .sheet .now) (entry a) (sized (c .before .before)) bad ∙ sym (c .before .check .ensures)) no
+    into-saves s (entry a) (a .args .allowance) _ s
+    (into-refuses s (next s) (entry a) (a .args .allowance) (c .before .check .result)
+    (fails s (next s) (entry a) (sized (c .before .before)) bad ∙ sym (c .before .check .ensures)) no)
 
 next-slot-requires : tie.Need-next-slot-requires
 next-slot-requires c κs = search needs
+
+put-into-requires : tie.Need-put-into-requires
+put-into-requires c κs =
+    let b = c .before .before .before in
+    (sized (b .before .before), good b)
 
 same-length : tie.Need-same-length
 same-length c = search needs
 
 returns-3 : tie.Need-returns-3
 returns-3 c =
-    let b = c .before .before .before in
-    let a = b .before .before .before .before .before .before in
-    let none : slots (a .args .sheet .now) ≤ next (a .args .sheet .now) = omega (arith, c .before .next-slot .ensures) in
-    refuses (a .args .sheet .now) (entry a) (a .args .allowance) 13 (full (a .args .sheet .now) (entry a) (sized (b .before .before)) (good b) none)
-    refl
-
-mul-make-stores : tie.Need-mul-make-stores
-mul-make-stores c = search needs
-
-make-stores-requires : tie.Need-make-stores-requires
-make-stores-requires c κs =
-    let b = c .before .before .before .before in
-    let a = b .before .before .before .before .before .before in
-    let few = formed-few (a .args .count) (a .args .reply .now) (passes-formed (entry a) (good b)) in
-    (omega arith, (few .0, omega arith))
-
-same-length-2 : tie.Need-same-length-2
-same-length-2 c = search needs
-
-returns-4 : tie.Need-returns-4
-unfolding after
-returns-4 c =
     let d = c .before .before in
-    let n = d .before .before .before in
-    let b = n .before .before in
-    let a = b .before .before .before .before .before .before in
-    let left : next (a .args .sheet .now) < slots (a .args .sheet .now) = omega (arith, n .next-slot .ensures) in
-    let own =
-    makes (a .args .sheet .now) (entry a) (a .args .allowance) (room (a .args .sheet .now) (entry a) (sized (b .before .before)) (good b) left) in
-    let there = ap (λ (k : ℕ). made (a .args .sheet .now) (take (a .args .allowance) (stores (32 * k) (entry a)))) (n .next-slot .ensures) in
-    record { answers = ap Stores (d .make-stores .ensures .answers) ∙ own .answers; leaves = d .make-stores .ensures .leaves ∙ there ∙ own .leaves }
+    let n = d .before .before in
+    let a = n .before .before .before .before .before .before .before .before in
+    told-saves (a .args .sheet .now) (n .next-slot .result) (entry a) (a .args .allowance) (d .put-into .result) (d .put-into .last .0)
+    (n .next-slot .ensures) (d .put-into .ensures)
 
 pub save-spec : {M : Type 1} → statement M
 save-spec =
@@ -117,9 +77,6 @@ save-spec =
     check-requires
     returns-2
     next-slot-requires
+    put-into-requires
     same-length
-    returns-3
-    mul-make-stores
-    make-stores-requires
-    same-length-2
-    returns-4)
+    returns-3)

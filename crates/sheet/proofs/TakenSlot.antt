@@ -12,16 +12,16 @@ use lib.Dec.{eqb}
 use lib.ListN.{length, getD, take, drop, replicate, set, length-append, getD-replicate}
 use lib.Seq.{sets, sets-eq, take-append-le, take-at}
 use Rattle.frame.specs.Line.{bytesFor}
 use Rattle.sheet.specs.Bytes.{FF, allBlank, same}
 use Rattle.sheet.specs.Record.{Entry, passes, bodyOf, lengthOf, lengthBytes, recordOf, picture, fieldsOf, isRecord}
 use Rattle.sheet.specs.Slots.{spoiled, holds, slotOf}
 use Rattle.sheet.specs.Stores.{Store, _puts_, made, ascending, stores}
 use Rattle.sheet.proofs.Numbers.{number-back}
 use Rattle.sheet.proofs.Same.{same-self}
 use Rattle.sheet.proofs.Records.{passes-all, passes-formed, formed-few}
 use Rattle.sheet.proofs.Storing.{made-append, made-length, ascending-length}
-use Rattle.promises_frame.proofs.Cases.{both}
-use Rattle.promises.proofs.sheet.StorePlaces.{Places, places-take, places-append, places-weaker, Between, ascending-between, made-keeps}
+use Rattle.frame.proofs.Both.{both-left, both-right}
+use Rattle.sheet.proofs.StorePlaces.{Places, places-take, places-append, places-weaker, Between, ascending-between, made-keeps}
 
 -- A blank slot.
 abbrev pub blankSlot : List ℕ
@@ -31,8 +31,7 @@ pub blank-is : (x : List ℕ) → allBlank x ≡ true → x ≡ replicate (lengt
 unfolding allBlank
 blank-is [] h = refl
 blank-is (b ∷ bs) h =
-    let each = both (eqb b FF) (allBlank bs) h in
-    λ i. eqb-true b FF (each .0) i ∷ blank-is bs (each .1) i
+    λ i. eqb-true b FF (both-left (eqb b FF) (allBlank bs) h) i ∷ blank-is bs (both-right (eqb b FF) (allBlank bs) h) i
 
 -- A row with a byte other than FF is not blank.
 pub not-blank : (x : List ℕ) (i : ℕ) → i < length x → getD x i 0 ≢ FF → allBlank x ≡ false
