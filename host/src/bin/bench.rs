@@ -78,6 +78,10 @@ fn print_table(
     benchmarks.modes(&mut tell);
     benchmarks.summaries(&mut tell);
     benchmarks.joins(&mut tell);
+    benchmarks.rounds(&mut tell);
+    benchmarks.lines(&mut tell);
+    benchmarks.items(&mut tell);
+    benchmarks.areas(&mut tell);
 }
 
 #[cfg(not(target_arch = "x86_64"))]
