@@ -186,8 +186,8 @@ struct sisal_reply {
     uint8_t alarm1; /* 0 or 1: alarm 1 (reference 2) */
     uint8_t alarm0; /* 0 or 1: alarm 0 (reference 1) */
     uint8_t number;
-    uint8_t place; /* beside number 7 the first digit in no chart, counted from 0 at the top (1 to 4, since every first digit has all
-                      codes); else 0 */
+    uint8_t place; /* beside number 7 the first digit in no chart, counted from 0 at the top: 1 or 2 in mode 0, 1 to 3 in mode 1, 1 to 4
+                      in modes 2 and 3, since every first digit and the sixteenths have all codes; else 0 */
 };
 
 /* A write, a save or a count that was made. */
