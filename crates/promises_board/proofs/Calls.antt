@@ -1,5 +1,6 @@
--- The board's calls keep their promises: in each case the tests of document 01 give the number, the number gives what is left of the board, and the
--- row that was searched for is the row of the case.
+-- A hearing, a look and a row's poll keep their promises, of the board as it was: in each case the tests of document 01 give the number, the number gives
+-- what is left of the board, and the row that was searched for is the row of the case. Today's calls are in `Now`; that each of the five has one outcome
+-- is read off its record.
 use mathlib.Core.Path.{_≡_, refl, sym, _∙_, ap, subst}
 use mathlib.Core.Bool.{Bool, true, false, not, _&&_, _||_}
 use mathlib.Core.List.{List, _++_}
@@ -21,23 +22,23 @@ use Rattle.board.specs.declared.Heard.{Heard}
 use Rattle.board.specs.declared.Looked.{Looked}
 use Rattle.board.specs.declared.Row.{Row}
 use Rattle.board.specs.Gauge.{is6500, outsideBy, unmarked, atOnce}
-use Rattle.board.specs.Row.{freeRow, newRow, withReading, withFault, setsFault, heardAt}
-use Rattle.board.specs.Rows.{boardOf, beyond, placeOf, placeFree, rowOf}
-use Rattle.board.specs.Calls.{heardAs, enrolNumber, outsideAt, hearNumber, hearPlace, findNumber, told, rowPollBytes}
-use Rattle.promises_order.specs.OldBoard.{OldEnrols as Enrols, OldHears as Hears, OldRemoves as Removes, OldLooksUp as LooksUp, OldPollsRow as PollsRow}
+use Rattle.board.specs.Row.{withReading, withFault, setsFault, heardAt}
+use Rattle.board.specs.Rows.{boardOf, beyond, placeOf, rowOf}
+use Rattle.board.specs.Calls.{heardAs, outsideAt, hearNumber, hearPlace, told, rowPollBytes}
+use Rattle.promises_order.specs.OldBoard.{OldHears as Hears, OldLooksUp as LooksUp, OldPollsRow as PollsRow}
 use Rattle.board.specs.inside.ByValue.{mayPoll, orPoll}
 use Rattle.board.proofs.Faults.{sets-by, sets-7, sets-26, not-10, not-11, not-14, not-17}
-use Rattle.board.proofs.Numbers.{enrol-10, enrol-11, enrol-27, enrol-18, enrol-19, enrol-0, hear-11, hear-14, hear-17, readNumber, read-refused, read-outside, read-good, hear-read, find-11, find-17, find-0, may-11, may-17, may-by, may-28, may-0, denied, polled}
+use Rattle.board.proofs.Numbers.{hear-11, hear-14, hear-17, readNumber, read-refused, read-outside, read-good, hear-read, find-11, find-17, find-0, may-11, may-17, may-by, may-28, may-0, denied, polled}
 use Rattle.promises_order.specs.Places.{rowAt}
-use Rattle.promises_board.specs.Calls.{IsRowOf, IsFirstFree, OnlyRow, EnrolPromise, HearPromise, RemovePromise, LookPromise, MayAsk, neither, to-raise, to-reset, PollPromise, BoardCalls, BoardOneOutcome}
+use Rattle.promises_board.specs.Calls.{IsRowOf, OnlyRow, HearPromise, LookPromise, MayAsk, neither, to-raise, to-reset, PollPromise, BoardOneOutcome}
 use Rattle.promises_board.specs.Profiles.{OutOfRange}
 use Rattle.promises_frame.specs.Calls.{PollLeft}
 use Rattle.promises_frame.proofs.OnlyItsBytes.{only-its-bytes}
 use Rattle.promises_frame.proofs.Polls.{poll-then-read}
 use Rattle.promises_board.proofs.Tests.{and-false}
 use Rattle.promises_board.proofs.Ranges.{is-out, is-in}
-use Rattle.promises_board.proofs.Places.{row-place, row-on, row-is, unknown-off, free-place, free-on, none-free, only-row, unchanged}
-use Rattle.promises_board.proofs.After.{enrol-keeps, enrol-sets, remove-keeps, remove-sets, look-refused, look-told, hear-keeps, hear-faults, hear-sets, no-place, its-place, refused-is, lost-is, read-is, settings-10, at-most-9}
+use Rattle.promises_board.proofs.Places.{row-place, row-on, row-is, unknown-off, only-row, unchanged}
+use Rattle.promises_board.proofs.After.{look-refused, look-told, hear-keeps, hear-faults, hear-sets, no-place, its-place, refused-is, lost-is, read-is, settings-10, at-most-9}
 use Rattle.promises_board.proofs.Told.{tells}
 
 pub board-one-outcome : BoardOneOutcome
@@ -56,41 +57,8 @@ placed rows after at i put row e f l is =
     only-row rows i row after (subst (λ (k : ℕ). k < length (boardOf rows)) (sym e) l)
     (is ∙ ap (λ (k : ℕ). set (boardOf rows) k put ++ beyond rows) (sym e) ∙ ap (λ (r : Row). set (boardOf rows) i r ++ beyond rows) f)
 
-module _ (rows : List Row) (settings address gauge answer : ℕ) (after : List Row) (e : Enrols rows settings address gauge answer after) where
-  enrol-refused : (n : ℕ) → eqb n 0 ≡ false → enrolNumber (boardOf rows) settings address gauge ≡ n → (answer ≡ n) × (after ≡ rows)
-  enrol-refused n z is = (e .answers ∙ is, unchanged rows after (e .leaves ∙ ap (λ (b : List Row). b ++ beyond rows) (enrol-keeps (boardOf rows) settings address gauge (ap (λ (m : ℕ). eqb m 0) is ∙ z))))
-
-  enrol-done : (i : ℕ) → IsFirstFree rows i → enrolNumber (boardOf rows) settings address gauge ≡ 0 → (answer ≡ 0) × OnlyRow rows i (newRow settings address gauge) after
-  enrol-done i p is = (e .answers ∙ is, placed rows after (placeFree (boardOf rows)) i (newRow settings address gauge) (newRow settings address gauge) (sym (free-place rows i p)) refl (free-on rows i p) (e .leaves ∙ ap (λ (b : List Row). b ++ beyond rows) (enrol-sets (boardOf rows) settings address gauge is)))
-
-  enrol-promise : EnrolPromise rows settings address gauge answer after
-  enrol-promise =
-      record {
-        bad-settings = λ s. enrol-refused 10 refl (enrol-10 (boardOf rows) settings address gauge s);
-        misplaced = λ s a m. enrol-refused 27 refl (enrol-27 (boardOf rows) settings address gauge s a m);
-        bad-address = λ s a. enrol-refused 11 refl (enrol-11 (boardOf rows) settings address gauge s a);
-        twice = λ s a m i p. enrol-refused 18 refl (enrol-18 (boardOf rows) settings address gauge s a m (row-on rows address i p));
-        no-row = λ s a m u f. enrol-refused 19 refl (enrol-19 (boardOf rows) settings address gauge s a m (unknown-off rows address u) (none-free rows f));
-        enrolled = λ s a m u i p. enrol-done i p (enrol-0 (boardOf rows) settings address gauge s a m (unknown-off rows address u) (free-on rows i p));
-      }
-
-module _ (rows : List Row) (address answer : ℕ) (after : List Row) (e : Removes rows address answer after) where
-  remove-refused : (n : ℕ) → eqb n 0 ≡ false → findNumber (boardOf rows) address ≡ n → (answer ≡ n) × (after ≡ rows)
-  remove-refused n z is = (e .answers ∙ is, unchanged rows after (e .leaves ∙ ap (λ (b : List Row). b ++ beyond rows) (remove-keeps (boardOf rows) address (ap (λ (m : ℕ). eqb m 0) is ∙ z))))
-
-  remove-done : (i : ℕ) → IsRowOf rows address i → findNumber (boardOf rows) address ≡ 0 → (answer ≡ 0) × OnlyRow rows i freeRow after
-  remove-done i p is = (e .answers ∙ is, placed rows after (placeOf address (boardOf rows)) i freeRow freeRow (sym (row-place rows address i p)) refl (row-on rows address i p) (e .leaves ∙ ap (λ (b : List Row). b ++ beyond rows) (remove-sets (boardOf rows) address is)))
-
-  remove-promise : RemovePromise rows address answer after
-  remove-promise =
-      record {
-        bad-address = λ a. remove-refused 11 refl (find-11 (boardOf rows) address a);
-        unknown = λ a u. remove-refused 17 refl (find-17 (boardOf rows) address a (unknown-off rows address u));
-        removed = λ a i p. remove-done i p (find-0 (boardOf rows) address a (row-on rows address i p));
-      }
-
 module _ (rows : List Row) (address : ℕ) (answer : Looked) (e : LooksUp rows address answer) where
-  look-promise : LookPromise rows address answer
+  pub look-promise : LookPromise rows address answer
   look-promise =
       record {
         bad-address = λ a. e .answers ∙ look-refused (boardOf rows) address 11 (find-11 (boardOf rows) address a) refl;
@@ -172,7 +140,7 @@ module _ (rows : List Row) (minute address count : ℕ) (reply : List ℕ) (answ
             (e .leaves ∙ ap (λ (b : List Row). b ++ beyond rows) (hear-sets (boardOf rows) minute address count reply zero)),
       )
 
-  hear-promise : HearPromise rows minute address count reply answer after
+  pub hear-promise : HearPromise rows minute address count reply answer after
   hear-promise =
       record {
         bad-address = λ a. hear-refused 11 refl refl not-11 (hear-11 (boardOf rows) address count reply a);
@@ -240,7 +208,7 @@ module _ (rows : List Row) (address raise reset : ℕ) (out : List ℕ) (answer 
       let z : writePollFault address out ≡ 0 = write-0 address out a l in
       (w .0 ∙ z, record { answers = sym (ap (λ (n : ℕ). pick (eqb n 0) (Bytes 2) (Refused-write n)) z); leaves = w .1 })
 
-  poll-promise : PollPromise rows address raise reset out answer after
+  pub poll-promise : PollPromise rows address raise reset out answer after
   poll-promise =
       record {
         bad-address = λ a. refused-may 11 (may-11 (boardOf rows) address raise reset a) refl;
@@ -257,6 +225,3 @@ module _ (rows : List Row) (address raise reset : ℕ) (out : List ℕ) (answer 
             let only = only-its-bytes .write-poll address (isSet raise) (isSet reset) out after (Bytes 2) (w .1) in
             (w .0, record { answers = sym (poll-then-read (record { address = address; raise = isSet raise; reset = isSet reset }) a (take 2 after) left (pollOf (take 2 after)) (record { answers = refl }) .1) }, only .same-length, only .others);
       }
-
-pub board-calls : BoardCalls
-board-calls = record { enrol = enrol-promise; hear = hear-promise; remove = remove-promise; look-up = look-promise; poll = poll-promise }

@@ -1,11 +1,12 @@
 -- What stands in a free row is not read. A search on cleared rows stops at the same place, since both tests say the same of a row and of it cleared; the
--- row of an address is in use, so that clearing leaves it as it is; and a row set in cleared rows is a row set, cleared.
+-- row of an address is in use, so that clearing leaves it as it is; and a row set in cleared rows is a row set, cleared. So it is with rows that are moved by
+-- an enrolment and a removal, and with whether rows are so kept: each asks of a row whether it is free, and of one in use alone its address.
 use mathlib.Core.Path.{_≡_, refl, sym, _∙_, ap}
-use mathlib.Core.Bool.{Bool, true, false, not, _&&_}
+use mathlib.Core.Bool.{Bool, true, false, not, _&&_, _||_}
 use mathlib.Core.List.{List, [], _∷_, _++_, map, append-nil}
 use Prim.Native.Nat.{ℕ, zero, suc, _<_, _≤_, min}
 use native.Mathlib.Omega.{arith}
-use lib.Dec.{eqb, ltb}
+use lib.Dec.{eqb, leb, ltb}
 use lib.ListN.{length, drop, set, getD, length-map, length-set, length-take, drop-of-length-le, List·getD-map, List·getD-eq-default}
 use lib.Seq.{take-at, take-all}
 use borrow.Author.Tests.{ltb-true, ltb-false}
@@ -17,13 +18,15 @@ use Rattle.frame.specs.Poll.{pollLine}
 use Rattle.frame.specs.Pick.{pick}
 use Rattle.frame.specs.Level.{levelOf, placeLost}
 use Rattle.frame.specs.Reply.{modeIn, readingAt}
+use Rattle.board.specs.declared.Heard.{Heard}
 use Rattle.board.specs.declared.Row.{Row}
 use Rattle.board.specs.Gauge.{profileMisplaced, unmarked, atOnce}
 use Rattle.board.specs.Row.{isFree, inUse, freeRow, newRow, withReading, withFault, setsFault, heardAt}
 use Rattle.board.specs.Rows.{boardOf, beyond, holds, placeBy, placeOf, placeFree, rowOf, onBoard, hasFree}
-use Rattle.board.specs.Calls.{enrolNumber, hearNumber, hearPlace, hearRows, heardAs, findNumber, lookedAt, told, refusedLook, rowPollNumber, rowPollBytes}
-use Rattle.promises_order.specs.OldBoard.{oldEnrolRows as enrolRows, oldRemoveRows as removeRows}
+use Rattle.board.specs.Order.{allFree, keptFrom, kept, inOrder, pushed, insertRow, closed, withoutRow}
+use Rattle.board.specs.Calls.{enrolNumber, enrolRows, removeRows, hearNumber, hearPlace, hearRows, heardAs, findNumber, lookedAt, told, refusedLook, rowPollNumber, rowPollBytes}
 use Rattle.board.proofs.Places.{place-at}
+use Rattle.promises_order.proofs.Held.{length-insert, length-without}
 use Rattle.promises_board.proofs.After.{numberBy}
 use Rattle.promises_board.specs.Free.{cleared, Alike, BoardFree}
 
@@ -58,6 +61,76 @@ in-use-same : (t : Bool) (row : Row) → not t ≡ true → pick t freeRow row �
 in-use-same true row e = let bad : _≡_ {A = ℕ} 0 1 = cc in absurd (omega arith)
 in-use-same false row e = refl
 
+-- Rows that are moved, cleared, are cleared rows moved.
+pushed-clear : (row : Row) (rows : List Row) → map cleared (pushed row rows) ≡ pushed (cleared row) (map cleared rows)
+unfolding pushed
+pushed-clear row [] = refl
+pushed-clear row (next ∷ rows) =
+    ap (λ (zs : List Row). cleared row ∷ zs)
+    (go (isFree next) (pushed-clear next rows) ∙ ap (λ (t : Bool). pick t (map cleared rows) (pushed (cleared next) (map cleared rows))) (sym (clear-free next)))
+  where
+    go : (t : Bool) → map cleared (pushed next rows) ≡ pushed (cleared next) (map cleared rows) → map cleared (pick t rows (pushed next rows)) ≡ pick t (map cleared rows) (pushed (cleared next) (map cleared rows))
+    go true h = refl
+    go false h = h
+
+-- the place of an address is before a free row, or before a greater one
+greater-by : (n : ℕ) (t : Bool) (row : Row) → isFree row ≡ t → (isFree (pick t freeRow row) || ltb n (pick t freeRow row .address)) ≡ (isFree row || ltb n (row .address))
+greater-by n true row e = sym (ap (λ (b : Bool). b || ltb n (row .address)) e)
+greater-by n false row e = refl
+
+insert-clear : (row : Row) → cleared row ≡ row → (rows : List Row) → map cleared (insertRow row rows) ≡ insertRow row (map cleared rows)
+unfolding insertRow
+insert-clear row own [] = refl
+insert-clear row own (next ∷ rows) =
+    go (isFree next || ltb (row .address) (next .address)) (insert-clear row own rows)
+    ∙ ap (λ (t : Bool). pick t (pushed row (cleared next ∷ map cleared rows)) (cleared next ∷ insertRow row (map cleared rows))) (sym (greater-by (row .address) (isFree next) next refl))
+  where
+    go : (t : Bool) → map cleared (insertRow row rows) ≡ insertRow row (map cleared rows)
+        → map cleared (pick t (pushed row (next ∷ rows)) (next ∷ insertRow row rows)) ≡ pick t (pushed row (cleared next ∷ map cleared rows)) (cleared next ∷ insertRow row (map cleared rows))
+    go true h = pushed-clear row (next ∷ rows) ∙ ap (λ (r : Row). pushed r (cleared next ∷ map cleared rows)) own
+    go false h = ap (λ (zs : List Row). cleared next ∷ zs) h
+
+closed-clear : (rows : List Row) → map cleared (closed rows) ≡ closed (map cleared rows)
+unfolding closed
+closed-clear [] = refl
+closed-clear (row ∷ rows) =
+    go (isFree row) (closed-clear rows) ∙ ap (λ (t : Bool). pick t (freeRow ∷ cleared row ∷ map cleared rows) (cleared row ∷ closed (map cleared rows))) (sym (clear-free row))
+  where
+    go : (t : Bool) → map cleared (closed rows) ≡ closed (map cleared rows) → map cleared (pick t (freeRow ∷ row ∷ rows) (row ∷ closed rows)) ≡ pick t (freeRow ∷ cleared row ∷ map cleared rows) (cleared row ∷ closed (map cleared rows))
+    go true h = refl
+    go false h = ap (λ (zs : List Row). cleared row ∷ zs) h
+
+without-clear : (address : ℕ) (rows : List Row) → map cleared (withoutRow address rows) ≡ withoutRow address (map cleared rows)
+unfolding withoutRow
+without-clear address [] = refl
+without-clear address (row ∷ rows) =
+    go (holds address row) (without-clear address rows) ∙ ap (λ (t : Bool). pick t (closed (map cleared rows)) (cleared row ∷ withoutRow address (map cleared rows))) (sym (clear-holds address row))
+  where
+    go : (t : Bool) → map cleared (withoutRow address rows) ≡ withoutRow address (map cleared rows)
+        → map cleared (pick t (closed rows) (row ∷ withoutRow address rows)) ≡ pick t (closed (map cleared rows)) (cleared row ∷ withoutRow address (map cleared rows))
+    go true h = closed-clear rows
+    go false h = ap (λ (zs : List Row). cleared row ∷ zs) h
+
+-- Whether rows are so kept.
+all-clear : (rows : List Row) → allFree (map cleared rows) ≡ allFree rows
+unfolding allFree
+all-clear [] = refl
+all-clear (row ∷ rows) = ap (λ (t : Bool). t && allFree (map cleared rows)) (clear-free row) ∙ ap (λ (t : Bool). isFree row && t) (all-clear rows)
+
+kept-clear : (least : ℕ) (rows : List Row) → keptFrom least (map cleared rows) ≡ keptFrom least rows
+unfolding keptFrom
+kept-clear least [] = refl
+kept-clear least (row ∷ rows) = go (isFree row) refl (kept-clear (suc (row .address)) rows)
+  where
+    go : (t : Bool) → isFree row ≡ t → keptFrom (suc (row .address)) (map cleared rows) ≡ keptFrom (suc (row .address)) rows
+        → pick (isFree (pick t freeRow row)) (allFree (map cleared rows)) (leb least (pick t freeRow row .address) && keptFrom (suc (pick t freeRow row .address)) (map cleared rows))
+        ≡ pick (isFree row) (allFree rows) (leb least (row .address) && keptFrom (suc (row .address)) rows)
+    go true e h = all-clear rows ∙ sym (ap (λ (t : Bool). pick t (allFree rows) (leb least (row .address) && keptFrom (suc (row .address)) rows)) e)
+    go false e h =
+        ap (λ (t : Bool). pick t (allFree (map cleared rows)) (leb least (row .address) && keptFrom (suc (row .address)) (map cleared rows))) e
+        ∙ ap (λ (t : Bool). leb least (row .address) && t) h
+        ∙ sym (ap (λ (t : Bool). pick t (allFree rows) (leb least (row .address) && keptFrom (suc (row .address)) rows)) e)
+
 -- Two boards alike.
 module _ (x y : List Row) (alike : map cleared x ≡ map cleared y) where
   same-length : length x ≡ length y
@@ -65,6 +138,20 @@ module _ (x y : List Row) (alike : map cleared x ≡ map cleared y) where
 
   same-free : placeFree x ≡ placeFree y
   same-free = sym (place-clear isFree clear-free x) ∙ ap (placeBy isFree) alike ∙ place-clear isFree clear-free y
+
+  same-kept : kept x ≡ kept y
+  same-kept = sym (kept-clear 0 x) ∙ ap kept alike ∙ kept-clear 0 y
+
+  -- what each call answers and leaves, with 38 asked first
+  same-answer : {A : Type 0} (p q r : A) → p ≡ q → inOrder x p r ≡ inOrder y q r
+  same-answer p q r e = ap (λ (t : Bool). pick t p r) same-kept ∙ ap (λ z. pick (kept y) z r) e
+
+  ordered-alike : (p q : List Row) → map cleared p ≡ map cleared q → map cleared (inOrder x p x) ≡ map cleared (inOrder y q y)
+  ordered-alike p q e = go (kept x) ∙ ap (λ (t : Bool). map cleared (pick t q y)) same-kept
+    where
+      go : (t : Bool) → map cleared (pick t p x) ≡ map cleared (pick t q y)
+      go true = e
+      go false = alike
 
   module _ (address : ℕ) where
     same-place : placeOf address x ≡ placeOf address y
@@ -112,8 +199,8 @@ module _ (x y : List Row) (alike : map cleared x ≡ map cleared y) where
     remove-alike : map cleared (removeRows x address) ≡ map cleared (removeRows y address)
     unfolding removeRows
     remove-alike =
-        pick-alike (eqb (findNumber x address) 0) (set x (placeOf address x) freeRow) (set y (placeOf address y) freeRow) (set-alike (placeOf address x) (placeOf address y) freeRow same-place)
-        ∙ ap (λ (n : ℕ). map cleared (pick (eqb n 0) (set y (placeOf address y) freeRow) y)) same-find
+        pick-alike (eqb (findNumber x address) 0) (withoutRow address x) (withoutRow address y) (without-clear address x ∙ ap (withoutRow address) alike ∙ sym (without-clear address y))
+        ∙ ap (λ (n : ℕ). map cleared (pick (eqb n 0) (withoutRow address y) y)) same-find
 
     module _ (settings gauge : ℕ) where
       same-enrol : enrolNumber x settings address gauge ≡ enrolNumber y settings address gauge
@@ -126,8 +213,9 @@ module _ (x y : List Row) (alike : map cleared x ≡ map cleared y) where
       enrol-alike : map cleared (enrolRows x settings address gauge) ≡ map cleared (enrolRows y settings address gauge)
       unfolding enrolRows
       enrol-alike =
-          pick-alike (eqb (enrolNumber x settings address gauge) 0) (set x (placeFree x) (newRow settings address gauge)) (set y (placeFree y) (newRow settings address gauge)) (set-alike (placeFree x) (placeFree y) (newRow settings address gauge) same-free)
-          ∙ ap (λ (n : ℕ). map cleared (pick (eqb n 0) (set y (placeFree y) (newRow settings address gauge)) y)) same-enrol
+          pick-alike (eqb (enrolNumber x settings address gauge) 0) (insertRow (newRow settings address gauge) x) (insertRow (newRow settings address gauge) y)
+          (insert-clear (newRow settings address gauge) refl x ∙ ap (insertRow (newRow settings address gauge)) alike ∙ sym (insert-clear (newRow settings address gauge) refl y))
+          ∙ ap (λ (n : ℕ). map cleared (pick (eqb n 0) (insertRow (newRow settings address gauge) y) y)) same-enrol
 
     module _ (raise reset : ℕ) (out : List ℕ) where
       -- the number of a poll, by whether the address is on the board and by its row
@@ -204,11 +292,11 @@ after-alike Made long rows others after later e f same =
 
 enrol-length : (settings address gauge : ℕ) (board : List Row) → length (enrolRows board settings address gauge) ≡ length board
 unfolding enrolRows
-enrol-length settings address gauge board = pick-length (eqb (enrolNumber board settings address gauge) 0) (set board (placeFree board) (newRow settings address gauge)) board (length-set board (placeFree board) (newRow settings address gauge))
+enrol-length settings address gauge board = pick-length (eqb (enrolNumber board settings address gauge) 0) (insertRow (newRow settings address gauge) board) board (length-insert (newRow settings address gauge) board)
 
 remove-length : (address : ℕ) (board : List Row) → length (removeRows board address) ≡ length board
 unfolding removeRows
-remove-length address board = pick-length (eqb (findNumber board address) 0) (set board (placeOf address board) freeRow) board (length-set board (placeOf address board) freeRow)
+remove-length address board = pick-length (eqb (findNumber board address) 0) (withoutRow address board) board (length-without address board)
 
 pub hear-length : (minute address count : ℕ) (reply : List ℕ) (board : List Row) → length (hearRows board minute address count reply) ≡ length board
 unfolding hearRows
@@ -219,27 +307,39 @@ hear-length minute address count reply board = go (eqb (hearNumber board address
     go false true = length-set board _ _
     go false false = refl
 
+-- as many rows, with the order asked first
+ordered-length : (Made : List Row → List Row) → ((board : List Row) → length (Made board) ≡ length board) → (board : List Row) → length (inOrder board (Made board) board) ≡ length board
+ordered-length Made long board = pick-length (kept board) (Made board) board (long board)
+
+abbrev saidOf : List Row → ℕ → ℕ → List ℕ → Heard
+saidOf board address count reply = heardAs (hearNumber board address count reply) (hearPlace board address count reply)
+
 pub board-free : BoardFree
 board-free =
     record {
-      poll = λ rows others address raise reset out after later a b same e f. (
-        e .answers ∙ same-polled (boardOf rows) (boardOf others) same address raise reset out ∙ sym (f .answers),
-        e .leaves ∙ same-bytes (boardOf rows) (boardOf others) same address raise reset out ∙ sym (f .leaves),
-      );
       enrol = λ rows others after later settings address gauge a b same e f. (
-        e .answers ∙ same-enrol (boardOf rows) (boardOf others) same address settings gauge ∙ sym (f .answers),
-        after-alike (λ board. enrolRows board settings address gauge) (enrol-length settings address gauge) rows others after later (e .leaves) (f .leaves) (enrol-alike (boardOf rows) (boardOf others) same address settings gauge),
+        e .answers ∙ same-answer (boardOf rows) (boardOf others) same (enrolNumber (boardOf rows) settings address gauge) (enrolNumber (boardOf others) settings address gauge) 38 (same-enrol (boardOf rows) (boardOf others) same address settings gauge) ∙ sym (f .answers),
+        after-alike (λ board. inOrder board (enrolRows board settings address gauge) board) (ordered-length (λ board. enrolRows board settings address gauge) (enrol-length settings address gauge)) rows others after later (e .leaves) (f .leaves)
+            (ordered-alike (boardOf rows) (boardOf others) same (enrolRows (boardOf rows) settings address gauge) (enrolRows (boardOf others) settings address gauge) (enrol-alike (boardOf rows) (boardOf others) same address settings gauge)),
       );
       hear = λ rows others after later minute address count reply a b same e f. (
         e .answers
-            ∙ ap (λ (n : ℕ). heardAs n (hearPlace (boardOf rows) address count reply)) (same-hear (boardOf rows) (boardOf others) same address minute count reply)
-            ∙ ap (heardAs (hearNumber (boardOf others) address count reply)) (same-named (boardOf rows) (boardOf others) same address minute count reply)
+            ∙ same-answer (boardOf rows) (boardOf others) same (saidOf (boardOf rows) address count reply) (saidOf (boardOf others) address count reply) (heardAs 38 0)
+            (ap (λ (n : ℕ). heardAs n (hearPlace (boardOf rows) address count reply)) (same-hear (boardOf rows) (boardOf others) same address minute count reply)
+            ∙ ap (heardAs (hearNumber (boardOf others) address count reply)) (same-named (boardOf rows) (boardOf others) same address minute count reply))
             ∙ sym (f .answers),
-        after-alike (λ board. hearRows board minute address count reply) (hear-length minute address count reply) rows others after later (e .leaves) (f .leaves) (hear-alike (boardOf rows) (boardOf others) same address minute count reply),
+        after-alike (λ board. inOrder board (hearRows board minute address count reply) board) (ordered-length (λ board. hearRows board minute address count reply) (hear-length minute address count reply)) rows others after later (e .leaves) (f .leaves)
+            (ordered-alike (boardOf rows) (boardOf others) same (hearRows (boardOf rows) minute address count reply) (hearRows (boardOf others) minute address count reply) (hear-alike (boardOf rows) (boardOf others) same address minute count reply)),
       );
       remove = λ rows others after later address a b same e f. (
-        e .answers ∙ same-find (boardOf rows) (boardOf others) same address ∙ sym (f .answers),
-        after-alike (λ board. removeRows board address) (remove-length address) rows others after later (e .leaves) (f .leaves) (remove-alike (boardOf rows) (boardOf others) same address),
+        e .answers ∙ same-answer (boardOf rows) (boardOf others) same (findNumber (boardOf rows) address) (findNumber (boardOf others) address) 38 (same-find (boardOf rows) (boardOf others) same address) ∙ sym (f .answers),
+        after-alike (λ board. inOrder board (removeRows board address) board) (ordered-length (λ board. removeRows board address) (remove-length address)) rows others after later (e .leaves) (f .leaves)
+            (ordered-alike (boardOf rows) (boardOf others) same (removeRows (boardOf rows) address) (removeRows (boardOf others) address) (remove-alike (boardOf rows) (boardOf others) same address)),
       );
-      look-up = λ rows others address a b same e f. e .answers ∙ same-looked (boardOf rows) (boardOf others) same address ∙ sym (f .answers);
+      look-up = λ rows others address a b same e f.
+          e .answers ∙ same-answer (boardOf rows) (boardOf others) same (lookedAt (boardOf rows) address) (lookedAt (boardOf others) address) (refusedLook 38) (same-looked (boardOf rows) (boardOf others) same address) ∙ sym (f .answers);
+      poll = λ rows others address raise reset out after later a b same e f. (
+        e .answers ∙ same-answer (boardOf rows) (boardOf others) same (rowPollNumber (boardOf rows) address raise reset out) (rowPollNumber (boardOf others) address raise reset out) 38 (same-polled (boardOf rows) (boardOf others) same address raise reset out) ∙ sym (f .answers),
+        e .leaves ∙ same-answer (boardOf rows) (boardOf others) same (rowPollBytes (boardOf rows) address raise reset out) (rowPollBytes (boardOf others) address raise reset out) out (same-bytes (boardOf rows) (boardOf others) same address raise reset out) ∙ sym (f .leaves),
+      );
     }

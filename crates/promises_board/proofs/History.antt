@@ -19,6 +19,7 @@ use Rattle.promises_order.specs.OldBoard.{OldEnrols as Enrols}
 use Rattle.board.proofs.Numbers.{enrol-19, enrol-0}
 use Rattle.promises_order.specs.Places.{rowAt, OnBoard, Empty}
 use Rattle.promises_board.specs.Calls.{Holds, Unknown, OnlyRow}
+use Rattle.promises_board.specs.Records.{asItWas}
 use Rattle.promises_board.specs.History.{History, begun, enrolled, heard, removed, looked, polled, NoneTwice, taken, given, BoardHistory}
 use Rattle.promises_board.proofs.Places.{on-board, board-on, same-row, unknown-off}
 use Rattle.promises_order.proofs.Count.{used, used-set, used-none, used-full, used-room}
@@ -58,12 +59,12 @@ pub step-many : {rows after : List Row} → Step rows after → length after ≡
 step-many (nothing e) = ap length e
 step-many {rows} (sets i row p e) = ap length e ∙ length-set rows i row
 
-step-beyond : {rows after : List Row} → Step rows after → (i : ℕ) → 30 ≤ i → rowAt after i ≡ rowAt rows i
+pub step-beyond : {rows after : List Row} → Step rows after → (i : ℕ) → 30 ≤ i → rowAt after i ≡ rowAt rows i
 step-beyond (nothing e) i l = ap (λ (zs : List Row). rowAt zs i) e
 step-beyond {rows} {after} (sets j row p e) i l = set-only rows after j row p e .others i (λ s. omega (arith, p .counts))
 
 module _ (start : List Row) where
-  as-many : (now : List Row) → History start now → length now ≡ length start
+  as-many : (now : List Row) → History asItWas start now → length now ≡ length start
   as-many now begun = refl
   as-many now (enrolled {rows} settings address gauge answer h e) = step-many (enrol-step (enrol-done rows settings address gauge answer now e)) ∙ as-many rows h
   as-many now (heard {rows} minute address count reply answer h e) = step-many (hear-step (hear-done rows minute address count reply answer now e)) ∙ as-many rows h
@@ -71,7 +72,7 @@ module _ (start : List Row) where
   as-many now (looked address answer h e) = as-many now h
   as-many now (polled address raise reset out answer after h e) = as-many now h
 
-  beyond-stays : (now : List Row) → History start now → (i : ℕ) → 30 ≤ i → rowAt now i ≡ rowAt start i
+  beyond-stays : (now : List Row) → History asItWas start now → (i : ℕ) → 30 ≤ i → rowAt now i ≡ rowAt start i
   beyond-stays now begun i l = refl
   beyond-stays now (enrolled {rows} settings address gauge answer h e) i l = step-beyond (enrol-step (enrol-done rows settings address gauge answer now e)) i l ∙ beyond-stays rows h i l
   beyond-stays now (heard {rows} minute address count reply answer h e) i l = step-beyond (hear-step (hear-done rows minute address count reply answer now e)) i l ∙ beyond-stays rows h i l
@@ -138,7 +139,7 @@ remove-twice rows after address answer (gave z a p e) once = fewer-set rows afte
 pub empty-twice : (start : List Row) → Empty start → NoneTwice start
 empty-twice start empty i j address p q h k = absurd (in-use-free (rowAt start i) (empty i p) (h .used))
 
-pub none-twice : (start now : List Row) → Empty start → History start now → NoneTwice now
+pub none-twice : (start now : List Row) → Empty start → History asItWas start now → NoneTwice now
 none-twice start now empty begun = empty-twice start empty
 none-twice start now empty (enrolled {rows} settings address gauge answer h e) = enrol-twice rows now settings address gauge answer (enrol-done rows settings address gauge answer now e) (none-twice start rows empty h)
 none-twice start now empty (heard {rows} minute address count reply answer h e) = hear-twice rows now minute address count reply answer (hear-done rows minute address count reply answer now e) (none-twice start rows empty h)
@@ -191,7 +192,7 @@ fewer-by true m n g k e f = omega arith
 fewer-by false m n g k e f = omega arith
 
 -- the rows in use and those given back are together those taken
-balance : (start now : List Row) → Empty start → (h : History start now) → used (boardOf now) + given h ≡ taken h
+balance : (start now : List Row) → Empty start → (h : History asItWas start now) → used (boardOf now) + given h ≡ taken h
 unfolding taken given
 balance start now empty begun = let z = used-none (boardOf start) (λ i l. ap isFree (same-row start i l) ∙ empty i (board-on start i l)) in omega arith
 balance start now empty (enrolled {rows} settings address gauge answer h e) =
@@ -204,7 +205,7 @@ balance start now empty (looked address answer h e) = balance start now empty h
 balance start now empty (polled address raise reset out answer after h e) = balance start now empty h
 
 -- A new address, while there is room, and when the board is full.
-module _ (start rows after : List Row) (h : History start rows) (settings address gauge answer : ℕ) (empty : Empty start) (s : settings ≤ 15) (a : address ≤ 999) (m : profileMisplaced settings gauge ≡ false) (u : Unknown rows address) (e : Enrols rows settings address gauge answer after) where
+module _ (start rows after : List Row) (h : History asItWas start rows) (settings address gauge answer : ℕ) (empty : Empty start) (s : settings ≤ 15) (a : address ≤ 999) (m : profileMisplaced settings gauge ≡ false) (u : Unknown rows address) (e : Enrols rows settings address gauge answer after) where
   size : length (boardOf rows) ≡ min 30 (length start)
   size = length-take 30 rows ∙ ap (λ (n : ℕ). min 30 n) (as-many start rows h)
 
@@ -218,5 +219,5 @@ module _ (start rows after : List Row) (h : History start rows) (settings addres
       by-lt (placeFree (boardOf rows)) (length (boardOf rows)) (λ f. absurd (omega (arith, balance start rows empty h, used-room (boardOf rows) f, size)))
       (λ f. e .answers ∙ enrol-19 (boardOf rows) settings address gauge s a m (unknown-off rows address u) f)
 
-pub board-history : BoardHistory
+pub board-history : BoardHistory asItWas
 board-history = record { none-twice = none-twice; as-many = as-many; beyond = beyond-stays; room = room; full = full }

@@ -7,30 +7,34 @@ use Prim.Native.Nat.{ℕ, _<_, _≤_}
 use native.Mathlib.Omega.{arith}
 use lib.Dec.{eqb}
 use lib.ListN.{take-append-drop}
+use borrow.Author.Tests.{not-true}
 use Rattle.frame.specs.Pick.{pick}
 use Rattle.board.specs.declared.Heard.{Heard}
 use Rattle.board.specs.declared.Looked.{Looked}
 use Rattle.board.specs.declared.Row.{Row}
-use Rattle.board.specs.Row.{newRow, setsFault}
+use Rattle.board.specs.Row.{isFree, inUse, newRow, setsFault}
 use Rattle.board.specs.Rows.{boardOf, beyond}
 use Rattle.board.specs.Order.{kept, insertRow, withoutRow}
-use Rattle.board.specs.Calls.{Enrols, Hears, Removes, LooksUp, PollsRow, heardAs, refusedLook, enrolNumber, enrolRows, findNumber, removeRows, lookedAt}
+use Rattle.board.specs.Calls.{Enrols, Hears, Removes, LooksUp, heardAs, enrolNumber, enrolRows, findNumber, removeRows}
 use Rattle.board.proofs.Order.{neither}
 use Rattle.board.proofs.Numbers.{enrol-10, enrol-11, enrol-27, enrol-18, enrol-19, enrol-0, find-11, find-17, find-0}
 use Rattle.promises_order.specs.OldBoard.{OldEnrols, OldRemoves, OldLooksUp, oldEnrolRows, oldRemoveRows}
-use Rattle.promises_order.specs.Order.{SoKept, SameInUse}
+use Rattle.promises_order.specs.Places.{rowAt, OnBoard}
+use Rattle.promises_order.specs.Order.{SoKept, SameInUse, Front, IsPlaceFor, Inserted, Closed}
 use Rattle.promises_order.proofs.Held.{row-of, on-held, first, some}
 use Rattle.promises_order.proofs.SoKept.{so-kept, kept-so}
 use Rattle.promises_order.proofs.Boards.{same-looked}
 use Rattle.promises_order.proofs.Order.{in-order, board-order}
+use Rattle.promises_frame.proofs.Cases.{by-lt}
+use Rattle.promises_board.specs.Records.{today}
 use Rattle.promises_board.specs.Readings.{BoardReadings}
-use Rattle.promises_board.specs.Now.{EnrolNow, RemoveNow, BoardCallsNow}
+use Rattle.promises_board.specs.Calls.{IsRowOf, IsFirstFree, EnrolPromise, RemovePromise, BoardCalls}
 use Rattle.promises_board.proofs.Places.{row-on, unknown-off, free-on, none-free}
-use Rattle.promises_board.proofs.Calls.{board-calls}
+use Rattle.promises_board.proofs.Calls.{hear-promise, look-promise, poll-promise}
 use Rattle.promises_board.proofs.Readings.{board-readings}
 
 -- Rows are so kept or not.
-by-order : {A : Type 0} (rows : List Row) → (SoKept rows → A) → ((SoKept rows → ⊥) → A) → A
+pub by-order : {A : Type 0} (rows : List Row) → (SoKept rows → A) → ((SoKept rows → ⊥) → A) → A
 by-order {A} rows f g = go (kept (boardOf rows)) refl
   where
     go : (t : Bool) → kept (boardOf rows) ≡ t → A
@@ -42,16 +46,16 @@ unfolding setsFault
 not-set = refl
 
 -- A call that answered another number than 38 was of rows so kept.
-hear-so : (rows : List Row) (minute address count n place : ℕ) (reply : List ℕ) (after : List Row) → (n ≡ 38 → ⊥) → Hears rows minute address count reply (heardAs n place) after → SoKept rows
+pub hear-so : (rows : List Row) (minute address count n place : ℕ) (reply : List ℕ) (after : List Row) → (n ≡ 38 → ⊥) → Hears rows minute address count reply (heardAs n place) after → SoKept rows
 hear-so rows minute address count n place reply after ne e =
     by-order rows (λ so. so) (λ none. absurd (ne (ap (λ (h : Heard). h .number) (board-order .hear-38 rows minute address count reply (heardAs n place) after none e .0))))
 
-enrol-so : (rows : List Row) (settings address gauge : ℕ) (after : List Row) → Enrols rows settings address gauge 0 after → SoKept rows
+pub enrol-so : (rows : List Row) (settings address gauge : ℕ) (after : List Row) → Enrols rows settings address gauge 0 after → SoKept rows
 enrol-so rows settings address gauge after e =
     by-order rows (λ so. so) (λ none. let z : _≡_ {A = ℕ} 0 38 = board-order .enrol-38 rows settings address gauge 0 after none e .0 in absurd (omega arith))
 
 -- A look after rows have moved is that of the rows as they would have stood.
-look-moved : (before after : List Row) (address : ℕ) (told : Looked) → SameInUse before after → SoKept after → LooksUp after address told → OldLooksUp before address told
+pub look-moved : (before after : List Row) (address : ℕ) (told : Looked) → SameInUse before after → SoKept after → LooksUp after address told → OldLooksUp before address told
 look-moved before after address told same so e =
     record {
       answers = board-order .look-up-as-before after address told so e .answers
@@ -65,20 +69,20 @@ both-38 rows after address before told none is e f =
 
 module _ (rows : List Row) (settings address gauge : ℕ) where
   -- what an enrolment left of the old board
-  abbrev enrolled-before : List Row
+  abbrev pub enrolled-before : List Row
   enrolled-before = oldEnrolRows (boardOf rows) settings address gauge ++ beyond rows
 
-  enrols-before : OldEnrols rows settings address gauge (enrolNumber (boardOf rows) settings address gauge) enrolled-before
+  pub enrols-before : OldEnrols rows settings address gauge (enrolNumber (boardOf rows) settings address gauge) enrolled-before
   enrols-before = record { answers = refl; leaves = refl }
 
 module _ (rows : List Row) (address : ℕ) where
-  abbrev removed-before : List Row
+  abbrev pub removed-before : List Row
   removed-before = oldRemoveRows (boardOf rows) address ++ beyond rows
 
-  removes-before : OldRemoves rows address (findNumber (boardOf rows) address) removed-before
+  pub removes-before : OldRemoves rows address (findNumber (boardOf rows) address) removed-before
   removes-before = record { answers = refl; leaves = refl }
 
-pub readings-now : BoardReadings Enrols Hears Removes LooksUp
+pub readings-now : BoardReadings today
 readings-now =
     record {
       heard = λ rows after minute address count place reply told hears looks.
@@ -129,6 +133,25 @@ module _ (rows : List Row) (so : SoKept rows) where
   left : (now after : List Row) → now ≡ boardOf rows → after ≡ pick (kept (boardOf rows)) now (boardOf rows) ++ beyond rows → after ≡ rows
   left now after is e = e ∙ ap (λ (zs : List Row). zs ++ beyond rows) (in-order (boardOf rows) now (boardOf rows) k ∙ is) ∙ take-append-drop 30 rows
 
+  front-free : (n : ℕ) → IsFirstFree rows n → Front rows n
+  front-free n p =
+      record { used = λ j l. (record { counts = omega (arith, l, p .place .counts); lent = omega (arith, l, p .place .lent) }, p .first j l); free = λ on. p .free }
+
+  -- a row in use is among the rows in front
+  in-front : (n : ℕ) → Front rows n → {address : ℕ} (i : ℕ) → IsRowOf rows address i → i < n
+  in-front n front i p = by-lt i n (λ l. l) (λ l. absurd (behind l))
+    where
+      on : n ≤ i → OnBoard rows n
+      on l = record { counts = omega (arith, l, p .place .counts); lent = omega (arith, l, p .place .lent) }
+
+      behind : n ≤ i → ⊥
+      behind l =
+          let f : isFree (rowAt rows n) ≡ true = front .free (on l) in
+          by-lt n i (λ m. neither f (not-true (isFree (rowAt rows n)) (so .front n i m (p .place) (p .here .used))))
+          (λ m.
+          let is : i ≡ n = omega (arith, l, m) in
+          neither f (not-true (isFree (rowAt rows n)) (subst (λ (k : ℕ). inUse (rowAt rows k) ≡ true) is (p .here .used))))
+
   module _ (settings address gauge answer : ℕ) (after : List Row) (e : Enrols rows settings address gauge answer after) where
     number : answer ≡ enrolNumber (boardOf rows) settings address gauge
     number = e .answers ∙ in-order (boardOf rows) (enrolNumber (boardOf rows) settings address gauge) 38 k
@@ -137,7 +160,11 @@ module _ (rows : List Row) (so : SoKept rows) where
     unfolding enrolRows
     refused n z is = (number ∙ is, left (enrolRows (boardOf rows) settings address gauge) after (ap (λ (m : ℕ). pick (eqb m 0) (insertRow (newRow settings address gauge) (boardOf rows)) (boardOf rows)) is ∙ ap (λ (t : Bool). pick t (insertRow (newRow settings address gauge) (boardOf rows)) (boardOf rows)) z) (e .leaves))
 
-    enrol-now : EnrolNow rows settings address gauge answer after
+    -- the first free row is behind the rows in use
+    put : (n : ℕ) → IsFirstFree rows n → answer ≡ 0 → (answer ≡ 0) × ((i : ℕ) → IsPlaceFor rows address n i → Inserted rows i n (newRow settings address gauge) after)
+    put n p z = (z, λ i at. board-order .enrol-moves rows settings address gauge after so (subst (λ (m : ℕ). Enrols rows settings address gauge m after) z e) n i (front-free n p) at)
+
+    enrol-now : EnrolPromise rows settings address gauge answer after
     enrol-now =
         record {
           bad-settings = λ s. refused 10 refl (enrol-10 (boardOf rows) settings address gauge s);
@@ -145,7 +172,7 @@ module _ (rows : List Row) (so : SoKept rows) where
           misplaced = λ s a m. refused 27 refl (enrol-27 (boardOf rows) settings address gauge s a m);
           twice = λ s a m i p. refused 18 refl (enrol-18 (boardOf rows) settings address gauge s a m (row-on rows address i p));
           no-row = λ s a m u f. refused 19 refl (enrol-19 (boardOf rows) settings address gauge s a m (unknown-off rows address u) (none-free rows f));
-          enrolled = λ s a m u i p. number ∙ enrol-0 (boardOf rows) settings address gauge s a m (unknown-off rows address u) (free-on rows i p);
+          enrolled = λ s a m u n p. put n p (number ∙ enrol-0 (boardOf rows) settings address gauge s a m (unknown-off rows address u) (free-on rows n p));
         }
 
   module _ (address answer : ℕ) (after : List Row) (e : Removes rows address answer after) where
@@ -156,20 +183,23 @@ module _ (rows : List Row) (so : SoKept rows) where
     unfolding removeRows
     not-found n z is = (found ∙ is, left (removeRows (boardOf rows) address) after (ap (λ (m : ℕ). pick (eqb m 0) (withoutRow address (boardOf rows)) (boardOf rows)) is ∙ ap (λ (t : Bool). pick t (withoutRow address (boardOf rows)) (boardOf rows)) z) (e .leaves))
 
-    remove-now : RemoveNow rows address answer after
+    taken : (i : ℕ) → IsRowOf rows address i → answer ≡ 0 → (answer ≡ 0) × ((n : ℕ) → Front rows n → Closed rows i n after)
+    taken i p z = (z, λ n front. board-order .remove-moves rows address after so (subst (λ (m : ℕ). Removes rows address m after) z e) n i front (in-front n front i p) (p .here .same))
+
+    remove-now : RemovePromise rows address answer after
     remove-now =
         record {
           bad-address = λ a. not-found 11 refl (find-11 (boardOf rows) address a);
           unknown = λ a u. not-found 17 refl (find-17 (boardOf rows) address a (unknown-off rows address u));
-          removed = λ a i p. found ∙ find-0 (boardOf rows) address a (row-on rows address i p);
+          removed = λ a i p. taken i p (found ∙ find-0 (boardOf rows) address a (row-on rows address i p));
         }
 
-pub calls-now : BoardCallsNow
-calls-now =
+pub board-calls : BoardCalls
+board-calls =
     record {
       enrol = λ rows settings address gauge answer after so e. enrol-now rows so settings address gauge answer after e;
-      hear = λ rows minute address count reply answer after so e. board-calls .hear rows minute address count reply answer after (board-order .hear-as-before rows minute address count reply answer after so e);
+      hear = λ rows minute address count reply answer after so e. hear-promise rows minute address count reply answer after (board-order .hear-as-before rows minute address count reply answer after so e);
       remove = λ rows address answer after so e. remove-now rows so address answer after e;
-      look-up = λ rows address answer so e. board-calls .look-up rows address answer (board-order .look-up-as-before rows address answer so e);
-      poll = λ rows address raise reset out answer after so e. board-calls .poll rows address raise reset out answer after (board-order .poll-as-before rows address raise reset out answer after so e);
+      look-up = λ rows address answer so e. look-promise rows address answer (board-order .look-up-as-before rows address answer so e);
+      poll = λ rows address raise reset out answer after so e. poll-promise rows address raise reset out answer after (board-order .poll-as-before rows address raise reset out answer after so e);
     }

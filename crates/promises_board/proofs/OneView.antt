@@ -1,4 +1,4 @@
--- One call and the view. The number of a look is that of finding the address, so boards of one view have the same addresses on them and tell the same
+-- One call and the view, of the board as it was (`OldView`). The number of a look is that of finding the address, so boards of one view have the same addresses on them and tell the same
 -- of their rows; each call's number follows by its cases. What a look tells after a call of its address is worked out from what it told before and
 -- from the answer alone; a call of another address leaves it (`Readings`).
 use mathlib.Core.Path.{_≡_, refl, sym, _∙_, ap, subst}
@@ -30,7 +30,8 @@ use Rattle.board.proofs.Numbers.{enrol-10, enrol-11, enrol-27, enrol-18, enrol-
 use Rattle.promises_order.specs.Places.{rowAt, OnBoard}
 use Rattle.promises_board.specs.Calls.{Holds, IsRowOf, OnlyRow}
 use Rattle.promises_board.specs.History.{NoneTwice}
-use Rattle.promises_board.specs.View.{view, SameView, FreeAlike}
+use Rattle.promises_board.specs.View.{FreeAlike}
+use Rattle.promises_board.proofs.OldView.{view, SameView}
 use Rattle.promises_frame.proofs.Cases.{by-lt}
 use Rattle.promises_board.proofs.After.{look-told, no-place}
 use Rattle.promises_board.proofs.Done.{set-only, found-on, Enrolled, not-enrolled, took, enrol-done, Removed, not-removed, gave, remove-done, HearDone, not-heard, faulty, good, hear-done}

@@ -29,14 +29,15 @@ use Rattle.promises_frame.proofs.FirstFault.{AllClear, all-clear}
 use Rattle.promises_frame.proofs.Polls.{poll-then-read}
 use Rattle.promises_order.specs.Places.{rowAt, OnBoard, Empty}
 use Rattle.promises_board.specs.Calls.{IsRowOf, OnlyRow}
+use Rattle.promises_board.specs.Records.{asItWas}
 use Rattle.promises_board.specs.History.{History, begun, enrolled, heard, removed, looked, polled}
-use Rattle.promises_board.specs.Orders.{pollTable, pollOrder}
+use Rattle.promises_board.specs.Orders.{pollTable}
 use Rattle.promises_board.specs.Polls.{Marked, gaugeGiven, BoardPoll}
 use Rattle.promises_board.proofs.Tests.{differs, and-false, neither-of}
 use Rattle.promises_board.proofs.Places.{place-row, row-is}
-use Rattle.promises_board.proofs.Calls.{board-calls}
+use Rattle.promises_board.proofs.Calls.{poll-promise}
 use Rattle.promises_board.proofs.Done.{set-only, Enrolled, not-enrolled, took, enrol-done, Removed, not-removed, gave, remove-done, HearDone, not-heard, faulty, good, hear-done}
-use Rattle.promises_board.proofs.Orders.{poll-asks}
+use Rattle.promises_board.proofs.Orders.{pollRest, poll-asks}
 use Rattle.promises_board.proofs.Readings.{still, board-readings}
 
 -- the poll in an answer
@@ -46,8 +47,8 @@ pollIn p (Refused n) = p
 
 -- A poll that was written.
 module _ (rows : List Row) (address raise reset : ℕ) (out after : List ℕ) (e : PollsRow rows address raise reset out 0 after) where
-  clear : AllClear (pollTable rows address raise reset out) pollOrder
-  clear = all-clear (pollTable rows address raise reset out) pollOrder (omega arith, (omega arith, (omega arith, (omega arith, tt)))) (sym (poll-asks rows address raise reset out) ∙ sym (e .answers))
+  clear : AllClear (pollTable rows address raise reset out) pollRest
+  clear = all-clear (pollTable rows address raise reset out) pollRest (omega arith, (omega arith, (omega arith, (omega arith, tt)))) (sym (poll-asks rows address raise reset out) ∙ sym (e .answers))
 
   in-range : address ≤ 999
   in-range = ltb-false 999 address (clear .0)
@@ -156,7 +157,7 @@ module _ (rows after : List Row) (given : ℕ → ℕ) (held : Held rows given) 
           held i on used
           ∙ sym (ap (λ (t : Bool). pick (t && eqb answer 0) gauge (given (rowAt rows i .address))) (ne-eqb a (rowAt rows i .address) (λ same. u i on (record { used = used; same = sym same }))))
 
-held-of : (start rows : List Row) → Empty start → (h : History start rows) → Held rows (gaugeGiven h)
+held-of : (start rows : List Row) → Empty start → (h : History asItWas start rows) → Held rows (gaugeGiven h)
 unfolding gaugeGiven
 held-of start now empty begun = λ i there used. absurd (differs used (ap not (empty i there)))
 held-of start now empty (enrolled {rows} settings a gauge answer h e) = held-enrol rows now (gaugeGiven h) (held-of start rows empty h) settings a gauge answer (enrol-done rows settings a gauge answer now e)
@@ -165,20 +166,20 @@ held-of start now empty (removed {rows} a answer h e) = held-remove rows now (ga
 held-of start now empty (looked a answer h e) = held-of start now empty h
 held-of start now empty (polled a raise reset out answer after h e) = held-of start now empty h
 
-as-enrolled : (start rows : List Row) → Empty start → (h : History start rows) (address : ℕ) → Marked rows address → is6500 (gaugeGiven h address) ≡ true
+as-enrolled : (start rows : List Row) → Empty start → (h : History asItWas start rows) (address : ℕ) → Marked rows address → is6500 (gaugeGiven h address) ≡ true
 as-enrolled start rows empty h address m =
     ap is6500 (ap (gaugeGiven h) (sym (m .row .here .same)) ∙ sym (held-of start rows empty h (m .at) (m .row .place) (m .row .here .used))) ∙ m .mark
 
 -- Enrolled again with gauge 0.
-refused-again : (one two : List Row) (settings address : ℕ) → Enrolled one settings address 0 0 two → (raise reset answer : ℕ) (out after : List ℕ) → PollsRow two address raise reset out answer after → (isSet raise || isSet reset) ≡ true → answer ≡ 28
+pub refused-again : (one two : List Row) (settings address : ℕ) → Enrolled one settings address 0 0 two → (raise reset answer : ℕ) (out after : List ℕ) → PollsRow two address raise reset out answer after → (isSet raise || isSet reset) ≡ true → answer ≡ 28
 refused-again one two settings address (not-enrolled z e) raise reset answer out after polls wanted = absurd (eqb-false 0 0 z refl)
 refused-again one two settings address (took z a u p e) raise reset answer out after polls wanted =
     let k : ℕ = placeFree (boardOf one) in
     let only = set-only one two k (newRow settings address 0) (p .place) e in
     let there = still one two address k (newRow settings address 0) only (p .place) (record { used = refl; same = refl }) (λ j l h. u j (record { counts = omega (arith, p .place .counts); lent = omega (arith, p .place .lent) }) h) in
-    board-calls .poll two address raise reset out answer after polls .unmarked a k there wanted (ap (λ (r : Row). is6500 (r .gauge)) (only .own)) .0
+    poll-promise two address raise reset out answer after polls .unmarked a k there wanted (ap (λ (r : Row). is6500 (r .gauge)) (only .own)) .0
 
-pub board-poll : BoardPoll
+pub board-poll : BoardPoll asItWas
 board-poll =
     record {
       its-address = λ rows address raise reset out after p e reads. ap (λ (x : Poll). x .address) (same rows address raise reset out after e p reads);

@@ -19,11 +19,12 @@ use Rattle.board.specs.Row.{none, good, isFree, lastOf, never, at, more, heardA
 use Rattle.board.specs.Rows.{boardOf, placeOf, placeFree}
 use Rattle.frame.specs.Pick.{pick}
 use Rattle.board.specs.Calls.{heardAs, told, refusedLook, lastTold, minuteTold}
-use Rattle.promises_order.specs.OldBoard.{OldHears as Hears, OldLooksUp as LooksUp, OldEnrols as Enrols, OldRemoves as Removes}
+use Rattle.promises_order.specs.OldBoard.{OldHears as Hears, OldLooksUp as LooksUp}
 use Rattle.board.proofs.Faults.{sets-some, not-0}
 use Rattle.board.proofs.Numbers.{find-11, find-17, find-0}
 use Rattle.promises_order.specs.Places.{rowAt, OnBoard}
 use Rattle.promises_board.specs.Calls.{Holds, IsRowOf, Unknown, OnlyRow, Tells}
+use Rattle.promises_board.specs.Records.{asItWas}
 use Rattle.promises_board.specs.Readings.{Reads, BoardReadings}
 use Rattle.promises_board.proofs.Tests.{differs}
 use Rattle.promises_board.proofs.Places.{row-on, row-is, place-row, unknown-off}
@@ -208,7 +209,7 @@ module _ (rows after : List Row) (address other : ℕ) (ne : other ≡ address �
   remove-by answer (gave z a p e) =
       apart-set rows after address _ _ (set-only rows after _ freeRow (p .place) e) (not-both (rowAt rows (placeOf other (boardOf rows))) (p .here .same)) (free-holds-none freeRow refl)
 
-pub board-readings : BoardReadings Enrols Hears Removes LooksUp
+pub board-readings : BoardReadings asItWas
 board-readings =
     record {
       heard = λ rows after minute address count place reply told hears looks. heard-then-looked rows after minute address count place reply told looks hears;

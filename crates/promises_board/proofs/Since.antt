@@ -20,6 +20,7 @@ use Rattle.promises_order.specs.OldBoard.{OldEnrols as Enrols, OldHears as Hear
 use Rattle.board.proofs.Faults.{sets-some, not-0}
 use Rattle.promises_order.specs.Places.{rowAt, OnBoard, Empty}
 use Rattle.promises_board.specs.Calls.{Holds, IsRowOf, Unknown, OnlyRow}
+use Rattle.promises_board.specs.Records.{asItWas}
 use Rattle.promises_board.specs.History.{History, begun, enrolled, heard, removed, looked, polled, NoneTwice}
 use Rattle.promises_board.specs.Since.{counted, since, latest, BoardSince}
 use Rattle.promises_frame.proofs.Cases.{by-lt}
@@ -151,7 +152,7 @@ module _ (rows after : List Row) (count : ℕ → ℕ) (minute : ℕ → Minute)
       go false s = stays address told (board-readings .hear-apart rows after m address a k y answer (look rows address) told (eqb-false a address s) (look-is rows address) e looks) z
 
 -- Over every history.
-told-of : (start now : List Row) → Empty start → (h : History start now) → Told now (since h) (latest h)
+told-of : (start now : List Row) → Empty start → (h : History asItWas start now) → Told now (since h) (latest h)
 unfolding since latest
 told-of start now empty begun = λ address told looks z.
     let k = known-by start address told looks z .1 in
@@ -207,7 +208,7 @@ module _ (rows after : List Row) (so : AllAgree rows) where
   agree-remove a answer (not-removed s e) = agree-same e
   agree-remove a answer (gave s x p e) = agree-set _ freeRow (set-only rows after _ freeRow (p .place) e) (λ u. absurd (free-not-used freeRow refl u))
 
-agree-of : (start now : List Row) → Empty start → History start now → AllAgree now
+agree-of : (start now : List Row) → Empty start → History asItWas start now → AllAgree now
 agree-of start now empty begun = λ i on used. absurd (free-not-used (rowAt start i) (empty i on) used)
 agree-of start now empty (enrolled {rows} settings a gauge answer h e) = agree-enrol rows now (agree-of start rows empty h) settings a gauge answer (enrol-done rows settings a gauge answer now e)
 agree-of start now empty (heard {rows} m a k y answer h e) = agree-hear rows now (agree-of start rows empty h) m a k y answer (hear-done rows m a k y answer now e)
@@ -215,7 +216,7 @@ agree-of start now empty (removed {rows} a answer h e) = agree-remove rows now (
 agree-of start now empty (looked a answer h e) = agree-of start now empty h
 agree-of start now empty (polled a raise reset out answer after h e) = agree-of start now empty h
 
-pub board-since : BoardSince
+pub board-since : BoardSince asItWas
 board-since =
     record {
       count-and-fault = λ start rows empty h i on used. let a = agree-of start rows empty h i on used in (a .none-faulty, a .no-fault);

@@ -23,6 +23,7 @@ use Rattle.board.specs.Rows.{boardOf, beyond, placeOf, onBoard, rowOf}
 use Rattle.board.specs.Calls.{heardAs, outsideAt, hearNumber, hearPlace, hearRows}
 use Rattle.promises_order.specs.OldBoard.{OldHears as Hears}
 use Rattle.board.proofs.Faults.{sets-26, sets-9}
+use Rattle.promises_order.proofs.Order.{board-order}
 use Rattle.promises_order.specs.Places.{rowAt}
 use Rattle.promises_board.specs.Calls.{IsRowOf, OnlyRow}
 use Rattle.promises_board.specs.Unprofiled.{numberBefore, placeBefore, rowsBefore, HeardBefore, Unchecked, no-profile, of-1800, no-temperature, withNumber, BoardProfiles}
@@ -30,6 +31,7 @@ use Rattle.promises_board.proofs.Tests.{differs, and-false}
 use Rattle.promises_board.proofs.Places.{place-row, row-place, same-row}
 use Rattle.promises_board.proofs.After.{at-most-14}
 use Rattle.promises_board.proofs.Done.{set-only, HearDone, not-heard, faulty, good, hear-done}
+use Rattle.promises_board.proofs.Now.{hear-so}
 
 none-outside : (t : Temperature) → outside noProfile t ≡ false
 none-outside (Degrees d) = refl
@@ -140,12 +142,15 @@ module _ (rows after : List Row) (minute address count number p : ℕ) (reply : 
   pub set-by : Hears rows minute address count reply (heardAs number p) after → (i : ℕ) → IsRowOf rows address i → OnlyRow rows i (withFault (heardAt (rowAt rows i) minute) number 0) after
   set-by e = by-done (hear-done rows minute address count reply (heardAs number p) after e)
 
+-- Of today's calls: of rows so kept a hearing is what it was, and one that answered another number than 38 was of such rows.
 pub board-profiles : BoardProfiles
 board-profiles =
     record {
-      unprofiled = λ rows after minute address count reply answer unchecked e. as-before rows minute address count reply unchecked answer after e;
+      unprofiled = λ rows after minute address count reply answer so unchecked e.
+          as-before rows minute address count reply unchecked answer after (board-order .hear-as-before rows minute address count reply answer after so e);
       acts-as-9 = λ rows after later minute address count bits p q reply other e f i w.
-          let x = set-by rows after minute address count 26 p reply sets-26 (λ z. omega (arith, z)) refl e i w in
-          let y = set-by rows later minute address bits 9 q other sets-9 (λ z. omega (arith, z)) refl f i w in
+          let so = hear-so rows minute address count 26 p reply after (λ z. omega (arith, z)) e in
+          let x = set-by rows after minute address count 26 p reply sets-26 (λ z. omega (arith, z)) refl (board-order .hear-as-before rows minute address count reply (heardAs 26 p) after so e) i w in
+          let y = set-by rows later minute address bits 9 q other sets-9 (λ z. omega (arith, z)) refl (board-order .hear-as-before rows minute address bits other (heardAs 9 q) later so f) i w in
           (ap (λ (r : Row). r .fault) (x .own), y .own ∙ sym (ap (withNumber 9) (x .own)), λ j ne. y .others j ne ∙ sym (x .others j ne), y .as-many ∙ sym (x .as-many));
     }

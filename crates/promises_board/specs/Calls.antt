@@ -1,5 +1,6 @@
--- The board's calls: of each call, case by case, what it answers, what becomes of its own row, and that every other row stays. The cases are those of
--- document 01 in its order, and they leave no input out. Places are said here by what stands in the rows and not by a search.
+-- The board's calls of rows so kept: of each call, case by case, what it answers, what becomes of its own row, which rows move, and that every other row
+-- stays. The cases are those of document 01 in its order, and they leave no input out; rows not so kept are refused by 38 before them
+-- (`promises_order/specs/Order.antt`). Places are said here by what stands in the rows and not by a search.
 use mathlib.Core.Path.{_≡_}
 use mathlib.Core.Bool.{true, false, _||_}
 use mathlib.Core.List.{List}
@@ -17,10 +18,10 @@ use Rattle.board.specs.declared.Heard.{Heard}
 use Rattle.board.specs.declared.Looked.{Looked}
 use Rattle.board.specs.declared.Row.{Row}
 use Rattle.board.specs.Gauge.{is6500, profileMisplaced, gaugeTold}
-use Rattle.board.specs.Row.{isFree, inUse, lastOf, freeRow, newRow, withReading, withFault, placeTold, heardAt, heardOf}
-use Rattle.board.specs.Calls.{heardAs, refusedLook, lastTold, minuteTold}
+use Rattle.board.specs.Row.{isFree, inUse, lastOf, newRow, withReading, withFault, placeTold, heardAt, heardOf}
+use Rattle.board.specs.Calls.{Enrols, Hears, Removes, LooksUp, PollsRow, heardAs, refusedLook, lastTold, minuteTold}
 use Rattle.promises_order.specs.Places.{rowAt, OnBoard}
-use Rattle.promises_order.specs.OldBoard.{OldEnrols as Enrols, OldHears as Hears, OldRemoves as Removes, OldLooksUp as LooksUp, OldPollsRow as PollsRow}
+use Rattle.promises_order.specs.Order.{SoKept, Front, IsPlaceFor, Inserted, Closed}
 use Rattle.promises_board.specs.Profiles.{OutOfRange, Checked}
 
 -- A row in use holds this address.
@@ -67,8 +68,8 @@ pub record OnlyRow (rows : List Row) (i : ℕ) (row : Row) (after : List Row) : 
   pub others : (j : ℕ) → (j ≡ i → ⊥) → rowAt after j ≡ rowAt rows j
   pub as-many : length after ≡ length rows
 
--- Enrolling: 10, 11, 27, 18, 19, and no row changes; or 0, and the first free row is in use with this address, these settings and this gauge, no reading
--- and fault 0.
+-- Enrolling: 10, 11, 27, 18, 19, and no row changes; or 0, and a row in use with this address, these settings and this gauge, no reading and fault 0 is
+-- put at the place of its address among the n rows in use, and those behind it move on by one, into the first free row.
 pub record EnrolPromise (rows : List Row) (settings address gauge answer : ℕ) (after : List Row) : Type 0 where
   pub bad-settings : 15 < settings → (answer ≡ 10) × (after ≡ rows)
   pub bad-address : settings ≤ 15 → 999 < address → (answer ≡ 11) × (after ≡ rows)
@@ -77,8 +78,8 @@ pub record EnrolPromise (rows : List Row) (settings address gauge answer : ℕ) 
       → (i : ℕ) → IsRowOf rows address i → (answer ≡ 18) × (after ≡ rows)
   pub no-row : settings ≤ 15 → address ≤ 999 → profileMisplaced settings gauge ≡ false → Unknown rows address → NoFree rows
       → (answer ≡ 19) × (after ≡ rows)
-  pub enrolled : settings ≤ 15 → address ≤ 999 → profileMisplaced settings gauge ≡ false → Unknown rows address → (i : ℕ) → IsFirstFree rows i
-      → (answer ≡ 0) × OnlyRow rows i (newRow settings address gauge) after
+  pub enrolled : settings ≤ 15 → address ≤ 999 → profileMisplaced settings gauge ≡ false → Unknown rows address → (n : ℕ) → IsFirstFree rows n
+      → (answer ≡ 0) × ((i : ℕ) → IsPlaceFor rows address n i → Inserted rows i n (newRow settings address gauge) after)
 
 -- Hearing: 11, 14, 17, 10 by the row's own settings, and no row changes; 1 to 9, and 26 of a reply that the frame accepts and whose temperature is out of
 -- its row's range, and of the row only the fault is set, 7 with the place of the unreadable digit, which is answered too, and one faulty reply more
@@ -102,11 +103,11 @@ pub record HearPromise (rows : List Row) (minute address count : ℕ) (reply : L
       → (r : Reading) → ReadsReply (rowAt rows i .settings) address count reply (Read r) → (OutOfRange (rowAt rows i) (r .temperature) → ⊥)
       → (answer ≡ heardAs 0 0) × OnlyRow rows i (withReading (heardAt (rowAt rows i) minute) r minute) after
 
--- Removing: 11, 17, and no row changes; or 0, and the row is free, all zeros.
+-- Removing: 11, 17, and no row changes; or 0, and of the n rows in use those behind the row move up by one, and the last of their places is all zeros.
 pub record RemovePromise (rows : List Row) (address answer : ℕ) (after : List Row) : Type 0 where
   pub bad-address : 999 < address → (answer ≡ 11) × (after ≡ rows)
   pub unknown : address ≤ 999 → Unknown rows address → (answer ≡ 17) × (after ≡ rows)
-  pub removed : address ≤ 999 → (i : ℕ) → IsRowOf rows address i → (answer ≡ 0) × OnlyRow rows i freeRow after
+  pub removed : address ≤ 999 → (i : ℕ) → IsRowOf rows address i → (answer ≡ 0) × ((n : ℕ) → Front rows n → Closed rows i n after)
 
 -- What is told of a row.
 pub record Tells (row : Row) (answer : Looked) : Type 0 where
@@ -149,14 +150,15 @@ pub record PollPromise (rows : List Row) (address raise reset : ℕ) (out : List
 
 -- Whatever a contract allows keeps these promises, and it allows one outcome.
 pub record BoardCalls : Type 0 where
-  pub enrol : (rows : List Row) (settings address gauge answer : ℕ) (after : List Row) → Enrols rows settings address gauge answer after
+  pub enrol : (rows : List Row) (settings address gauge answer : ℕ) (after : List Row) → SoKept rows → Enrols rows settings address gauge answer after
       → EnrolPromise rows settings address gauge answer after
-  pub hear : (rows : List Row) (minute address count : ℕ) (reply : List ℕ) (answer : Heard) (after : List Row)
+  pub hear : (rows : List Row) (minute address count : ℕ) (reply : List ℕ) (answer : Heard) (after : List Row) → SoKept rows
       → Hears rows minute address count reply answer after → HearPromise rows minute address count reply answer after
-  pub remove : (rows : List Row) (address answer : ℕ) (after : List Row) → Removes rows address answer after → RemovePromise rows address answer after
-  pub look-up : (rows : List Row) (address : ℕ) (answer : Looked) → LooksUp rows address answer → LookPromise rows address answer
-  pub poll : (rows : List Row) (address raise reset : ℕ) (out : List ℕ) (answer : ℕ) (after : List ℕ) → PollsRow rows address raise reset out answer after
-      → PollPromise rows address raise reset out answer after
+  pub remove : (rows : List Row) (address answer : ℕ) (after : List Row) → SoKept rows → Removes rows address answer after
+      → RemovePromise rows address answer after
+  pub look-up : (rows : List Row) (address : ℕ) (answer : Looked) → SoKept rows → LooksUp rows address answer → LookPromise rows address answer
+  pub poll : (rows : List Row) (address raise reset : ℕ) (out : List ℕ) (answer : ℕ) (after : List ℕ) → SoKept rows
+      → PollsRow rows address raise reset out answer after → PollPromise rows address raise reset out answer after
 
 pub record BoardOneOutcome : Type 0 where
   pub enrol : (rows : List Row) (settings address gauge a b : ℕ) (after later : List Row) → Enrols rows settings address gauge a after

@@ -1,4 +1,5 @@
 -- What is never read: rows that differ only in what stands in their free rows, or past the thirtieth, get the same answers, and the same rows after.
+-- Whatever rows they are: whether they are so kept hangs on rows in use alone.
 use mathlib.Core.Path.{_≡_}
 use mathlib.Core.List.{List, map}
 use Prim.Native.Nat.{ℕ}
@@ -8,7 +9,7 @@ use Rattle.board.specs.declared.Looked.{Looked}
 use Rattle.board.specs.declared.Row.{Row}
 use Rattle.board.specs.Row.{isFree, freeRow}
 use Rattle.board.specs.Rows.{boardOf}
-use Rattle.promises_order.specs.OldBoard.{OldEnrols as Enrols, OldHears as Hears, OldRemoves as Removes, OldLooksUp as LooksUp, OldPollsRow as PollsRow}
+use Rattle.board.specs.Calls.{Enrols, Hears, Removes, LooksUp, PollsRow}
 
 -- A row with nothing left in it where it is free.
 abbrev pub cleared : Row → Row

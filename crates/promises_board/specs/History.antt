@@ -12,27 +12,27 @@ use Rattle.board.specs.declared.Looked.{Looked}
 use Rattle.board.specs.declared.Row.{Row}
 use Rattle.board.specs.Gauge.{profileMisplaced}
 use Rattle.board.specs.Row.{isFree}
-use Rattle.promises_order.specs.OldBoard.{OldEnrols as Enrols, OldHears as Hears, OldRemoves as Removes, OldLooksUp as LooksUp, OldPollsRow as PollsRow}
 use Rattle.promises_order.specs.Places.{Empty, OnBoard, rowAt}
+use Rattle.promises_board.specs.Records.{Records}
 use Rattle.promises_board.specs.Calls.{Holds, Unknown}
 
 -- Calls one after another, the latest last, each with an outcome that its contract allows.
-pub data History (start : List Row) : List Row → Type 0 where
-  begun : History start start
-  enrolled : {rows after : List Row} (settings address gauge answer : ℕ) → History start rows → Enrols rows settings address gauge answer after → History start after
-  heard : {rows after : List Row} (minute address count : ℕ) (reply : List ℕ) (answer : Heard) → History start rows
-      → Hears rows minute address count reply answer after → History start after
-  removed : {rows after : List Row} (address answer : ℕ) → History start rows → Removes rows address answer after → History start after
-  looked : {rows : List Row} (address : ℕ) (answer : Looked) → History start rows → LooksUp rows address answer → History start rows
-  polled : {rows : List Row} (address raise reset : ℕ) (out : List ℕ) (answer : ℕ) (after : List ℕ) → History start rows
-      → PollsRow rows address raise reset out answer after → History start rows
+pub data History (calls : Records) (start : List Row) : List Row → Type 0 where
+  begun : History calls start start
+  enrolled : {rows after : List Row} (settings address gauge answer : ℕ) → History calls start rows → calls .enrols rows settings address gauge answer after → History calls start after
+  heard : {rows after : List Row} (minute address count : ℕ) (reply : List ℕ) (answer : Heard) → History calls start rows
+      → calls .hears rows minute address count reply answer after → History calls start after
+  removed : {rows after : List Row} (address answer : ℕ) → History calls start rows → calls .removes rows address answer after → History calls start after
+  looked : {rows : List Row} (address : ℕ) (answer : Looked) → History calls start rows → calls .looksUp rows address answer → History calls start rows
+  polled : {rows : List Row} (address raise reset : ℕ) (out : List ℕ) (answer : ℕ) (after : List ℕ) → History calls start rows
+      → calls .pollsRow rows address raise reset out answer after → History calls start rows
 
 -- No address is in use twice.
 abbrev pub NoneTwice : List Row → Type 0
 NoneTwice rows = (i j address : ℕ) → OnBoard rows i → OnBoard rows j → Holds (rowAt rows i) address → Holds (rowAt rows j) address → i ≡ j
 
 -- The enrolments and the removals of a history that answered 0.
-unfoldable pub taken : {start rows : List Row} → History start rows → ℕ
+unfoldable pub taken : {calls : Records} {start rows : List Row} → History calls start rows → ℕ
 taken begun = 0
 taken (enrolled settings address gauge answer h e) = pick (eqb answer 0) (suc (taken h)) (taken h)
 taken (heard minute address count reply answer h e) = taken h
@@ -40,7 +40,7 @@ taken (removed address answer h e) = taken h
 taken (looked address answer h e) = taken h
 taken (polled address raise reset out answer after h e) = taken h
 
-unfoldable pub given : {start rows : List Row} → History start rows → ℕ
+unfoldable pub given : {calls : Records} {start rows : List Row} → History calls start rows → ℕ
 given begun = 0
 given (enrolled settings address gauge answer h e) = given h
 given (heard minute address count reply answer h e) = given h
@@ -48,15 +48,15 @@ given (removed address answer h e) = pick (eqb answer 0) (suc (given h)) (given 
 given (looked address answer h e) = given h
 given (polled address raise reset out answer after h e) = given h
 
-pub record BoardHistory : Type 0 where
-  pub none-twice : (start rows : List Row) → Empty start → History start rows → NoneTwice rows
+pub record BoardHistory (calls : Records) : Type 0 where
+  pub none-twice : (start rows : List Row) → Empty start → History calls start rows → NoneTwice rows
   -- The rows stay as many as were lent, and those past the thirtieth stay as they were.
-  pub as-many : (start rows : List Row) → History start rows → length rows ≡ length start
-  pub beyond : (start rows : List Row) → History start rows → (i : ℕ) → 30 ≤ i → rowAt rows i ≡ rowAt start i
+  pub as-many : (start rows : List Row) → History calls start rows → length rows ≡ length start
+  pub beyond : (start rows : List Row) → History calls start rows → (i : ℕ) → 30 ≤ i → rowAt rows i ≡ rowAt start i
   -- A new address is enrolled while fewer are on the board than it has rows, 30 at most, and else refused by 19.
-  pub room : (start rows after : List Row) (h : History start rows) (settings address gauge answer : ℕ) → Empty start → settings ≤ 15 → address ≤ 999
-      → profileMisplaced settings gauge ≡ false → Unknown rows address → Enrols rows settings address gauge answer after
+  pub room : (start rows after : List Row) (h : History calls start rows) (settings address gauge answer : ℕ) → Empty start → settings ≤ 15 → address ≤ 999
+      → profileMisplaced settings gauge ≡ false → Unknown rows address → calls .enrols rows settings address gauge answer after
       → taken h < given h + min 30 (length start) → answer ≡ 0
-  pub full : (start rows after : List Row) (h : History start rows) (settings address gauge answer : ℕ) → Empty start → settings ≤ 15 → address ≤ 999
-      → profileMisplaced settings gauge ≡ false → Unknown rows address → Enrols rows settings address gauge answer after
+  pub full : (start rows after : List Row) (h : History calls start rows) (settings address gauge answer : ℕ) → Empty start → settings ≤ 15 → address ≤ 999
+      → profileMisplaced settings gauge ≡ false → Unknown rows address → calls .enrols rows settings address gauge answer after
       → given h + min 30 (length start) ≤ taken h → answer ≡ 19

@@ -1,4 +1,5 @@
--- First fault on the board: the lines of the table that bear on an enrolment and on a row's poll, and the orders that document 02's request 10 asks them in.
+-- First fault on the board: the lines of the table that bear on an enrolment and on a row's poll, and the orders that document 02 asks them in, request 10
+-- with what request 11 asks first.
 use mathlib.Core.Bool.{not, _||_}
 use mathlib.Core.List.{List, [], _∷_}
 use Prim.Native.Nat.{ℕ}
@@ -8,7 +9,8 @@ use Rattle.frame.specs.Faults.{Test, _gives_}
 use Rattle.board.specs.declared.Row.{Row}
 use Rattle.board.specs.Gauge.{profileMisplaced, unmarked, atOnce}
 use Rattle.board.specs.Rows.{boardOf, onBoard, rowOf, hasFree}
-use Rattle.promises_order.specs.OldBoard.{OldEnrols as Enrols, OldPollsRow as PollsRow}
+use Rattle.board.specs.Order.{kept}
+use Rattle.board.specs.Calls.{Enrols, PollsRow}
 use Rattle.promises_frame.specs.FirstFault.{FirstThatApplies}
 
 abbrev pub enrolTable : List Row → (settings address gauge : ℕ) → List Test
@@ -18,10 +20,11 @@ enrolTable rows settings address gauge =
     ∷ onBoard address (boardOf rows) gives 18
     ∷ not (hasFree (boardOf rows)) gives 19
     ∷ profileMisplaced settings gauge gives 27
+    ∷ not (kept (boardOf rows)) gives 38
     ∷ []
 
 abbrev pub enrolOrder : List ℕ
-enrolOrder = 10 ∷ 11 ∷ 27 ∷ 18 ∷ 19 ∷ []
+enrolOrder = 38 ∷ 10 ∷ 11 ∷ 27 ∷ 18 ∷ 19 ∷ []
 
 abbrev pub pollTable : List Row → (address raise reset : ℕ) → List ℕ → List Test
 pollTable rows address raise reset out =
@@ -29,10 +32,11 @@ pollTable rows address raise reset out =
     ∷ ltb (length out) 2 gives 15
     ∷ not (onBoard address (boardOf rows)) gives 17
     ∷ (unmarked (rowOf address (boardOf rows) .gauge) raise reset || atOnce raise reset) gives 28
+    ∷ not (kept (boardOf rows)) gives 38
     ∷ []
 
 abbrev pub pollOrder : List ℕ
-pollOrder = 11 ∷ 17 ∷ 28 ∷ 15 ∷ []
+pollOrder = 38 ∷ 11 ∷ 17 ∷ 28 ∷ 15 ∷ []
 
 pub record BoardOrders : Type 0 where
   pub enrol : (rows : List Row) (settings address gauge answer : ℕ) (after : List Row) → Enrols rows settings address gauge answer after

@@ -13,9 +13,9 @@ use Rattle.frame.specs.Poll.{ReadsPoll}
 use Rattle.board.specs.declared.Looked.{Looked}
 use Rattle.board.specs.declared.Row.{Row}
 use Rattle.board.specs.Gauge.{is6500}
-use Rattle.promises_order.specs.OldBoard.{OldEnrols as Enrols, OldRemoves as Removes, OldLooksUp as LooksUp, OldPollsRow as PollsRow}
 use Rattle.promises_order.specs.Places.{rowAt, Empty}
 use Rattle.promises_board.specs.Calls.{IsRowOf}
+use Rattle.promises_board.specs.Records.{Records}
 use Rattle.promises_board.specs.History.{History, begun, enrolled, heard, removed, looked, polled}
 
 -- The address has a row, which is marked as a 6500.
@@ -25,7 +25,7 @@ pub record Marked (rows : List Row) (address : ℕ) : Type 0 where
   pub mark : is6500 (rowAt rows at .gauge) ≡ true
 
 -- The gauge that an address was enrolled with last, in a history, by an enrolment that answered 0; 0 where there is none.
-unfoldable pub gaugeGiven : {start rows : List Row} → History start rows → ℕ → ℕ
+unfoldable pub gaugeGiven : {calls : Records} {start rows : List Row} → History calls start rows → ℕ → ℕ
 gaugeGiven begun address = 0
 gaugeGiven (enrolled settings a gauge answer h e) address = pick (eqb a address && eqb answer 0) gauge (gaugeGiven h address)
 gaugeGiven (heard minute a count reply answer h e) address = gaugeGiven h address
@@ -33,20 +33,20 @@ gaugeGiven (removed a answer h e) address = gaugeGiven h address
 gaugeGiven (looked a answer h e) address = gaugeGiven h address
 gaugeGiven (polled a raise reset out answer after h e) address = gaugeGiven h address
 
-pub record BoardPoll : Type 0 where
+pub record BoardPoll (calls : Records) : Type 0 where
   -- What is written is a poll of the address that was asked for, never with both bits set, and with one of them only to a marked row.
-  pub its-address : (rows : List Row) (address raise reset : ℕ) (out after : List ℕ) (p : Poll) → PollsRow rows address raise reset out 0 after
+  pub its-address : (rows : List Row) (address raise reset : ℕ) (out after : List ℕ) (p : Poll) → calls .pollsRow rows address raise reset out 0 after
       → ReadsPoll (take 2 after) (Asked p) → p .address ≡ address
-  pub never-both : (rows : List Row) (address raise reset : ℕ) (out after : List ℕ) (p : Poll) → PollsRow rows address raise reset out 0 after
+  pub never-both : (rows : List Row) (address raise reset : ℕ) (out after : List ℕ) (p : Poll) → calls .pollsRow rows address raise reset out 0 after
       → ReadsPoll (take 2 after) (Asked p) → p .raise ≡ true → p .reset ≡ true → ⊥
-  pub only-marked : (rows : List Row) (address raise reset : ℕ) (out after : List ℕ) (p : Poll) → PollsRow rows address raise reset out 0 after
+  pub only-marked : (rows : List Row) (address raise reset : ℕ) (out after : List ℕ) (p : Poll) → calls .pollsRow rows address raise reset out 0 after
       → ReadsPoll (take 2 after) (Asked p) → (p .raise || p .reset) ≡ true → Marked rows address
   -- No calls of a board begun empty make a poll raise or reset an address that was not enrolled with the mark.
-  pub as-enrolled : (start rows : List Row) → Empty start → (h : History start rows) (address raise reset : ℕ) (out after : List ℕ) (p : Poll)
-      → PollsRow rows address raise reset out 0 after → ReadsPoll (take 2 after) (Asked p) → (p .raise || p .reset) ≡ true
+  pub as-enrolled : (start rows : List Row) → Empty start → (h : History calls start rows) (address raise reset : ℕ) (out after : List ℕ) (p : Poll)
+      → calls .pollsRow rows address raise reset out 0 after → ReadsPoll (take 2 after) (Asked p) → (p .raise || p .reset) ≡ true
       → is6500 (gaugeGiven h address) ≡ true
   -- Removing clears profile and mark: enrolled again with gauge 0, a look tells gauge 0, and raise or reset is refused by 28.
-  pub cleared : (rows one two : List Row) (settings address : ℕ) (told : Looked) → Removes rows address 0 one → Enrols one settings address 0 0 two
-      → LooksUp two address told
-      → (told .gauge ≡ 0) × ((raise reset answer : ℕ) (out after : List ℕ) → PollsRow two address raise reset out answer after
+  pub cleared : (rows one two : List Row) (settings address : ℕ) (told : Looked) → calls .removes rows address 0 one → calls .enrols one settings address 0 0 two
+      → calls .looksUp two address told
+      → (told .gauge ≡ 0) × ((raise reset answer : ℕ) (out after : List ℕ) → calls .pollsRow two address raise reset out answer after
       → (isSet raise || isSet reset) ≡ true → answer ≡ 28)

@@ -11,8 +11,8 @@ use Rattle.board.specs.declared.Looked.{Looked}
 use Rattle.board.specs.declared.Row.{Row}
 use Rattle.board.specs.Row.{inUse, setsFault, Minute, never, at}
 use Rattle.board.specs.Calls.{minuteTold}
-use Rattle.promises_order.specs.OldBoard.{OldHears as Hears, OldLooksUp as LooksUp}
 use Rattle.promises_order.specs.Places.{rowAt, OnBoard, Empty}
+use Rattle.promises_board.specs.Records.{Records}
 use Rattle.promises_board.specs.History.{History, begun, enrolled, heard, removed, looked, polled}
 
 -- The hearings of an address in a history that answered a fault of the row, since the last one that answered 0 or since its enrolment. A hearing
@@ -20,7 +20,7 @@ use Rattle.promises_board.specs.History.{History, begun, enrolled, heard
 abbrev pub counted : ℕ → ℕ → ℕ
 counted number n = pick (eqb number 0) 0 (pick (setsFault number) (suc n) n)
 
-unfoldable pub since : {start rows : List Row} → History start rows → ℕ → ℕ
+unfoldable pub since : {calls : Records} {start rows : List Row} → History calls start rows → ℕ → ℕ
 since begun address = 0
 since (enrolled settings a gauge answer h e) address = pick (eqb a address && eqb answer 0) 0 (since h address)
 since (heard minute a count reply answer h e) address = pick (eqb a address) (counted (answer .number) (since h address)) (since h address)
@@ -29,7 +29,7 @@ since (looked a answer h e) address = since h address
 since (polled a raise reset out answer after h e) address = since h address
 
 -- The minute of the latest hearing of an address that reached its row, good or faulty; never where there is none since its enrolment.
-unfoldable pub latest : {start rows : List Row} → History start rows → ℕ → Minute
+unfoldable pub latest : {calls : Records} {start rows : List Row} → History calls start rows → ℕ → Minute
 latest begun address = never
 latest (enrolled settings a gauge answer h e) address = pick (eqb a address && eqb answer 0) never (latest h address)
 latest (heard minute a count reply answer h e) address =
@@ -38,18 +38,18 @@ latest (removed a answer h e) address = latest h address
 latest (looked a answer h e) address = latest h address
 latest (polled a raise reset out answer after h e) address = latest h address
 
-pub record BoardSince : Type 0 where
+pub record BoardSince (calls : Records) : Type 0 where
   -- On a board begun empty the count of a row in use is 0 exactly where its fault is.
-  pub count-and-fault : (start rows : List Row) → Empty start → History start rows → (i : ℕ) → OnBoard rows i → inUse (rowAt rows i) ≡ true
+  pub count-and-fault : (start rows : List Row) → Empty start → History calls start rows → (i : ℕ) → OnBoard rows i → inUse (rowAt rows i) ≡ true
       → (rowAt rows i .faulty ≡ 0 → rowAt rows i .fault ≡ 0) × (rowAt rows i .fault ≡ 0 → rowAt rows i .faulty ≡ 0)
   -- The count that a look tells is that of the history, and stays at 65,535; the minute is that of the latest hearing, even if the clock went back.
-  pub counted-since : (start rows : List Row) → Empty start → (h : History start rows) (address : ℕ) (told : Looked) → LooksUp rows address told
+  pub counted-since : (start rows : List Row) → Empty start → (h : History calls start rows) (address : ℕ) (told : Looked) → calls .looksUp rows address told
       → told .number ≡ 0
       → told .faulty ≡ min 65535 (since h address)
-  pub latest-heard : (start rows : List Row) → Empty start → (h : History start rows) (address : ℕ) (told : Looked) → LooksUp rows address told
+  pub latest-heard : (start rows : List Row) → Empty start → (h : History calls start rows) (address : ℕ) (told : Looked) → calls .looksUp rows address told
       → told .number ≡ 0
       → minuteTold told ≡ latest h address
   -- Replies for different addresses, heard in either order, give the same answers and the same board, whatever rows were lent.
   pub either-order : (rows one both other again : List Row) (m a k n b l : ℕ) (y z : List ℕ) (p q r s : Heard) → (a ≡ b → ⊥)
-      → Hears rows m a k y p one → Hears one n b l z q both → Hears rows n b l z r other → Hears other m a k y s again
+      → calls .hears rows m a k y p one → calls .hears one n b l z q both → calls .hears rows n b l z r other → calls .hears other m a k y s again
       → (p ≡ s) × (q ≡ r) × (both ≡ again)

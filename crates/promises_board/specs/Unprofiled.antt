@@ -14,9 +14,9 @@ use Rattle.board.specs.declared.Heard.{Heard}
 use Rattle.board.specs.declared.Row.{Row}
 use Rattle.board.specs.Row.{rowBy, ownerOf, keptOf, heardAt, withReading, withFault}
 use Rattle.board.specs.Rows.{boardOf, beyond, placeOf, onBoard, rowOf}
-use Rattle.board.specs.Calls.{heardAs}
-use Rattle.promises_order.specs.OldBoard.{OldHears as Hears}
+use Rattle.board.specs.Calls.{Hears, heardAs}
 use Rattle.promises_order.specs.Places.{rowAt}
+use Rattle.promises_order.specs.Order.{SoKept}
 use Rattle.promises_board.specs.Calls.{IsRowOf}
 
 -- A hearing as it was before the request: no number after 9, and 1 to 9 alone set a row's fault.
@@ -55,8 +55,9 @@ withNumber number row =
     rowBy (ownerOf row) (keptOf row) (record { fault = number; place = row .place; faulty = row .faulty; heard = row .heard })
 
 pub record BoardProfiles : Type 0 where
-  -- A hearing of a row that is not checked answers and leaves what it did before the request; so does every hearing on a board whose rows name no profile.
-  pub unprofiled : (rows after : List Row) (minute address count : ℕ) (reply : List ℕ) (answer : Heard)
+  -- Of rows so kept a hearing of a row that is not checked answers and leaves what it did before the request; so does every hearing on a board whose rows name
+  -- no profile.
+  pub unprofiled : (rows after : List Row) (minute address count : ℕ) (reply : List ℕ) (answer : Heard) → SoKept rows
       → ((i : ℕ) → IsRowOf rows address i → Unchecked (rowAt rows i) count)
       → Hears rows minute address count reply answer after → HeardBefore rows minute address count reply answer after
   -- 26 acts on a row as 9 does: of two hearings of one address at one minute, the rows after 9 are those after 26 but for the number of the fault.

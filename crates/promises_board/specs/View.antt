@@ -1,7 +1,7 @@
 -- The view of a board: what a look tells of each address. In which row an address stands, what stands in a free row and bytes that no look tells are
 -- no part of it. Boards of one view answer every call alike and are of one view after it, so that two boards may be compared but for places.
--- Two things no look tells, and they are asked for beside the view: whether a row is free, on which an enrolment hangs, and whether an address
--- stands twice, for removing the first row of it uncovers the second. On a board begun empty none does (`BoardHistory`).
+-- One thing no look tells, and it is asked for beside the view: whether a row is free, on which an enrolment hangs. Of rows not so kept every look is
+-- refused by 38, so that two such boards are of one view, and none of them is of one view with rows so kept.
 use mathlib.Core.Path.{_≡_}
 use mathlib.Core.List.{List, [], _∷_}
 use Prim.Native.Nat.{ℕ, suc, _≤_, min}
@@ -12,14 +12,14 @@ use Rattle.board.specs.declared.Looked.{Looked}
 use Rattle.board.specs.declared.Row.{Row}
 use Rattle.board.specs.Row.{isFree}
 use Rattle.board.specs.Rows.{boardOf, rowOf, hasFree}
-use Rattle.board.specs.Calls.{lookedAt}
-use Rattle.promises_order.specs.OldBoard.{OldEnrols as Enrols, OldHears as Hears, OldRemoves as Removes, OldLooksUp as LooksUp, OldPollsRow as PollsRow}
+use Rattle.board.specs.Order.{inOrder}
+use Rattle.board.specs.Calls.{Enrols, Hears, Removes, LooksUp, PollsRow, lookedAt, refusedLook}
 use Rattle.promises_order.specs.Places.{Empty}
-use Rattle.promises_board.specs.History.{NoneTwice}
+use Rattle.promises_order.specs.Order.{SoKept}
 
 -- What a look tells of an address, and two boards of which every look tells the same.
 abbrev pub view : List Row → ℕ → Looked
-view rows address = lookedAt (boardOf rows) address
+view rows address = inOrder (boardOf rows) (lookedAt (boardOf rows) address) (refusedLook 38)
 
 abbrev pub SameView : List Row → List Row → Type 0
 SameView rows others = (address : ℕ) → view rows address ≡ view others address
@@ -60,8 +60,11 @@ AnsweredAlike (both-look address a b calls e f) = (a ≡ b) × AnsweredAlike cal
 AnsweredAlike (both-poll address raise reset out a b after later calls e f) = (a ≡ b) × (after ≡ later) × AnsweredAlike calls
 
 pub record BoardView : Type 0 where
-  -- Boards on which each address has the same row, wherever it stands, or none on both, are of one view.
-  pub wherever : (rows others : List Row) → ((address : ℕ) → address ≤ 999 → rowOf address (boardOf rows) ≡ rowOf address (boardOf others))
+  -- The view is what a look tells.
+  pub told : (rows : List Row) (address : ℕ) (answer : Looked) → LooksUp rows address answer → answer ≡ view rows address
+  -- Boards so kept on which each address has the same row, wherever it stands, or none on both, are of one view.
+  pub wherever : (rows others : List Row) → SoKept rows → SoKept others
+      → ((address : ℕ) → address ≤ 999 → rowOf address (boardOf rows) ≡ rowOf address (boardOf others))
       → SameView rows others
   -- One call of two boards of one view.
   pub enrol : (rows others after later : List Row) (settings address gauge a b : ℕ) → SameView rows others → FreeAlike rows others
@@ -69,13 +72,13 @@ pub record BoardView : Type 0 where
   pub hear : (rows others after later : List Row) (minute address count : ℕ) (reply : List ℕ) (a b : Heard) → SameView rows others
       → Hears rows minute address count reply a after → Hears others minute address count reply b later → (a ≡ b) × SameView after later
   pub remove : (rows others after later : List Row) (address a b : ℕ) → SameView rows others → Removes rows address a after
-      → Removes others address b later → (a ≡ b) × (NoneTwice rows → NoneTwice others → SameView after later)
+      → Removes others address b later → (a ≡ b) × SameView after later
   pub look-up : (rows others : List Row) (address : ℕ) (a b : Looked) → SameView rows others → LooksUp rows address a → LooksUp others address b → a ≡ b
   pub poll : (rows others : List Row) (address raise reset : ℕ) (out after later : List ℕ) (a b : ℕ) → SameView rows others
       → PollsRow rows address raise reset out a after → PollsRow others address raise reset out b later → (a ≡ b) × (after ≡ later)
-  -- Any calls of two boards of one view with as many free rows and no address twice: every answer is the same, and so is the view at the end.
-  pub any-calls : (start begin rows others : List Row) → SameView start begin → AsManyFree start begin → NoneTwice start → NoneTwice begin
+  -- Any calls of two boards of one view with as many free rows: every answer is the same, and so is the view at the end.
+  pub any-calls : (start begin rows others : List Row) → SameView start begin → AsManyFree start begin
       → (calls : SideBySide start begin rows others) → AnsweredAlike calls × SameView rows others × AsManyFree rows others
   -- Such are any two boards begun empty with as many rows that count, whatever stood in them.
   pub begun-empty : (start begin : List Row) → Empty start → Empty begin → min 30 (length start) ≡ min 30 (length begin)
-      → SameView start begin × AsManyFree start begin × NoneTwice start × NoneTwice begin
+      → SameView start begin × AsManyFree start begin
