@@ -20,6 +20,7 @@ use Rattle.board.specs.declared.Row.{Row}
 use Rattle.board.specs.Row.{freeRow, newRow, withReading, withFault, setsFault, heardAt}
 use Rattle.board.specs.Rows.{placeOf, placeFree, rowOf}
 use Rattle.board.specs.Calls.{enrolNumber, faultBy, outsideAt, hearNumber, hearPlace, hearRows, findNumber, lookedAt, told, refusedLook}
+use Rattle.promises_order.proofs.Order.{first-small}
 use Rattle.promises_order.specs.OldBoard.{oldEnrolRows as enrolRows, oldRemoveRows as removeRows}
 
 module _ (board : List Row) (settings address gauge : ℕ) where
@@ -92,20 +93,6 @@ module _ (board : List Row) (minute address count : ℕ) (reply : List ℕ) wher
   pub hear-sets : number ≡ 0 → hearRows board minute address count reply ≡ good-rows
   unfolding hearRows
   hear-sets e = ap (λ (n : ℕ). pick (eqb n 0) good-rows (pick (setsFault n) (fault-rows n) board)) e
-
--- Where each number of a list of tests is at most m, the first that applies is.
-abbrev AllSmall : ℕ → List Test → Type 0
-AllSmall m [] = Unit {0}
-AllSmall m (t ∷ ts) = (t .number ≤ m) × AllSmall m ts
-
-first-small : (m : ℕ) (ts : List Test) → AllSmall m ts → firstOf ts ≤ m
-unfolding firstOf
-first-small m [] h = omega arith
-first-small m (t ∷ ts) h = by (t .applies) (first-small m ts (h .1))
-  where
-    by : (b : Bool) → firstOf ts ≤ m → pick b (t .number) (firstOf ts) ≤ m
-    by true k = h .0
-    by false k = k
 
 -- What the frame answers: a reading and number 0, or a number that is not 0.
 module _ (settings address count : ℕ) (reply : List ℕ) where

@@ -26,6 +26,7 @@ use Rattle.board.specs.Rows.{boardOf, beyond, holds, placeBy, placeOf, placeFre
 use Rattle.board.specs.Order.{allFree, keptFrom, kept, inOrder, pushed, insertRow, closed, withoutRow}
 use Rattle.board.specs.Calls.{enrolNumber, enrolRows, removeRows, hearNumber, hearPlace, hearRows, heardAs, findNumber, lookedAt, told, refusedLook, rowPollNumber, rowPollBytes}
 use Rattle.board.proofs.Places.{place-at}
+use Rattle.promises_order.proofs.Order.{pick-length}
 use Rattle.promises_order.proofs.Held.{length-insert, length-without}
 use Rattle.promises_board.proofs.After.{numberBy}
 use Rattle.promises_board.specs.Free.{cleared, Alike, BoardFree}
@@ -279,10 +280,6 @@ board-of rows now e = go (ltb (length rows) 30) refl
     go false s =
         let l : 30 ≤ length rows = ltb-false (length rows) 30 s in
         take-at now (beyond rows) 30 (omega (arith, few))
-
-pick-length : (t : Bool) (p q : List Row) → length p ≡ length q → length (pick t p q) ≡ length q
-pick-length true p q e = e
-pick-length false p q e = refl
 
 -- The boards after two calls are alike where what the calls made of the boards is, and is as long.
 after-alike : (Made : List Row → List Row) → ((board : List Row) → length (Made board) ≡ length board) → (rows others after later : List Row) → after ≡ Made (boardOf rows) ++ beyond rows → later ≡ Made (boardOf others) ++ beyond others → map cleared (Made (boardOf rows)) ≡ map cleared (Made (boardOf others)) → Alike after later

@@ -35,7 +35,7 @@ use Rattle.promises_order.specs.Order.{SoKept, SameInUse}
 use Rattle.promises_order.proofs.SoKept.{kept-so, not-kept}
 use Rattle.promises_order.proofs.Boards.{same-looked}
 use Rattle.promises_order.proofs.SameCalls.{Alike, enrol-alike, remove-alike}
-use Rattle.promises_order.proofs.Order.{in-order, out-of-order, old-enrol-length, old-remove-length, enrol-length, remove-length, board-order}
+use Rattle.promises_order.proofs.Order.{in-order, out-of-order, self, old-enrol-length, old-remove-length, enrol-length, remove-length, board-order}
 use Rattle.promises_board.proofs.OldView.{view as oldView, SameView as OldSameView}
 use Rattle.promises_board.proofs.Free.{board-of}
 use Rattle.promises_board.proofs.Now.{by-order, enrolled-before, enrols-before, removed-before, removes-before}
@@ -78,9 +78,6 @@ given-by true f g u v f' g' u' v' e a b c d = omega arith
 given-by false f g u v f' g' u' v' e a b c d = omega arith
 
 -- The rows in use after a call of rows so kept, counted.
-self : (board : List Row) → kept board ≡ true → Alike board board
-self board k = record { held = λ a. refl; many = refl; long = refl; order = k }
-
 module _ (rows after : List Row) (so : SoKept rows) where
   made : (now : List Row) → length now ≡ length (boardOf rows) → after ≡ inOrder (boardOf rows) now (boardOf rows) ++ beyond rows → boardOf after ≡ now
   made now long e = ap boardOf (e ∙ ap (λ (zs : List Row). zs ++ beyond rows) (in-order (boardOf rows) now (boardOf rows) (kept-so rows so))) ∙ board-of rows now long

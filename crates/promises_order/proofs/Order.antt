@@ -63,7 +63,7 @@ module _ (rows after now : List Row) (long : length now ≡ length (boardOf rows
       let f = ap length (sym (take-append-drop 30 rows)) ∙ length-append (boardOf rows) (beyond rows) in
       omega (arith, long)
 
-pick-length : (t : Bool) (p q : List Row) → length p ≡ length q → length (pick t p q) ≡ length q
+pub pick-length : (t : Bool) (p q : List Row) → length p ≡ length q → length (pick t p q) ≡ length q
 pick-length true p q e = e
 pick-length false p q e = refl
 
@@ -100,12 +100,12 @@ in-order board x y k = ap (λ (t : Bool). pick t x y) k
 pub out-of-order : {A : Type 0} (board : List Row) (x y : A) → kept board ≡ false → inOrder board x y ≡ y
 out-of-order board x y k = ap (λ (t : Bool). pick t x y) k
 
--- No other number is 38.
-abbrev AllSmall : ℕ → List Test → Type 0
+-- Where each number of a list of tests is at most m, the first that applies is: no other number is 38.
+abbrev pub AllSmall : ℕ → List Test → Type 0
 AllSmall m [] = Unit {0}
 AllSmall m (t ∷ ts) = (t .number ≤ m) × AllSmall m ts
 
-first-small : (m : ℕ) (ts : List Test) → AllSmall m ts → firstOf ts ≤ m
+pub first-small : (m : ℕ) (ts : List Test) → AllSmall m ts → firstOf ts ≤ m
 unfolding firstOf
 first-small m [] h = omega arith
 first-small m (t ∷ ts) h = by (t .applies) (first-small m ts (h .1))
@@ -301,7 +301,7 @@ module _ (rows : List Row) (so : SoKept rows) where
       (ap kept (board-after rows after now long (e ∙ ap (λ (zs : List Row). zs ++ beyond rows) (in-order (boardOf rows) now (boardOf rows) k))) ∙ is)
 
 -- What a call makes of a board so kept is so kept: it is like itself, and the calls keep that.
-self : (board : List Row) → kept board ≡ true → Alike board board
+pub self : (board : List Row) → kept board ≡ true → Alike board board
 self board k = record { held = λ a. refl; many = refl; long = refl; order = k }
 
 even : (rows : List Row) → SoKept rows → Both rows rows rows
