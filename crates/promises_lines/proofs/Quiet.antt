@@ -11,6 +11,7 @@ use Rattle.lines.specs.Sample.{Sample, sampleOf}
 use Rattle.lines.specs.Timing.{Timing}
 use Rattle.lines.specs.Step.{after, closes}
 use Rattle.lines.specs.Hearing.{Heard, heard, later, hear}
+use Rattle.lines.proofs.Steps.{later-later}
 
 abbrev pub Quiet : Timing → SoFar → List Sample → SoFar → Type 0
 Quiet t s [] n = s ≡ n
@@ -19,9 +20,6 @@ Quiet t s (k ∷ ks) n = (closes t (after t s k) ≡ false) × Quiet t (after t 
 pub quiet-append : (t : Timing) (s m n : SoFar) (ks js : List Sample) → Quiet t s ks m → Quiet t m js n → Quiet t s (ks ++ js) n
 quiet-append t s m n [] js e q = subst (λ (x : SoFar). Quiet t x js n) (sym e) q
 quiet-append t s m n (k ∷ ks) js p q = (p .0, quiet-append t (after t s k) m n ks js (p .1) q)
-
-pub later-later : (i j : ℕ) (h : Heard) → later i (later j h) ≡ later (i + j) h
-later-later i j h = ap (heard (h .told) (h .left)) (omega arith)
 
 pub later-none : (h : Heard) → later 0 h ≡ h
 later-none h = ap (heard (h .told) (h .left)) (zero-add (h .taken))
