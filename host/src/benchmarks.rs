@@ -197,6 +197,18 @@ impl<L: Core, R: Core> Benchmarks<'_, L, R> {
         let left = row_polls(self.left, &rows, &addresses);
         let right = row_polls(self.right, &rows, &addresses);
         self.time(tell, "poll of a row, 30 rows", POOL, left, right);
+        let left = look_ups(self.left, &rows, &addresses);
+        let right = look_ups(self.right, &rows, &addresses);
+        self.time(tell, "look up a row, 30 rows", POOL, left, right);
+        let left = re_enrolments(self.left, &rows, &addresses);
+        let right = re_enrolments(self.right, &rows, &addresses);
+        self.time(
+            tell,
+            "remove a row and enrol it, 30 rows",
+            POOL,
+            left,
+            right,
+        );
     }
 
     fn lists(&self, tell: &mut impl FnMut(&Timing), sizes: &[usize]) {
@@ -287,6 +299,33 @@ fn hears<'a, C: Core>(core: &'a C, rows: &[Row], replies: &'a [ReplyCase]) -> im
             let rows = black_box(&mut rows);
             let minute = minute as u32;
             let _ = black_box(core.hear(rows, minute, case.address, case.count, case.reply()));
+        }
+    }
+}
+
+/// Every address looked up.
+fn look_ups<'a, C: Core>(core: &'a C, rows: &[Row], addresses: &'a [u16]) -> impl FnMut() + 'a
+where
+    C::Row: 'a,
+{
+    let rows: Vec<C::Row> = rows.iter().map(|row| core.row(row)).collect();
+    move || {
+        for &address in addresses {
+            let _ = black_box(core.look_up(black_box(&rows), address));
+        }
+    }
+}
+
+/// Every address removed and enrolled again: two calls of a board that is full before and after.
+fn re_enrolments<'a, C: Core>(core: &'a C, rows: &[Row], addresses: &'a [u16]) -> impl FnMut() + 'a
+where
+    C::Row: 'a,
+{
+    let mut rows: Vec<C::Row> = rows.iter().map(|row| core.row(row)).collect();
+    move || {
+        for &address in addresses {
+            let _ = black_box(core.remove(black_box(&mut rows), address));
+            let _ = black_box(core.enrol(black_box(&mut rows), 1, address, 0));
         }
     }
 }
