@@ -9,12 +9,9 @@ use lib.Dec.{leb}
 use lib.ListN.{length, getD, drop}
 use lib.Seq.{drop-cons, drop-length}
 use Rattle.frame.specs.Pick.{pick}
+use Rattle.frame.proofs.Both.{both}
 use Rattle.areas.specs.Site.{feet, tenths, total, isArea}
 use Rattle.areas.specs.Plan.{joins, joining}
-
-pub both : (a b : Bool) → a && b ≡ true → (a ≡ true) × (b ≡ true)
-both true b e = (refl, e)
-both false b e = absurd (false≢true e)
 
 -- What it says that a transmitter joins.
 pub joins-so : (many far ohms t : ℕ) → joins many far ohms t ≡ true → (many + 1 ≤ 30) × (far + feet t ≤ 10000) × (ohms + tenths t ≤ 500)

@@ -12,10 +12,6 @@ profile-small noProfile = omega arith
 profile-small copper = omega arith
 profile-small platinum = omega arith
 
-pub mark-small : (b : Bool) → mark b ≤ 1
-mark-small true = omega arith
-mark-small false = omega arith
-
 -- number 0 is no profile
 pub has-profile : (p : Profile) → hasProfile p ≡ not (eqb (profileNumber p) 0)
 has-profile noProfile = refl

@@ -10,11 +10,11 @@ use lib.Dec.{eqb, leb, ltb}
 use lib.ListN.{length, getD, take, drop}
 use Rattle.frame.specs.Pick.{pick}
 use Rattle.frame.specs.Faults.{firstOf}
+use Rattle.frame.proofs.Both.{both}
 use Rattle.enraf.specs.Item.{Item, alone, setting, settingTaken, value, failed, equals, ampersand, exclamation, isDigit, digitAt, isLetter, allCharacters, isData, hasData, kindFits, textFits, begins, ends, isTaken, isError, kindIn, charactersIn, errorIn}
 use Rattle.enraf.specs.Record.{STX, ETX, B, Z, recordOf}
 use Rattle.enraf.specs.Reading.{framed, checkRight, addressed, itemIn, readFault}
 use Rattle.enraf.specs.Writing.{writeFault}
-use Rattle.enraf.proofs.Tests.{both}
 
 pub error-by : (t : List ℕ) (x y z w v : Bool) → eqb (length t) 4 ≡ x → eqb (begins t) exclamation ≡ y → isDigit (getD t 1 0) ≡ z
     → isDigit (getD t 2 0) ≡ w → isDigit (getD t 3 0) ≡ v → isError t ≡ (x && y && z && w && v)

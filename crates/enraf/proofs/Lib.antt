@@ -1,5 +1,4 @@
 -- Laws that the proofs of the functions cite.
-pub mod Tests
 pub mod ByTests
 pub mod Sums
 pub mod Characters

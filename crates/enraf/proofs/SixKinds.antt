@@ -8,8 +8,8 @@ use borrow.Author.Tests.{leb-true, eqb-true}
 use lib.Dec.{eqb, leb}
 use lib.ListN.{length}
 use Rattle.frame.specs.Pick.{pick}
+use Rattle.frame.proofs.Both.{both}
 use Rattle.enraf.specs.Item.{Item, alone, failed, isLetter, allCharacters, isData, hasData, kindFits, textFits}
-use Rattle.enraf.proofs.Tests.{both}
 
 -- data has 16 characters or fewer
 pub data-few : (d : List ℕ) → isData d ≡ true → length d ≤ 16

@@ -17,6 +17,9 @@ pub both-right : (a b : Bool) → (a && b) ≡ true → b ≡ true
 both-right true b e = e
 both-right false b e = let z : _≡_ {A = ℕ} 0 1 = cc in absurd (omega arith)
 
+pub both : (a b : Bool) → (a && b) ≡ true → (a ≡ true) × (b ≡ true)
+both a b e = (both-left a b e, both-right a b e)
+
 -- the same of tests that are computed
 pub and-left : (a b : Bool) → T (a && b) → T a
 and-left true b t = tt

@@ -1,10 +1,16 @@
--- The marks of bytes put end to end are the marks of each. Assumes nothing.
+-- A mark is 1 at most; the marks of bytes put end to end are the marks of each. Assumes nothing.
 use mathlib.Core.Path.{_≡_, sym, ap, _∙_}
+use mathlib.Core.Bool.{Bool, true, false}
 use mathlib.Core.List.{List, [], _∷_, _++_}
-use Prim.Native.Nat.{ℕ, _+_}
+use Prim.Native.Nat.{ℕ, _+_, _≤_}
 use native.Mathlib.Nat.{zero-add, add-assoc}
+use native.Mathlib.Omega.{arith}
 use lib.Count.{ones}
-use Rattle.frame.specs.Line.{marks}
+use Rattle.frame.specs.Line.{mark, marks}
+
+pub mark-small : (b : Bool) → mark b ≤ 1
+mark-small true = omega arith
+mark-small false = omega arith
 
 pub marks-append : (a b : List ℕ) → marks (a ++ b) ≡ marks a + marks b
 unfolding marks

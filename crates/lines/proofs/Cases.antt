@@ -1,16 +1,12 @@
 -- Ways to go by cases on a test. Assumes nothing.
 use mathlib.Core.Path.{_≡_, refl}
-use mathlib.Core.Bool.{Bool, true, false, _&&_, _||_, true≢false}
+use mathlib.Core.Bool.{Bool, true, false, _||_, true≢false}
 use Rattle.frame.specs.Pick.{pick}
-use Rattle.frame.proofs.Both.{both-left, both-right}
 
 -- What holds of both holds of the one that is picked.
 pub of-pick : {A : Type 0} (P : A → Type 0) (t : Bool) (a b : A) → (t ≡ true → P a) → (t ≡ false → P b) → P (pick t a b)
 of-pick P true a b f g = f refl
 of-pick P false a b f g = g refl
-
-pub both : (a b : Bool) → a && b ≡ true → (a ≡ true) × (b ≡ true)
-both a b e = (both-left a b e, both-right a b e)
 
 pub either : {A : Type 0} (a b : Bool) → a || b ≡ true → (a ≡ true → A) → (b ≡ true → A) → A
 either true b e f g = f refl

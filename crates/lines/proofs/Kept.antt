@@ -15,7 +15,7 @@ use Rattle.lines.specs.SoFar.{soFar, spoiltBy, noBits, padsClear, isRest
 use Rattle.lines.specs.Step.{withBit, runEnded, longerIdle, afterIdle, afterLow, afterBoth, after, closes}
 use Rattle.lines.specs.inside.Safe.{Safe}
 use Rattle.lines.proofs.Cases.{of-pick, either}
-use Rattle.lines.proofs.Cases as cases
+use Rattle.frame.proofs.Both as together
 use Rattle.lines.proofs.Places.{pads-more}
 
 -- A state without bits.
@@ -24,18 +24,18 @@ bare number run h = record { count = omega arith; pads = zero-mod (2 ^ 64); run 
 
 empty : (s : SoFar) → noBits s ≡ true → s .run ≤ 10000 → Safe s
 empty s e h =
-    let t = cases.both (eqb (s .bits) 0) (eqb (s .count) 0) e in
+    let t = together.both (eqb (s .bits) 0) (eqb (s .count) 0) e in
     let none : s .bits ≡ 0 = eqb-true (s .bits) 0 (t .0) in
     let count : s .count ≡ 0 = eqb-true (s .count) 0 (t .1) in
     record { count = omega arith; pads = ap (λ (x : ℕ). x % 2 ^ (64 - s .count)) none ∙ zero-mod (2 ^ (64 - s .count)); run = h }
 
 clear : (s : SoFar) → padsClear s ≡ true → s .run ≤ 10000 → Safe s
 clear s e h =
-    let t = cases.both (leb (s .count) 64) (eqb (s .bits % 2 ^ (64 - s .count)) 0) e in
+    let t = together.both (leb (s .count) 64) (eqb (s .bits % 2 ^ (64 - s .count)) 0) e in
     record { count = leb-true (s .count) 64 (t .0); pads = eqb-true (s .bits % 2 ^ (64 - s .count)) 0 (t .1); run = h }
 
 up-to : (low high n : ℕ) → within low high n ≡ true → n ≤ high
-up-to low high n e = leb-true n high (cases.both (leb low n) (leb n high) e .1)
+up-to low high n e = leb-true n high (together.both (leb low n) (leb n high) e .1)
 
 pub legal-safe : (s : SoFar) → legal s ≡ true → Safe s
 unfolding legal
@@ -46,24 +46,24 @@ legal-safe s e =
   where
     rest : isRest s ≡ true → Safe s
     rest e =
-        let t = cases.both (eqb (s .fault) 0 && eqb (s .line) 0 && noBits s) (eqb (s .run) 0) e in
+        let t = together.both (eqb (s .fault) 0 && eqb (s .line) 0 && noBits s) (eqb (s .run) 0) e in
         let run : s .run ≡ 0 = eqb-true (s .run) 0 (t .1) in
-        empty s (cases.both (eqb (s .fault) 0 && eqb (s .line) 0) (noBits s) (t .0) .1) (omega arith)
+        empty s (together.both (eqb (s .fault) 0 && eqb (s .line) 0) (noBits s) (t .0) .1) (omega arith)
 
     between : isBetween s ≡ true → Safe s
     between e =
-        let t = cases.both (eqb (s .fault) 0 && eqb (s .line) 0 && leb 1 (s .count) && padsClear s) (within 1 9999 (s .run)) e in
-        clear s (cases.both (eqb (s .fault) 0 && eqb (s .line) 0 && leb 1 (s .count)) (padsClear s) (t .0) .1) (omega (arith, up-to 1 9999 (s .run) (t .1)))
+        let t = together.both (eqb (s .fault) 0 && eqb (s .line) 0 && leb 1 (s .count) && padsClear s) (within 1 9999 (s .run)) e in
+        clear s (together.both (eqb (s .fault) 0 && eqb (s .line) 0 && leb 1 (s .count)) (padsClear s) (t .0) .1) (omega (arith, up-to 1 9999 (s .run) (t .1)))
 
     in-run : isInRun s ≡ true → Safe s
     in-run e =
-        let t = cases.both (eqb (s .fault) 0 && within 1 2 (s .line) && padsClear s) (within 1 1001 (s .run)) e in
-        clear s (cases.both (eqb (s .fault) 0 && within 1 2 (s .line)) (padsClear s) (t .0) .1) (omega (arith, up-to 1 1001 (s .run) (t .1)))
+        let t = together.both (eqb (s .fault) 0 && within 1 2 (s .line) && padsClear s) (within 1 1001 (s .run)) e in
+        clear s (together.both (eqb (s .fault) 0 && within 1 2 (s .line)) (padsClear s) (t .0) .1) (omega (arith, up-to 1 1001 (s .run) (t .1)))
 
     spoilt : isSpoilt s ≡ true → Safe s
     spoilt e =
-        let t = cases.both (within 21 22 (s .fault) && eqb (s .line) 0 && noBits s) (leb (s .run) 9999) e in
-        empty s (cases.both (within 21 22 (s .fault) && eqb (s .line) 0) (noBits s) (t .0) .1) (omega (arith, leb-true (s .run) 9999 (t .1)))
+        let t = together.both (within 21 22 (s .fault) && eqb (s .line) 0 && noBits s) (leb (s .run) 9999) e in
+        empty s (together.both (within 21 22 (s .fault) && eqb (s .line) 0) (noBits s) (t .0) .1) (omega (arith, leb-true (s .run) 9999 (t .1)))
 
 -- What a step leaves has at most 64 bits, and is safe, or closes.
 abbrev pub Keeps : Timing → SoFar → Type 0
@@ -78,7 +78,7 @@ module _ (t : Timing) (s : SoFar) (gap : t .gap ≤ 10000) (safe : Safe s) where
   ended =
       of-pick (Keeps t) (within (t .least) (t .most) (s .run) && ltb (s .count) 64) (withBit s) (spoiltBy 21 1)
       (λ e.
-      let more : s .count < 64 = ltb-true (s .count) 64 (cases.both (within (t .least) (t .most) (s .run)) (ltb (s .count) 64) e .1) in
+      let more : s .count < 64 = ltb-true (s .count) 64 (together.both (within (t .least) (t .most) (s .run)) (ltb (s .count) 64) e .1) in
       keeps t (withBit s)
       (record {
         count = omega arith;

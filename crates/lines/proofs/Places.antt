@@ -42,11 +42,6 @@ next-less bit count b h =
     let less : bit * p + 0 < 2 * p = digits-lt {q = bit} {m = 2} {r = 0} {c = p} (omega arith) (pow-pos (64 - (count + 1))) in
     omega arith
 
--- A mark is 1 at most.
-pub mark-small : (b : Bool) → mark b ≤ 1
-mark-small true = omega arith
-mark-small false = omega arith
-
 -- After it the bits are 0 again.
 pub pads-more : (bits bit count : ℕ) → count < 64 → bits % 2 ^ (64 - count) ≡ 0 → (bits + bit * 2 ^ (64 - (count + 1))) % 2 ^ (64 - (count + 1)) ≡ 0
 pads-more bits bit count h e =

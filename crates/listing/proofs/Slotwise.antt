@@ -15,15 +15,3 @@ lines-more s k = rw add-one
 pub records-more : (s : List ℕ) (k : ℕ) → length (listUpTo s (k + 1)) ≡ length (listUpTo s k) + length (recordIn (slotOf (slotAt s k)))
 unfolding listUpTo
 records-more s k = rw add-one (length-append (listUpTo s k) (recordIn (slotOf (slotAt s k))))
-
--- a slot holds one record or none, so there are no more records than slots
-one-or-none : (t : Slot) → length (recordIn t) ≤ 1
-one-or-none blank = omega arith
-one-or-none spoiled = omega arith
-one-or-none foreign = omega arith
-one-or-none (holds e) = omega arith
-
-pub few-records : (s : List ℕ) (k : ℕ) → length (listUpTo s k) ≤ k
-unfolding listUpTo
-few-records s zero = omega arith
-few-records s (suc k) = simp length-append (omega (arith, few-records s k, one-or-none (slotOf (slotAt s k))))

@@ -13,6 +13,7 @@ use Rattle.frame.specs.Level.{levelOf, placeLost}
 use Rattle.frame.specs.Line.{line}
 use Rattle.frame.specs.Pick.{pick}
 use Rattle.frame.specs.Reply.{modeIn, readingAt}
+use Rattle.frame.proofs.Both.{both}
 use Rattle.board.specs.declared.Heard.{Heard}
 use Rattle.board.specs.declared.Row.{Row}
 use Rattle.board.specs.Row.{inUse, freeRow, heardAt, withReading, withFault, setsFault}
@@ -20,7 +21,7 @@ use Rattle.board.specs.Rows.{boardOf, beyond, holds, placeOf, rowOf, onBoard}
 use Rattle.board.specs.Calls.{hearNumber, hearPlace, hearRows, heardAs}
 use Rattle.promises_order.specs.OldBoard.{OldHears as Hears}
 use Rattle.board.proofs.Places.{place-le, place-before, place-at, place-is}
-use Rattle.promises_frame.proofs.Cases.{by-lt, both}
+use Rattle.promises_frame.proofs.Cases.{by-lt}
 use Rattle.promises_board.proofs.After.{numberBy}
 use Rattle.promises_board.proofs.Free.{board-of, hear-length}
 

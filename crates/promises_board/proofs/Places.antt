@@ -9,11 +9,11 @@ use lib.Dec.{eqb, ltb}
 use lib.ListN.{length, set, getD, length-take, length-set, take-append-drop}
 use lib.Seq.{getD-take, getD-set-same, getD-set-other, set-append-left}
 use borrow.Author.Tests.{ltb-true, ltb-false, eqb-true, eq-eqb, not-true}
+use Rattle.frame.proofs.Both.{both}
 use Rattle.board.specs.declared.Row.{Row}
 use Rattle.board.specs.Row.{isFree, inUse, freeRow}
 use Rattle.board.specs.Rows.{boardOf, beyond, holds, placeBy, placeOf, placeFree}
 use Rattle.board.proofs.Places.{place-le, place-before, place-at, place-is}
-use Rattle.promises_frame.proofs.Cases.{both}
 use Rattle.promises_order.specs.Places.{rowAt, OnBoard}
 use Rattle.promises_board.specs.Calls.{Holds, IsRowOf, Unknown, IsFirstFree, NoFree, OnlyRow}
 

@@ -10,8 +10,9 @@ use lib.Dec.{eqb, leb}
 use lib.ListN.{length, getD, List·getD-eq-default}
 use borrow.Author.Tests.{leb-true, le-leb, eqb-true, eq-eqb}
 use Rattle.frame.specs.Line.{line, field, bytesFor, padClear, formed}
+use Rattle.frame.proofs.Both.{both}
 use Rattle.promises_frame.specs.Bits.{AreBytes, bitAt, InForm, BitsAreBits}
-use Rattle.promises_frame.proofs.Cases.{by-lt, both}
+use Rattle.promises_frame.proofs.Cases.{by-lt}
 use Rattle.promises_frame.proofs.Fields.{within, same-within}
 use Rattle.promises_frame.proofs.Bytes.{line-byte, bit-line, field-read, bits-written}
 use Rattle.promises_frame.proofs.Lines.{same-field}

@@ -5,7 +5,6 @@ use Prim.Native.Nat.{ℕ, zero, suc, _<_, _≤_}
 use native.Mathlib.Omega.{arith}
 use lib.Dec.{eqb, leb, ltb}
 use borrow.Author.Tests.{leb-true, leb-false, ltb-true, ltb-false, eqb-true, eqb-false}
-use Rattle.frame.proofs.Both.{both-left, both-right}
 
 pub by-le : {A : Type 0} (i k : ℕ) → (i ≤ k → A) → (k < i → A) → A
 by-le {A} i k f g = go (leb i k) refl
@@ -32,13 +31,10 @@ not-0 zero h e = absurd (true≢false e)
 not-0 (suc zero) h e = refl
 not-0 (suc (suc b)) h e = absurd (omega arith)
 
--- A test that is not true is false; two tests that hold together hold each.
+-- A test that is not true is false.
 pub not-true : (b : Bool) → ¬ (b ≡ true) → b ≡ false
 not-true true h = absurd (h refl)
 not-true false h = refl
-
-pub both : (a b : Bool) → a && b ≡ true → (a ≡ true) × (b ≡ true)
-both a b e = (both-left a b e, both-right a b e)
 
 -- Two numbers that are not unequal are equal.
 pub stable : (a b : ℕ) → ¬ (¬ (a ≡ b)) → a ≡ b

@@ -7,7 +7,7 @@ use lib.Dec.{eqb, leb}
 use borrow.Author.Tests.{leb-true, le-leb}
 use Rattle.frame.specs.Line.{field, bit, mark, threeDecimal, threeDigits}
 use Rattle.frame.proofs.Three.{number-le}
-use Rattle.promises_frame.proofs.Cases.{both}
+use Rattle.frame.proofs.Both.{both}
 use Rattle.promises_frame.proofs.Fields.{join, field-lt}
 
 -- A mark and its bit.

@@ -11,7 +11,7 @@ use Rattle.frame.specs.Line.{field, put}
 use Rattle.frame.specs.Charts.{oneBit, twoBits, feetTens, decimal, inches, sixteenths}
 use Rattle.frame.specs.Level.{Mode, widthOf, modeOf, fractionalMode, decimalMode, twentyMetreMode, thirtyMetreMode, lastBit, fillClear}
 use Rattle.frame.proofs.EachMode.{every-mode}
-use Rattle.promises_frame.proofs.Cases.{both}
+use Rattle.frame.proofs.Both.{both}
 use Rattle.promises_frame.proofs.Fields.{within, join}
 
 pub record Placed (m : Mode) : Type 0 where

@@ -16,8 +16,9 @@ use Rattle.frame.specs.Line.{line, bit, marks, formed, bytesFor, padClear, thre
 use Rattle.frame.specs.Level.{Level, Mode, known, lost, levelOf, fillClear, noChart, valueOf, placeLost, aboveLargest}
 use Rattle.frame.specs.Temperature.{Heat, told, bad, isBad, temperatureOf, heatOf}
 use Rattle.frame.specs.Reply.{modeIn, is1800, oddParity, heatIn, parityRight, replyFault, refusedBy}
+use Rattle.frame.proofs.Both.{both}
 use Rattle.promises_frame.specs.FirstFault.{replyTable, replyOrder}
-use Rattle.promises_frame.proofs.Cases.{both, not-0}
+use Rattle.promises_frame.proofs.Cases.{not-0}
 use Rattle.promises_frame.proofs.Digits.{bit-lt}
 use Rattle.promises_frame.proofs.FirstFault.{all-clear, reply-asks}
 

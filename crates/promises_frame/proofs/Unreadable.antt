@@ -20,8 +20,8 @@ use Rattle.frame.specs.Level.{Level, Mode, known, lost, noChart, placeLost, wid
 use Rattle.frame.specs.Line.{line, field, put}
 use Rattle.frame.specs.Reply.{ReadsReply, modeIn, readingAt, replyTests, replyFault, refusedBy, replyOf, replyNumber}
 use Rattle.frame.proofs.Tables.{allBelow, at-below}
+use Rattle.frame.proofs.Both.{both}
 use Rattle.promises_frame.specs.Unreadable.{InChart, chartAt, codeAt, FirstUnreadable, Named, NamesPlace, EveryCode, lastNamed, CanBeNamed, UnreadableDigit}
-use Rattle.promises_frame.proofs.Cases.{both}
 use Rattle.promises_frame.proofs.Rows.{at-place}
 
 -- A code is in its chart exactly where its place is below the chart's size.

@@ -20,6 +20,7 @@ use Rattle.lines.specs.Hearing.{Heard, nothing, heard, toldOf, later, hear}
 use Rattle.lines.specs.Calls.{answered, linesAnswer, HearsLines}
 use Rattle.lines.proofs.Cases.{of-pick, none-of}
 use Rattle.promises_lines.specs.Runs.{isIdle}
+use Rattle.frame.proofs.Both as together
 use Rattle.promises_frame.proofs.Cases as cases
 use Rattle.promises_lines.proofs.Legal.{Legal, spoilt, Closing, Stepped, on, shut, step, view}
 use Rattle.promises_lines.proofs.Quiet.{Quiet}
@@ -36,9 +37,9 @@ good t e =
     let p = none-of (ltb (t .most) (t .least) || not (within 1 1000 (t .least)) || not (within 1 1000 (t .most))) (not (within 1 10000 (t .gap))) e in
     let q = none-of (ltb (t .most) (t .least) || not (within 1 1000 (t .least))) (not (within 1 1000 (t .most))) (p .0) in
     let r = none-of (ltb (t .most) (t .least)) (not (within 1 1000 (t .least))) (q .0) in
-    let l = cases.both (leb 1 (t .least)) (leb (t .least) 1000) (not-false (within 1 1000 (t .least)) (r .1)) in
-    let g = cases.both (leb 1 (t .gap)) (leb (t .gap) 10000) (not-false (within 1 10000 (t .gap)) (p .1)) in
-    let m = cases.both (leb 1 (t .most)) (leb (t .most) 1000) (not-false (within 1 1000 (t .most)) (q .1)) in
+    let l = together.both (leb 1 (t .least)) (leb (t .least) 1000) (not-false (within 1 1000 (t .least)) (r .1)) in
+    let g = together.both (leb 1 (t .gap)) (leb (t .gap) 10000) (not-false (within 1 10000 (t .gap)) (p .1)) in
+    let m = together.both (leb 1 (t .most)) (leb (t .most) 1000) (not-false (within 1 1000 (t .most)) (q .1)) in
     record {
       some = leb-true 1 (t .gap) (g .0);
       gap = leb-true (t .gap) 10000 (g .1);

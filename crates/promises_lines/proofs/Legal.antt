@@ -14,7 +14,7 @@ use Rattle.lines.specs.Timing.{Timing, within}
 use Rattle.lines.specs.SoFar.{soFar, atRest, spoiltBy, noBits, padsClear, isRest, isBetween, isInRun, isSpoilt, legal}
 use Rattle.lines.specs.Step.{withBit, runEnded, longerIdle, afterIdle, afterLow, afterBoth, after, closes}
 use Rattle.lines.proofs.Cases.{of-pick, either}
-use Rattle.promises_frame.proofs.Cases as cases
+use Rattle.frame.proofs.Both as together
 use Rattle.promises_lines.proofs.Words.{Clear, clear-more}
 
 pub data Legal : SoFar → Type 0 where
@@ -89,7 +89,7 @@ module _ (t : Timing) (some : 1 ≤ t .gap) (gap : t .gap ≤ 10000) where
   ended bits run count line clear =
       of-pick (Stepped t idle) (within (t .least) (t .most) run && ltb count 64) (withBit (soFar bits run count line 0)) (spoiltBy 21 1)
       (λ e.
-      let more : count < 64 = ltb-true count 64 (cases.both (within (t .least) (t .most) run) (ltb count 64) e .1) in
+      let more : count < 64 = ltb-true count 64 (together.both (within (t .least) (t .most) run) (ltb count 64) e .1) in
       message-idle (bits + frame.put (frame.mark (eqb line 1)) (count + 1)) 1 (count + 1) (omega arith) (clear-more bits count more clear (frame.mark (eqb line 1))) (omega arith))
       (λ e. spoilt-idle 21 1 (omega arith) (omega arith))
 
@@ -115,11 +115,11 @@ same s bits run count line fault p q r u v = λ i. soFar (p i) (q i) (r i) (u i)
 
 in-range : (low high n : ℕ) → within low high n ≡ true → (low ≤ n) × (n ≤ high)
 in-range low high n e =
-    let b = cases.both (leb low n) (leb n high) e in (leb-true low n (b .0), leb-true n high (b .1))
+    let b = together.both (leb low n) (leb n high) e in (leb-true low n (b .0), leb-true n high (b .1))
 
 clear-of : (s : SoFar) → padsClear s ≡ true → Clear (s .bits) (s .count)
 clear-of s e =
-    let b = cases.both (leb (s .count) 64) (eqb (s .bits % 2 ^ (64 - s .count)) 0) e in
+    let b = together.both (leb (s .count) 64) (eqb (s .bits % 2 ^ (64 - s .count)) 0) e in
     record { small = leb-true (s .count) 64 (b .0); pads = eqb-true (s .bits % 2 ^ (64 - s .count)) 0 (b .1) }
 
 pub view : (s : SoFar) → legal s ≡ true → Legal s
@@ -131,20 +131,20 @@ view s e =
   where
     at-rest : isRest s ≡ true → Legal s
     at-rest e =
-        let p = cases.both (eqb (s .fault) 0 && eqb (s .line) 0 && noBits s) (eqb (s .run) 0) e in
-        let q = cases.both (eqb (s .fault) 0 && eqb (s .line) 0) (noBits s) (p .0) in
-        let r = cases.both (eqb (s .fault) 0) (eqb (s .line) 0) (q .0) in
-        let n = cases.both (eqb (s .bits) 0) (eqb (s .count) 0) (q .1) in
+        let p = together.both (eqb (s .fault) 0 && eqb (s .line) 0 && noBits s) (eqb (s .run) 0) e in
+        let q = together.both (eqb (s .fault) 0 && eqb (s .line) 0) (noBits s) (p .0) in
+        let r = together.both (eqb (s .fault) 0) (eqb (s .line) 0) (q .0) in
+        let n = together.both (eqb (s .bits) 0) (eqb (s .count) 0) (q .1) in
         subst Legal
         (sym (same s 0 0 0 0 0 (eqb-true (s .bits) 0 (n .0)) (eqb-true (s .run) 0 (p .1)) (eqb-true (s .count) 0 (n .1)) (eqb-true (s .line) 0 (r .1)) (eqb-true (s .fault) 0 (r .0))))
         rest
 
     idle-after : isBetween s ≡ true → Legal s
     idle-after e =
-        let p = cases.both (eqb (s .fault) 0 && eqb (s .line) 0 && leb 1 (s .count) && padsClear s) (within 1 9999 (s .run)) e in
-        let q = cases.both (eqb (s .fault) 0 && eqb (s .line) 0 && leb 1 (s .count)) (padsClear s) (p .0) in
-        let r = cases.both (eqb (s .fault) 0 && eqb (s .line) 0) (leb 1 (s .count)) (q .0) in
-        let u = cases.both (eqb (s .fault) 0) (eqb (s .line) 0) (r .0) in
+        let p = together.both (eqb (s .fault) 0 && eqb (s .line) 0 && leb 1 (s .count) && padsClear s) (within 1 9999 (s .run)) e in
+        let q = together.both (eqb (s .fault) 0 && eqb (s .line) 0 && leb 1 (s .count)) (padsClear s) (p .0) in
+        let r = together.both (eqb (s .fault) 0 && eqb (s .line) 0) (leb 1 (s .count)) (q .0) in
+        let u = together.both (eqb (s .fault) 0) (eqb (s .line) 0) (r .0) in
         let w = in-range 1 9999 (s .run) (p .1) in
         subst Legal
         (sym (same s (s .bits) (s .run) (s .count) 0 0 refl refl refl (eqb-true (s .line) 0 (u .1)) (eqb-true (s .fault) 0 (u .0))))
@@ -152,9 +152,9 @@ view s e =
 
     running : isInRun s ≡ true → Legal s
     running e =
-        let p = cases.both (eqb (s .fault) 0 && within 1 2 (s .line) && padsClear s) (within 1 1001 (s .run)) e in
-        let q = cases.both (eqb (s .fault) 0 && within 1 2 (s .line)) (padsClear s) (p .0) in
-        let r = cases.both (eqb (s .fault) 0) (within 1 2 (s .line)) (q .0) in
+        let p = together.both (eqb (s .fault) 0 && within 1 2 (s .line) && padsClear s) (within 1 1001 (s .run)) e in
+        let q = together.both (eqb (s .fault) 0 && within 1 2 (s .line)) (padsClear s) (p .0) in
+        let r = together.both (eqb (s .fault) 0) (within 1 2 (s .line)) (q .0) in
         let l = in-range 1 2 (s .line) (r .1) in
         let w = in-range 1 1001 (s .run) (p .1) in
         subst Legal
@@ -163,10 +163,10 @@ view s e =
 
     broken : isSpoilt s ≡ true → Legal s
     broken e =
-        let p = cases.both (within 21 22 (s .fault) && eqb (s .line) 0 && noBits s) (leb (s .run) 9999) e in
-        let q = cases.both (within 21 22 (s .fault) && eqb (s .line) 0) (noBits s) (p .0) in
-        let r = cases.both (within 21 22 (s .fault)) (eqb (s .line) 0) (q .0) in
-        let n = cases.both (eqb (s .bits) 0) (eqb (s .count) 0) (q .1) in
+        let p = together.both (within 21 22 (s .fault) && eqb (s .line) 0 && noBits s) (leb (s .run) 9999) e in
+        let q = together.both (within 21 22 (s .fault) && eqb (s .line) 0) (noBits s) (p .0) in
+        let r = together.both (within 21 22 (s .fault)) (eqb (s .line) 0) (q .0) in
+        let n = together.both (eqb (s .bits) 0) (eqb (s .count) 0) (q .1) in
         let f = in-range 21 22 (s .fault) (r .0) in
         subst Legal
         (sym (same s 0 (s .run) 0 0 (s .fault) (eqb-true (s .bits) 0 (n .0)) refl (eqb-true (s .count) 0 (n .1)) (eqb-true (s .line) 0 (r .1)) refl))

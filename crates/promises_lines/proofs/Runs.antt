@@ -17,7 +17,7 @@ use Rattle.lines.specs.Step.{longerIdle, afterIdle, after, closes}
 use Rattle.lines.specs.Hearing.{toldOf}
 use Rattle.promises_lines.specs.History.{Said}
 use Rattle.promises_lines.specs.Runs.{Run, spelled, Apart, InRuns, isIdle, allIdle, atGap, isGap, byRuns, Runs}
-use Rattle.promises_frame.proofs.Cases as cases
+use Rattle.frame.proofs.Both as together
 use Rattle.promises_lines.proofs.Legal.{rest}
 use Rattle.promises_lines.proofs.Quiet.{Quiet}
 use Rattle.promises_lines.proofs.Ends.{Good, good}
@@ -157,7 +157,7 @@ tell-runs t g (r ∷ rs) b j i =
     go : (x : Bool) → isGap t r ≡ x → tells t (stateOf t (r ∷ b)) (spelled rs) ≡ byRuns t (r ∷ b) rs → tells t atRest (spelled rs) ≡ byRuns t [] rs
         → tells t (stateOf t b) (replicate (r .size) (r .kind) ++ spelled rs) ≡ pick x (atGap t b ++ byRuns t [] rs) (byRuns t (r ∷ b) rs)
     go true e on off =
-        let p = cases.both (isIdle (r .kind)) (leb (t .gap) (r .size)) e in
+        let p = together.both (isIdle (r .kind)) (leb (t .gap) (r .size)) e in
         let k : r .kind ≡ idle = is-idle (r .kind) (p .0) in
         let d : Differs idle b = rw k at j in
         ap (λ (x : Sample). tells t (stateOf t b) (replicate (r .size) x ++ spelled rs)) k

@@ -21,7 +21,7 @@ use Rattle.lines.specs.Hearing.{toldOf}
 use Rattle.lines.proofs.Cases.{of-pick}
 use Rattle.promises_lines.specs.History.{bitsOf}
 use Rattle.promises_lines.specs.Runs.{Run, isIdle, idleLast, allPulses, bitsIn, allIdle, isForeign, foreignIn, unspoiled, atGap}
-use Rattle.promises_frame.proofs.Cases as cases
+use Rattle.frame.proofs.Both as together
 use Rattle.promises_lines.proofs.Quiet.{Quiet}
 use Rattle.promises_lines.proofs.Ends.{Good}
 use Rattle.promises_lines.proofs.Streams.{saidOf}
@@ -33,7 +33,7 @@ Differs k [] = 0 ≤ 0
 Differs k (r ∷ b) = r .kind ≡ k → ⊥
 
 next-clean : (t : Timing) (b : List Run) (n : ℕ) → isNext t b n ≡ true → allPulses t b ≡ true
-next-clean t b n e = unspoilt t b (cases.both (unspoiled t b) (idleLast b) e .0) .0
+next-clean t b n e = unspoilt t b (together.both (unspoiled t b) (idleLast b) e .0) .0
 
 -- Idle after a run of one line.
 module _ (t : Timing) (g : Good t) (b : List Run) (n line number : ℕ) (is-low : eqb line 0 ≡ false) (some : 21 ≤ number) (clean : isNext t b n ≡ true → number ≡ 21) where

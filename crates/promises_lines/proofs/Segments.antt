@@ -19,6 +19,7 @@ use Rattle.lines.specs.Step.{longerIdle, afterIdle, afterLow}
 use Rattle.lines.proofs.Cases.{of-pick}
 use Rattle.promises_lines.specs.History.{bitsOf}
 use Rattle.promises_lines.specs.Runs.{Run, isIdle, idleLast, pulseOrIdle, allPulses, bitOf, bitsIn, allIdle, isForeign, foreignIn, unspoiled}
+use Rattle.frame.proofs.Both as together
 use Rattle.promises_frame.proofs.Cases as cases
 use Rattle.promises_lines.proofs.Words.{Clear, clear-more, bits-more}
 use Rattle.promises_lines.proofs.Legal.{no-bits}
@@ -110,7 +111,7 @@ pub no-foreign : (t : Timing) (b : List Run) → allPulses t b ≡ true → fore
 unfolding allPulses foreignIn
 no-foreign t [] e = refl
 no-foreign t (r ∷ b) e =
-    let p = cases.both (allPulses t b) (pulseOrIdle t (r .kind) (r .size) b) e in
+    let p = together.both (allPulses t b) (pulseOrIdle t (r .kind) (r .size) b) e in
     ap (λ (x : Bool). x || isForeign (r .kind)) (no-foreign t b (p .0)) ∙ go (r .kind) (p .1)
   where
     go : (k : Sample) → pulseOrIdle t k (r .size) b ≡ true → isForeign k ≡ false
@@ -131,7 +132,7 @@ wrong e = absurd (let z : _≡_ {A = ℕ} 0 1 = cc in omega arith)
 pub only-idle : (t : Timing) (b : List Run) → allIdle b ≡ true → Idle t b
 unfolding allIdle allPulses
 only-idle t [] e = record { word = refl; count = refl; pulses = refl }
-only-idle t (r ∷ b) e = let p = cases.both (allIdle b) (isIdle (r .kind)) e in go (r .kind) (p .1) (only-idle t b (p .0))
+only-idle t (r ∷ b) e = let p = together.both (allIdle b) (isIdle (r .kind)) e in go (r .kind) (p .1) (only-idle t b (p .0))
   where
     go : (k : Sample) → isIdle k ≡ true → Idle t b → Idle t (run k (r .size) ∷ b)
     go idle e i = record { word = i .word; count = i .count; pulses = ap (λ (x : Bool). x && true) (i .pulses) }
@@ -143,7 +144,7 @@ only-idle t (r ∷ b) e = let p = cases.both (allIdle b) (isIdle (r .kind)) e in
 pub some-bit : (t : Timing) (b : List Run) → allPulses t b ≡ true → allIdle b ≡ false → 1 ≤ countIn b
 unfolding allIdle allPulses
 some-bit t [] e f = wrong (sym f)
-some-bit t (r ∷ b) e f = let p = cases.both (allPulses t b) (pulseOrIdle t (r .kind) (r .size) b) e in go (r .kind) (p .1) f (some-bit t b (p .0))
+some-bit t (r ∷ b) e f = let p = together.both (allPulses t b) (pulseOrIdle t (r .kind) (r .size) b) e in go (r .kind) (p .1) f (some-bit t b (p .0))
   where
     go : (k : Sample) → pulseOrIdle t k (r .size) b ≡ true → allIdle b && isIdle k ≡ false → (allIdle b ≡ false → 1 ≤ countIn b) → 1 ≤ moreBits k (countIn b)
     go idle e f h = h (sym (and-true (allIdle b)) ∙ f)
@@ -156,7 +157,7 @@ some-bit t (r ∷ b) e f = let p = cases.both (allPulses t b) (pulseOrIdle t (r 
 pub unspoilt : (t : Timing) (b : List Run) → unspoiled t b ≡ true → (allPulses t b ≡ true) × (countIn b ≤ 64)
 unfolding unspoiled
 unspoilt t b e =
-    let p = cases.both (allPulses t b) (leb (length (bitsIn b)) 64) e in
+    let p = together.both (allPulses t b) (leb (length (bitsIn b)) 64) e in
     let small : length (bitsIn b) ≤ 64 = leb-true (length (bitsIn b)) 64 (p .1) in
     (p .0, omega (arith, count-is b))
 

@@ -7,6 +7,7 @@ pub mod BlankWords
 pub mod ReplyWord
 pub mod SlotParts
 pub mod LastUsed
+pub mod FewRecords
 pub mod Records
 pub mod Storing
 pub mod Refusals

@@ -68,18 +68,6 @@ module _ (s : List ℕ) (k : ℕ) (looked : Looked) (size : sizeAllowed s ≡ tr
 pub list-more : (s : List ℕ) (k : ℕ) → listUpTo s (k + 1) ≡ listUpTo s k ++ recordIn (slotOf (slotAt s k))
 list-more s k = unfold listUpTo in ap (listUpTo s) (add-one k)
 
--- a slot holds one record or none
-one-or-none : (t : Slot) → length (recordIn t) ≤ 1
-one-or-none blank = omega arith
-one-or-none spoiled = omega arith
-one-or-none foreign = omega arith
-one-or-none (holds e) = omega arith
-
-pub few-records : (s : List ℕ) (k : ℕ) → length (listUpTo s k) ≤ k
-unfolding listUpTo
-few-records s zero = omega arith
-few-records s (suc k) = simp length-append (omega (arith, few-records s k, one-or-none (slotOf (slotAt s k))))
-
 -- an allowed sheet has at most 2,048 slots
 pub few-slots : (s : List ℕ) → sizeAllowed s ≡ true → slots s ≤ 2048
 few-slots s h = go (eqb (length s % 32) 0) (leb (length s) 65536) refl h

@@ -5,10 +5,11 @@ use Prim.Native.Nat.{_≤_}
 use borrow.Author.Tests.{leb-true, not-false}
 use lib.Dec.{leb, ltb}
 use Rattle.frame.specs.Faults.{firstOf}
+use Rattle.frame.proofs.Both.{both}
 use Rattle.lines.specs.Timing.{Timing, timing, within, badTiming, timingFault}
 use Rattle.lines.specs.Calls.{linesAnswer}
 use Rattle.lines.specs.Hearing.{hear}
-use Rattle.lines.proofs.Cases.{both, none-of}
+use Rattle.lines.proofs.Cases.{none-of}
 use borrow.Author.Needs.{needs}
 use Rattle.lines.proofs.sisal_hear_lines.Statement.{statement}
 use Rattle.lines.proofs.sisal_hear_lines.Tie as tie

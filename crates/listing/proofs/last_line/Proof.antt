@@ -12,8 +12,8 @@ use Rattle.listing.specs.Lines.{countLine}
 use Rattle.listing.proofs.Answers.{refused-12, put-first, handed}
 use Rattle.listing.proofs.Counted.{told-slots, told-refused}
 use Rattle.listing.proofs.Seen.{size-small}
-use Rattle.listing.proofs.Slotwise.{few-records}
 use borrow.Author.Needs.{needs}
+use Rattle.sheet.proofs.FewRecords.{few-records}
 use Rattle.listing.proofs.last_line.Statement.{statement}
 use Rattle.listing.proofs.last_line.Tie as tie
 

@@ -4,11 +4,11 @@ use mathlib.Core.List.{List, _++_}
 use Prim.Native.Nat.{ℕ, _<_, _^_}
 use native.Mathlib.Omega.{arith}
 use lib.ListN.{length}
+use Rattle.sheet.proofs.FewRecords.{few-records}
 use Rattle.sheet.specs.Slots.{slots, listOf}
 use Rattle.listing.specs.Text.{ascii, decimal}
 use Rattle.listing.specs.Lines.{countLine, lastLine}
 use Rattle.listing.proofs.Seen.{size-small}
-use Rattle.listing.proofs.Slotwise.{few-records}
 use Rattle.promises.specs.listing.Records.{ListingRecords}
 use Rattle.promises.proofs.listing.Written.{wrote, was-there}
 use Rattle.promises.proofs.listing.Decimals.{listing-decimals}

@@ -11,6 +11,7 @@ use Rattle.frame.specs.declared.Written.{Written}
 use Rattle.frame.specs.Pick.{pick}
 use Rattle.frame.specs.Poll.{writtenNumber}
 use Rattle.frame.proofs.Tables.{pick-case}
+use Rattle.sheet.proofs.FewRecords.{few-records}
 use Rattle.sheet.specs.Bytes.{allBlank, FF}
 use Rattle.sheet.specs.Record.{Entry, isRecord, fieldsOf}
 use Rattle.sheet.specs.Slots.{Slot, sizeAllowed, slots, slotAt, slotOf, listOf}
@@ -20,7 +21,6 @@ use Rattle.listing.specs.Lines.{headLine, recordText, lineOf, slotLine, linesUp
 use Rattle.listing.specs.Calls.{Writes, writeFault, roomFor}
 use Rattle.listing.proofs.Numbers.{few-digits}
 use Rattle.listing.proofs.Seen.{size-small}
-use Rattle.listing.proofs.Slotwise.{few-records}
 use Rattle.promises.specs.listing.Room.{ListingRoom}
 use Rattle.promises.proofs.listing.Replies.{reply-few}
 

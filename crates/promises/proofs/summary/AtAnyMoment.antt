@@ -9,6 +9,7 @@ use native.Mathlib.Omega.{arith}
 use borrow.Author.Tests.{eqb-true, eqb-false}
 use lib.Dec.{eqb, leb}
 use lib.ListN.{length}
+use Rattle.sheet.proofs.FewRecords.{few-records}
 use Rattle.sheet.specs.Record.{Entry, lengthOf}
 use Rattle.sheet.specs.Slots.{Slot, spoiled, holds, recordIn, sizeAllowed, lengthAllowed, slots, slotAt, slotOf, listOf, next}
 use Rattle.sheet.specs.Stores.{after}
@@ -19,7 +20,7 @@ use Rattle.summary.specs.Worked.{summaryOf}
 use Rattle.summary.specs.Handed.{handedFault}
 use Rattle.summary.specs.Updated.{withRecord}
 use Rattle.summary.proofs.OneRecordMore.{summary-more}
-use Rattle.summary.proofs.Seen.{few-records, few-slots}
+use Rattle.summary.proofs.Seen.{few-slots}
 use Rattle.summary.proofs.Shaped.{handed-worked}
 use Rattle.promises.specs.summary.Chain.{Step, Goes, Chain}
 use Rattle.promises.specs.summary.Chain as chain

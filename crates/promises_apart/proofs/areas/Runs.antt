@@ -8,9 +8,10 @@ use borrow.Author.Tests.{eqb-true, leb-true, le-leb}
 use lib.Dec.{leb}
 use lib.ListN.{length, getD, take, drop, length-append, take-append-drop}
 use lib.Seq.{take-append-seam, drop-append-seam, length-take-le}
+use Rattle.frame.proofs.Both.{both}
 use Rattle.areas.specs.Site.{feet, tenths, total, isArea}
 use Rattle.areas.specs.Check.{keeps}
-use Rattle.areas.proofs.Joining.{both, area-by}
+use Rattle.areas.proofs.Joining.{area-by}
 use Rattle.promises_apart.specs.areas.Plans.{Allowed, endToEnd}
 
 -- An area is one that is allowed.

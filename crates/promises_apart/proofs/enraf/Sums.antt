@@ -11,10 +11,10 @@ use lib.Bits.{bitXor, differ, xor-step, xor-comm, xor-lt, xor-self}
 use lib.Dec.{leb}
 use lib.ListN.{length, getD, set}
 use borrow.Author.Tests.{leb-true}
+use Rattle.frame.proofs.Both.{both}
 use Rattle.enraf.specs.Check.{sumAfter, blockCheck}
 use Rattle.enraf.specs.Item.{Item, ampersand, exclamation, digit, threeDigits, isLetter, isCharacter, allCharacters, kindFits, textFits, tailOf}
 use Rattle.enraf.specs.Record.{ETX, checkedOf}
-use Rattle.enraf.proofs.Tests.{both}
 use Rattle.enraf.proofs.SixKinds.{data-fits, error-few, one-of-six, fits-kind}
 use Rattle.enraf.proofs.Tails.{tail-alone, tail-setting, tail-taken, tail-setting-taken, tail-value, tail-error}
 use Rattle.promises_apart.proofs.enraf.Tails.{six-ways, character-most, characters-all}

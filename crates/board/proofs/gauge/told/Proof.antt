@@ -1,8 +1,9 @@
 -- `board::gauge::told` meets its contract: the number of the profile is at most 2, and the mark at most 1.
 use native.Mathlib.Omega.{arith}
 use Rattle.board.specs.Gauge.{profileOf}
-use Rattle.board.proofs.Gauges.{profile-small, mark-small}
+use Rattle.board.proofs.Gauges.{profile-small}
 use borrow.Author.Needs.{needs}
+use Rattle.frame.proofs.Marks.{mark-small}
 use Rattle.board.proofs.gauge.told.Statement.{statement}
 use Rattle.board.proofs.gauge.told.Tie as tie
 

@@ -2,7 +2,7 @@
 use native.Mathlib.Omega.{arith}
 use borrow.Author.Tests.{leb-true}
 use lib.Dec.{leb}
-use Rattle.enraf.proofs.Tests.{both}
+use Rattle.frame.proofs.Both.{both}
 use Rattle.enraf.proofs.reading.low_digit.Statement.{statement}
 use Rattle.enraf.proofs.reading.low_digit.Tie as tie
 

@@ -4,8 +4,8 @@ use mathlib.Core.Bool.{_&&_}
 use lib.Dec.{leb, ltb}
 use borrow.Author.Tests.{ltb-true}
 use Rattle.lines.specs.Step.{runEnded}
-use Rattle.lines.proofs.Cases.{both}
 use borrow.Author.Needs.{needs}
+use Rattle.frame.proofs.Both.{both}
 use Rattle.lines.proofs.step.run_ended.Statement.{statement}
 use Rattle.lines.proofs.step.run_ended.Tie as tie
 

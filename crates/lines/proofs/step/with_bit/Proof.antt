@@ -2,8 +2,9 @@
 use Prim.Native.Nat.{_<_, _^_}
 use lib.Dec.{eqb}
 use Rattle.frame.specs.Line.{mark}
+use Rattle.frame.proofs.Marks.{mark-small}
 use Rattle.lines.specs.Step.{withBit}
-use Rattle.lines.proofs.Places.{room, next-less, mark-small}
+use Rattle.lines.proofs.Places.{room, next-less}
 use borrow.Author.Needs.{needs}
 use Rattle.lines.proofs.step.with_bit.Statement.{statement}
 use Rattle.lines.proofs.step.with_bit.Tie as tie

@@ -5,9 +5,10 @@ use Prim.Native.Nat.{ℕ, _≤_, _<_, _-_, _+_}
 use native.Mathlib.Omega.{arith}
 use borrow.Author.Needs.{needs}
 use lib.ListN.{length}
+use Rattle.sheet.proofs.FewRecords.{few-records}
 use Rattle.sheet.specs.Slots.{slots, slotAt, slotOf, recordIn, listUpTo}
 use Rattle.listing.proofs.Seen.{seen-records}
-use Rattle.listing.proofs.Slotwise.{records-more, few-records}
+use Rattle.listing.proofs.Slotwise.{records-more}
 use Rattle.listing.proofs.whole.count_records.Statement.{statement}
 use Rattle.listing.proofs.whole.count_records.Tie as tie
 

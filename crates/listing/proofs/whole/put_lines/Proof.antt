@@ -5,11 +5,12 @@ use mathlib.Core.List.{List}
 use Prim.Native.Nat.{ℕ, _≤_, _-_, _+_, _*_}
 use native.Mathlib.Omega.{arith}
 use lib.ListN.{length}
+use Rattle.sheet.proofs.FewRecords.{few-records}
 use Rattle.sheet.specs.Slots.{slots, listUpTo}
 use Rattle.listing.specs.Lines.{linesUpTo}
 use Rattle.listing.specs.inside.Puts.{Puts}
 use Rattle.listing.proofs.Putting.{then, text-is, at-most, nothing-put}
-use Rattle.listing.proofs.Slotwise.{lines-more, records-more, few-records}
+use Rattle.listing.proofs.Slotwise.{lines-more, records-more}
 use Rattle.listing.proofs.whole.put_lines.Statement.{statement}
 use Rattle.listing.proofs.whole.put_lines.Tie as tie
 

@@ -8,8 +8,8 @@ use Rattle.listing.specs.Text.{ascii, decimal}
 use Rattle.listing.specs.Lines.{headLine, countLine}
 use Rattle.listing.proofs.Putting.{then, text-is, at-most}
 use Rattle.listing.proofs.Seen.{size-small}
-use Rattle.listing.proofs.Slotwise.{few-records}
 use borrow.Author.Needs.{needs}
+use Rattle.sheet.proofs.FewRecords.{few-records}
 use Rattle.listing.proofs.whole.put_listing.Statement.{statement}
 use Rattle.listing.proofs.whole.put_listing.Tie as tie
 
