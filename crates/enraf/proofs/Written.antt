@@ -15,7 +15,7 @@ use Rattle.enraf.specs.Item.{Item, digit, tailOf}
 use Rattle.enraf.specs.Record.{STX, ETX, B, Z, checkedOf, recordOf}
 use Rattle.enraf.specs.Writing.{writeFault, done, WritesItem}
 use Rattle.enraf.specs.inside.Puts.{Puts}
-use Rattle.enraf.proofs.Putting.{sets-append}
+use Rattle.frame.proofs.Parts.{sets-append}
 
 pub refuses : (i : Item) (out : List ℕ) (n : ℕ) (answer : Done) → writeFault i out ≡ n → eqb n 0 ≡ false → answer ≡ done 0 n → WritesItem i out answer out
 refuses i out n answer e z is =

@@ -19,7 +19,7 @@ low-byte n = ap ones (sym (split n 8)) ∙ ones-cat 8 (n / 2 ^ 8) (n % 2 ^ 8) (m
 next-byte : (n k : ℕ) → ones (n / 2 ^ k) ≡ ones (n / 2 ^ (k + 8)) + ones (n / 2 ^ k % 2 ^ 8)
 next-byte n k = low-byte (n / 2 ^ k) ∙ ap (λ (q : ℕ). ones q + ones (n / 2 ^ k % 2 ^ 8)) (shr-shr n k 8)
 
-ones-zero : ones 0 ≡ 0
+pub ones-zero : ones 0 ≡ 0
 unfolding ones onesIn
 ones-zero = refl
 

@@ -12,6 +12,8 @@ pub mod Straight
 pub mod Constants
 pub mod Keys
 pub mod PairsAreDigits
+pub mod Cut
+pub mod OneLimit
 pub mod PairTable
 pub mod PairSteps
 pub mod SecondReader
@@ -20,6 +22,7 @@ pub mod Three
 pub mod Verdict
 pub mod Refusals
 pub mod Fronts
+pub mod Parts
 pub mod Counted
 pub mod Oddness
 pub mod Sums

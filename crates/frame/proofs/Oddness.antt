@@ -1,4 +1,4 @@
--- Oddness of sums, and of the marks of 5 or 7 bytes: of each byte only whether its ones are odd in number is asked for. Assumes nothing.
+-- What is not odd is even, and the marks of 5 or 7 bytes. Assumes nothing.
 use mathlib.Core.Path.{_≡_, refl, ap, _∙_}
 use mathlib.Core.Bool.{Bool, true, false, not}
 use mathlib.Core.List.{List}
@@ -11,21 +11,6 @@ use lib.ListN.{length, getD, drop}
 use Rattle.frame.specs.Charts.{isOdd}
 use Rattle.frame.specs.Line.{marks}
 use Rattle.frame.proofs.Counted.{from-place, none-left}
-
--- an odd number turns the oddness of what it is added to, an even one leaves it
-pub odd-more : (x y : ℕ) → isOdd x ≡ true → isOdd (x + y) ≡ not (isOdd y)
-odd-more x y h = go (isOdd y) refl
-  where
-    go : (b : Bool) → isOdd y ≡ b → isOdd (x + y) ≡ not b
-    go true e = ne-eqb ((x + y) % 2) 1 (λ s. omega (arith, eqb-true (x % 2) 1 h, eqb-true (y % 2) 1 e, s))
-    go false e = eq-eqb ((x + y) % 2) 1 (omega (arith, eqb-true (x % 2) 1 h, eqb-false (y % 2) 1 e))
-
-pub even-more : (x y : ℕ) → isOdd x ≡ false → isOdd (x + y) ≡ isOdd y
-even-more x y h = go (isOdd y) refl
-  where
-    go : (b : Bool) → isOdd y ≡ b → isOdd (x + y) ≡ b
-    go true e = eq-eqb ((x + y) % 2) 1 (omega (arith, eqb-false (x % 2) 1 h, eqb-true (y % 2) 1 e))
-    go false e = ne-eqb ((x + y) % 2) 1 (λ s. omega (arith, eqb-false (x % 2) 1 h, eqb-false (y % 2) 1 e, s))
 
 -- what is not odd is even
 pub not-odd : (x : ℕ) → not (isOdd x) ≡ eqb (x % 2) 0

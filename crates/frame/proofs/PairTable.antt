@@ -8,23 +8,30 @@ use lib.Dec.{eqb, eqb→eq}
 use Rattle.frame.specs.Pick.{pick}
 use Rattle.frame.specs.Charts.{decimal, placeIn, turned}
 use Rattle.frame.specs.Pairs.{pairOf, entryOf, indexOf}
-use Rattle.frame.specs.inside.PairWords.{eightFrom, wordOf}
+use Rattle.frame.specs.inside.PairWords.{bothFrom, wordOf}
 use Rattle.frame.proofs.Tables.{at-below}
 
-entryRight : ℕ → Bool
-entryRight i = eqb (wordOf (i / 8) / 2 ^ (8 * (i % 8)) % 256) (entryOf i)
+-- the byte of a word, its pair of entries chosen by the second code's place among four
+abbrev byteOf : Bool → ℕ → ℕ → ℕ
+byteOf odd k j = pick odd (wordOf k / 2 ^ (16 * j) / 256 % 256) (wordOf k / 2 ^ (16 * j) % 256)
 
-pub entry-rule : (i : ℕ) → i < 512 → wordOf (i / 8) / 2 ^ (8 * (i % 8)) % 256 ≡ entryOf i
-unfolding entryRight eightFrom pairOf decimal placeIn turned
-entry-rule i h = eqb→eq _ _ (at-below entryRight 512 tt i h)
+entryRight : Bool → ℕ → Bool
+entryRight odd i = eqb (byteOf odd (i / 4) (i % 4)) (entryOf (pick odd 256 0 + i))
 
--- the same by the half of the table, the word in it and the byte in that
-at-half : (i k j : ℕ) → i < 512 → i / 8 ≡ k → i % 8 ≡ j → wordOf k / 2 ^ (8 * j) % 256 ≡ entryOf i
-at-half i k j h w r =
-    ap (λ (x : ℕ). wordOf x / 2 ^ (8 * j) % 256) (sym w) ∙ ap (λ (x : ℕ). wordOf (i / 8) / 2 ^ (8 * x) % 256) (sym r) ∙ entry-rule i h
+pub entry-rule : (odd : Bool) (i : ℕ) → i < 256 → byteOf odd (i / 4) (i % 4) ≡ entryOf (pick odd 256 0 + i)
+unfolding entryRight bothFrom pairOf decimal placeIn turned
+entry-rule true i h = eqb→eq _ _ (at-below (entryRight true) 256 tt i h)
+entry-rule false i h = eqb→eq _ _ (at-below (entryRight false) 256 tt i h)
 
-pub half-rule : (odd : Bool) (a b : ℕ) → a < 16 → b < 16
-    → pick odd (wordOf (32 + (2 * a + b / 8))) (wordOf (2 * a + b / 8)) / 2 ^ (8 * (b % 8)) % 256 ≡ entryOf (indexOf odd a b)
-half-rule true a b ha hb =
-    at-half (1 * 256 + a * 16 + b) (32 + (2 * a + b / 8)) (b % 8) (omega arith) (omega arith) (omega arith)
-half-rule false a b ha hb = at-half (0 * 256 + a * 16 + b) (2 * a + b / 8) (b % 8) (omega arith) (omega arith) (omega arith)
+-- the same by the codes
+at-codes : (odd : Bool) (i k j : ℕ) → i < 256 → i / 4 ≡ k → i % 4 ≡ j → byteOf odd k j ≡ entryOf (pick odd 256 0 + i)
+at-codes odd i k j h w r = ap (λ (x : ℕ). byteOf odd x j) (sym w) ∙ ap (λ (x : ℕ). byteOf odd (i / 4) x) (sym r) ∙ entry-rule odd i h
+
+pub both-rule : (odd : Bool) (a b : ℕ) → a < 16 → b < 16
+    → pick odd (wordOf (4 * a + b / 4) / 2 ^ (16 * (b % 4)) / 256 % 256) (wordOf (4 * a + b / 4) / 2 ^ (16 * (b % 4)) % 256) ≡ entryOf (indexOf odd a b)
+both-rule true a b ha hb =
+    let i : 256 + (a * 16 + b) ≡ 1 * 256 + a * 16 + b = omega arith in
+    at-codes true (a * 16 + b) (4 * a + b / 4) (b % 4) (omega arith) (omega arith) (omega arith) ∙ ap entryOf i
+both-rule false a b ha hb =
+    let i : 0 + (a * 16 + b) ≡ 0 * 256 + a * 16 + b = omega arith in
+    at-codes false (a * 16 + b) (4 * a + b / 4) (b % 4) (omega arith) (omega arith) (omega arith) ∙ ap entryOf i

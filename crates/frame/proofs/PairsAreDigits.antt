@@ -273,6 +273,25 @@ module _ (m : Mode) (p : Paired m) (n : ℕ) where
           four-more : (j : ℕ) → 4 * suc j ≡ 4 + 4 * j
           four-more j = omega arith
 
+  -- with a digit 0 above, they are still the same but for a place
+  one-above : uncounted 1 (readRow (decimals (suc (suc (p .below)))) bits false 0 0) ≡ levelOf m n
+  unfolding decimals
+  one-above =
+      ap (uncounted 1) (zero-above (decimals (suc (p .below))) bits 0 none-above) ∙ uncounted-row (decimals (suc (p .below))) bits false 0 0 ∙ sym plain
+
+  -- five digits read those of a mode that has five or four
+  pub by-five : (suc (p .below) ≡ 5) ⊎ (suc (p .below) ≡ 4) → uncounted (5 - suc (p .below)) (readRow (decimals 5) bits false 0 0) ≡ levelOf m n
+  by-five = ⊎-elim whole short
+    where
+      whole : suc (p .below) ≡ 5 → uncounted (5 - suc (p .below)) (readRow (decimals 5) bits false 0 0) ≡ levelOf m n
+      whole e = rw (← e) (let none : suc (p .below) - suc (p .below) ≡ 0 = omega arith in rw none (all-counted (readRow (decimals (suc (p .below))) bits false 0 0) ∙ sym plain))
+
+      short : suc (p .below) ≡ 4 → uncounted (5 - suc (p .below)) (readRow (decimals 5) bits false 0 0) ≡ levelOf m n
+      short e =
+          let one : 5 - suc (p .below) ≡ 1 = omega (arith, e) in
+          let five : suc (suc (p .below)) ≡ 5 = omega (arith, e) in
+          rw (one, ← five) one-above
+
   pub same-level : levelByPairs m n ≡ levelOf m n
   unfolding decimals
   same-level =
@@ -283,7 +302,4 @@ module _ (m : Mode) (p : Paired m) (n : ℕ) where
       even z = rw (z .0, z .1) (all-counted (readRow (decimals (suc (p .below))) (field n (m .first) (lastBit m)) false 0 0) ∙ sym plain)
 
       odd : (p .zeros ≡ 1) × (2 * p .pairs ≡ suc (suc (p .below))) → uncounted (p .zeros) (readRow (decimals (2 * p .pairs)) (field n (m .first) (lastBit m)) false 0 0) ≡ levelOf m n
-      odd z = rw (z .0, z .1) (ap (uncounted 1) above ∙ uncounted-row (decimals (suc (p .below))) bits false 0 0 ∙ sym plain)
-        where
-          above : readRow (decimals (suc (suc (p .below)))) bits false 0 0 ≡ readRow (decimals (suc (p .below))) bits false 0 1
-          above = zero-above (decimals (suc (p .below))) bits 0 none-above
+      odd z = rw (z .0, z .1) one-above

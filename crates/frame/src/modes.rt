@@ -1,11 +1,13 @@
 // The four modes. Each mode's type carries its constants: digit count, first bit, the fill bits before the digits (from bit 16) and after
-// them (up to bit 37), largest level, the charts of its digits in a word (four bits a digit, the top digit lowest), and the starting
-// state of the digit reader: no odd digit stands above the first, which is always read straight.
+// them (up to bit 37), largest level, and the starting state of the digit reader: no odd digit stands above the first, which is always read
+// straight. Where digits are not all decimal, it has their charts in a word too (four bits a digit, the top digit lowest).
 ghost use mathlib.Core.Path.{_≡_};
+ghost use mathlib.Core.Logic.{_≢_};
 ghost use Prim.Native.Nat.{_<_, _^_};
 ghost use Rattle.frame.specs.Level.{modeOf, fractionalMode, decimalMode, twentyMetreMode, thirtyMetreMode, putLevel};
 ghost use Rattle.frame.specs.inside.Packed.{levelCode, secondCode};
 ghost use Rattle.frame.specs.inside.Constants.{Constants, fractional, decimalFeet, codesBy, pairedBy};
+use crate::decimals;
 use crate::level;
 use crate::pairs;
 
@@ -73,24 +75,7 @@ impl Decimal {
 
     const LARGEST: u64 = 7999;
 
-    const CHARTS: u64 = 0x3332;
-
     const START: bool = false;
-
-    fn read(n: u64) -> u64
-        ensures { λ r. ⌜ r ≡ levelCode decimalMode n ⌝ }
-    {
-        level::read_by(
-            n,
-            Self::DIGITS,
-            Self::FIRST,
-            Self::BEFORE,
-            Self::AFTER,
-            Self::LARGEST,
-            Self::CHARTS,
-            Self::START,
-        )
-    }
 
     fn codes(v: u64) -> u64
         ensures { λ r. ⌜ (r ≡ codesBy decimalFeet v) × (r < 2 ^ 20) ⌝ }
@@ -119,24 +104,7 @@ impl Metres20 {
 
     const LARGEST: u64 = 19999;
 
-    const CHARTS: u64 = 0x33330;
-
     const START: bool = false;
-
-    fn read(n: u64) -> u64
-        ensures { λ r. ⌜ r ≡ levelCode twentyMetreMode n ⌝ }
-    {
-        level::read_by(
-            n,
-            Self::DIGITS,
-            Self::FIRST,
-            Self::BEFORE,
-            Self::AFTER,
-            Self::LARGEST,
-            Self::CHARTS,
-            Self::START,
-        )
-    }
 
     fn write(v: u64) -> u64
         ensures { λ r. ⌜ r ≡ putLevel twentyMetreMode v ⌝ }
@@ -165,24 +133,7 @@ impl Metres30 {
 
     const LARGEST: u64 = 32699;
 
-    const CHARTS: u64 = 0x33331;
-
     const START: bool = false;
-
-    fn read(n: u64) -> u64
-        ensures { λ r. ⌜ r ≡ levelCode thirtyMetreMode n ⌝ }
-    {
-        level::read_by(
-            n,
-            Self::DIGITS,
-            Self::FIRST,
-            Self::BEFORE,
-            Self::AFTER,
-            Self::LARGEST,
-            Self::CHARTS,
-            Self::START,
-        )
-    }
 
     fn write(v: u64) -> u64
         ensures { λ r. ⌜ r ≡ putLevel thirtyMetreMode v ⌝ }
@@ -197,20 +148,7 @@ impl Metres30 {
     }
 }
 
-// The level of a line in the mode of this number: the level, or 2 ^ 16 times the fault.
-pub(crate) fn read_level(mode: u64, n: u64) -> u64
-    ensures { λ r. ⌜ r ≡ levelCode (modeOf mode) n ⌝ }
-{
-    match mode {
-        0 => Fractional::read(n),
-        1 => Decimal::read(n),
-        2 => Metres20::read(n),
-        _ => Metres30::read(n),
-    }
-}
-
-// The constants of the modes that are read by pairs, by their number: picked as numbers, so that no mode has code of its own and none is
-// guessed wrong where replies of several modes come one after another.
+// The constants of the modes in decimal digits, by their number.
 fn digits_of(mode: u64) -> u64
     ensures { λ r. ⌜ r ≡ pairedBy mode .digits ⌝ }
 {
@@ -218,16 +156,6 @@ fn digits_of(mode: u64) -> u64
         1 => Decimal::DIGITS,
         2 => Metres20::DIGITS,
         _ => Metres30::DIGITS,
-    }
-}
-
-fn first_of(mode: u64) -> u64
-    ensures { λ r. ⌜ r ≡ pairedBy mode .first ⌝ }
-{
-    match mode {
-        1 => Decimal::FIRST,
-        2 => Metres20::FIRST,
-        _ => Metres30::FIRST,
     }
 }
 
@@ -241,28 +169,37 @@ fn fill_before(mode: u64) -> u64
     }
 }
 
+// Of the three modes each has one fill bit less after its digits than the one before it.
 fn fill_after(mode: u64) -> u64
+    requires { ⌜ mode ≢ 0 ⌝ }
+    requires { ⌜ mode < 4 ⌝ }
     ensures { λ r. ⌜ r ≡ pairedBy mode .after ⌝ }
 {
-    match mode {
-        1 => Decimal::AFTER,
-        2 => Metres20::AFTER,
-        _ => Metres30::AFTER,
-    }
+    Decimal::AFTER + 1 - mode
 }
 
-fn largest_of(mode: u64) -> u64
-    ensures { λ r. ⌜ r ≡ pairedBy mode .largest ⌝ }
+// The level of a line in the mode of this number: the level, or 2 ^ 16 times the fault. Every mode's digit reader starts with no odd digit above, and of
+// the modes in decimal digits only the last has codes for levels above its largest, so that its limit serves all three.
+pub(crate) fn read_level(mode: u64, n: u64) -> u64
+    requires { ⌜ mode < 4 ⌝ }
+    ensures { λ r. ⌜ r ≡ levelCode (modeOf mode) n ⌝ }
 {
-    match mode {
-        1 => Decimal::LARGEST,
-        2 => Metres20::LARGEST,
-        _ => Metres30::LARGEST,
+    if mode == 0 {
+        return Fractional::read(n);
     }
+    decimals::read_by(
+        n,
+        digits_of(mode),
+        fill_before(mode),
+        fill_after(mode),
+        Metres30::LARGEST,
+        Decimal::START,
+    )
 }
 
-// The same, two digits at a time where all digits but the first are decimal. Every mode's digit reader starts with no odd digit above.
+// The same, two digits at a time where all digits are decimal.
 pub(crate) fn read_level_by_pairs(mode: u64, n: u64) -> u64
+    requires { ⌜ mode < 4 ⌝ }
     ensures { λ r. ⌜ r ≡ secondCode mode n ⌝ }
 {
     if mode == 0 {
@@ -271,10 +208,9 @@ pub(crate) fn read_level_by_pairs(mode: u64, n: u64) -> u64
     pairs::read_by(
         n,
         digits_of(mode),
-        first_of(mode),
         fill_before(mode),
         fill_after(mode),
-        largest_of(mode),
+        Metres30::LARGEST,
         Decimal::START,
     )
 }

@@ -4,34 +4,33 @@ ghost use mathlib.Core.Bool.{Bool};
 ghost use Prim.Native.Nat.{suc, _+_, _-_, _*_, _/_, _%_, _^_, _<_, _≤_};
 ghost use lib.Dec.{eqb};
 ghost use Rattle.frame.specs.Pick.{pick};
-ghost use Rattle.frame.specs.Level.{Level};
-ghost use Rattle.frame.specs.Pairs.{noPair, entryOf, indexOf, readPairs, uncounted};
-ghost use Rattle.frame.specs.inside.Packed.{readCode, Below, levelNumber};
+ghost use Rattle.frame.specs.Pairs.{noPair, entryOf, indexOf, readPairs};
+ghost use Rattle.frame.specs.inside.Packed.{readCode};
 ghost use Rattle.frame.specs.inside.Constants.{Constants, readPairsBy};
 use crate::charts;
+use crate::decimals;
 use crate::level;
 use crate::pair_table;
 
 // The mark for a pair in no chart. Every pair's number is below it.
 const NO_PAIR: u64 = 255;
 
-// One word or the other.
-fn either(odd: bool, turned: u64, straight: u64) -> u64
-    ensures { λ r. ⌜ r ≡ pick odd turned straight ⌝ }
+// The entry of a pair of codes out of both, the straight one below the turned one.
+fn either(odd: bool, both: u64) -> u64
+    ensures { λ r. ⌜ r ≡ pick odd (both / 256 % 256) (both % 256) ⌝ }
 {
-    if odd { turned } else { straight }
+    if odd { both / 256 % 256 } else { both % 256 }
 }
 
-// The table's entry for a pair of codes, its first digit turned or straight. Both halves are asked at once, so that a load need not wait for
-// the digit above.
+// The table's entry for a pair of codes, its first digit turned or straight. Both stand in one word, so that its load need not wait for the digit
+// above.
 fn entry(odd: bool, first: u64, second: u64) -> u64
     requires { ⌜ first < 16 ⌝ }
     requires { ⌜ second < 16 ⌝ }
     ensures { λ r. ⌜ r ≡ entryOf (indexOf odd first second) ⌝ }
 {
-    let k = 2 * first + second / 8;
-    let word = either(odd, pair_table::turned(k), pair_table::straight(k));
-    (word >> (8 * (second % 8))) % 256
+    let word = pair_table::word(4 * first + second / 4);
+    either(odd, word >> (16 * (second % 4)))
 }
 
 // The entry of the top one of `left` pairs.
@@ -86,32 +85,10 @@ fn read_pairs(left: u64, bits: u64, odd: bool, sofar: u64, place: u64) -> u64
     read_pairs(left - 1, bits, pair % 2 == 1, next, place + 2)
 }
 
-// A place counted from the first digit of the mode: digits 0000 that stand before it are not counted.
-fn less_zeros(zeros: u64, place: u64) -> u64
-    ensures { λ r. ⌜ r ≡ place - zeros ⌝ }
-{
-    if place < zeros {
-        return 0;
-    }
-    place - zeros
-}
-
-// What was read, as `level::judged` has it, with the place so counted.
-fn judged(largest: u64, zeros: u64, v: u64) -> u64
-    ensures { λ r. ⌜ ((l : Level) → Below (2 ^ 32) l → v ≡ readCode l → r ≡ levelNumber largest (uncounted zeros l)) ⌝ }
-{
-    if level::LOST <= v {
-        return 7 * level::FAULT + less_zeros(zeros, v - level::LOST);
-    }
-    level::judged(largest, v)
-}
-
-// A level by its mode's constants, as `level::read_by` has them, two digits at a time: digits 0000 stand before them, so
-// that there are six in every mode and the modes need no choice.
+// A level by its mode's constants, as `decimals::read_by` has them, two digits at a time, six of them in every mode.
 pub(crate) fn read_by(
     n: u64,
     digits: u64,
-    first: u64,
     before: u64,
     after: u64,
     largest: u64,
@@ -119,16 +96,14 @@ pub(crate) fn read_by(
 ) -> u64
     requires { ⌜ 4 ≤ digits ⌝ }
     requires { ⌜ digits ≤ 5 ⌝ }
-    requires { ⌜ 16 ≤ first ⌝ }
-    requires { ⌜ first ≤ 17 ⌝ }
     requires { ⌜ before ≤ 1 ⌝ }
     requires { ⌜ after ≤ 6 ⌝ }
-    ensures { λ r. ⌜ r ≡ readPairsBy (record { digits = digits; first = first; before = before; after = after; largest = largest; charts = 0; start = start }) n ⌝ }
+    ensures { λ r. ⌜ r ≡ readPairsBy (record { digits = digits; first = 16 + before; before = before; after = after; largest = largest; charts = 0; start = start }) n ⌝ }
 {
-    if !level::fill_clear(n, before, after) {
+    let bits = decimals::clear_digits(n, before, after);
+    if bits == decimals::UNCLEAR {
         return 6 * level::FAULT;
     }
-    let bits = level::digit_bits(n, first, after);
     let v = read_pairs(3, bits, start, 0, 0);
-    judged(largest, 6 - digits, v)
+    decimals::judged(largest, 6 - digits, v)
 }

@@ -5,16 +5,10 @@ use Prim.Native.Nat.{ℕ, suc, _+_, _<_, _≤_}
 use native.Mathlib.Nat.{add-zero, le-trans}
 use native.Mathlib.Numerals.{add-one}
 use native.Mathlib.Omega.{arith}
-use lib.ListN.{length, getD, take, set, length-append}
-use lib.Seq.{sets, set-comm, take-suc, length-take-le}
+use lib.ListN.{length, set, length-append}
+use lib.Seq.{sets, set-comm}
+use Rattle.frame.proofs.Parts.{sets-append}
 use Rattle.listing.specs.inside.Puts.{Puts}
-
--- a part after a part is their join
-sets-append : (vs ws l : List ℕ) (i : ℕ) → sets (sets l i vs) (i + length vs) ws ≡ sets l i (vs ++ ws)
-sets-append [] ws l i = ap (λ (k : ℕ). sets l k ws) (add-zero i)
-sets-append (v ∷ vs) ws l i =
-    let next : i + suc (length vs) ≡ suc i + length vs = omega arith in
-    ap (λ (k : ℕ). sets (sets (set l i v) (suc i) vs) k ws) next ∙ sets-append vs ws (set l i v) (suc i)
 
 -- a byte put just before a text
 set-before : (vs l : List ℕ) (i k b : ℕ) → i < k → set (sets l k vs) i b ≡ sets (set l i b) k vs
@@ -39,13 +33,6 @@ then {t} {u} {out} {mid} {after} {m} {n} {at} {p} {q} first second =
       leaves = second .leaves ∙ ap (λ (l : List ℕ). sets l p u) (first .leaves) ∙ ap (λ (k : ℕ). sets (sets out at t) k u) a ∙ sets-append t u out at;
       within = omega arith;
     }
-
--- one byte more of a text, at the place after those already put
-pub sets-next : (t l : List ℕ) (at i : ℕ) → i < length t → set (sets l at (take i t)) (at + i) (getD t i 0) ≡ sets l at (take (i + 1) t)
-sets-next t l at i h =
-    let whole : take (i + 1) t ≡ take i t ++ getD t i 0 ∷ [] = ap (λ (k : ℕ). take k t) (add-one i) ∙ take-suc t i 0 h in
-    let place : at + length (take i t) ≡ at + i = ap (λ (k : ℕ). at + k) (length-take-le i t (omega arith)) in
-    ap (λ (k : ℕ). set (sets l at (take i t)) k (getD t i 0)) (sym place) ∙ sets-append (take i t) (getD t i 0 ∷ []) l at ∙ ap (sets l at) (sym whole)
 
 -- the same text said otherwise, and a bound that is larger
 pub text-is : {t u out after : List ℕ} {m at p : ℕ} → t ≡ u → Puts t m out at p after → Puts u m out at p after

@@ -49,6 +49,13 @@ readBy k n =
     (levelNumber (k .largest) (readRow (rowOf (k .charts) (k .digits)) (cutBy k n) (k .start) 0 0))
     (6 * 2 ^ 16)
 
+-- The same by five decimal digits, whatever the digits: a digit 0000 stands before them where they are four.
+abbrev pub readDecimalsBy : Constants → ℕ → ℕ
+readDecimalsBy k n =
+    pick (fillAt n (k .before) (k .after))
+    (levelNumber (k .largest) (uncounted (5 - k .digits) (readRow (rowOf 0x33333 5) (cutBy k n) (k .start) 0 0)))
+    (6 * 2 ^ 16)
+
 -- The same by three pairs, whatever the digits: as many digits 0000 stand before them as are missing to six.
 abbrev pub readPairsBy : Constants → ℕ → ℕ
 readPairsBy k n =
@@ -56,7 +63,7 @@ readPairsBy k n =
     (levelNumber (k .largest) (uncounted (6 - k .digits) (readPairs 3 (cutBy k n) (k .start) 0 0)))
     (6 * 2 ^ 16)
 
--- The constants of the mode of a number, where pairs read it.
+-- The constants of the mode of a number, where its digits are decimal.
 abbrev pub pairedBy : ℕ → Constants
 pairedBy k = pick (eqb k 1) decimalFeet (pick (eqb k 2) metres20 metres30)
 

@@ -1,23 +1,24 @@
 -- How the code keeps charts, rows and answers in words. A reader of document 01 need not believe this file: it says what the tables of
 -- `src/charts.rt` hold, each worked out from the charts themselves, and what the inner functions answer.
-use mathlib.Core.Bool.{Bool, false, _&&_}
+use mathlib.Core.Bool.{Bool, false, not, _&&_}
 use mathlib.Core.List.{List, [], _∷_, map}
 use Prim.Native.Nat.{ℕ, zero, suc, _+_, _-_, _*_, _/_, _%_, _^_, _<_}
 use lib.Dec.{eqb, ltb, leb}
+use lib.Count.{ones}
 use lib.ListN.{drop}
 use Rattle.frame.specs.declared.heat.Told.{Told}
 use Rattle.frame.specs.declared.heat.Told.the-variants.{Is, Bad}
 use Rattle.frame.specs.declared.Reply.{Reply}
 use Rattle.frame.specs.declared.Reply.the-variants.{Read, Refused, Unreadable}
 use Rattle.frame.specs.Pick.{pick}
-use Rattle.frame.specs.Line.{line, bit}
+use Rattle.frame.specs.Line.{line, bit, formed, threeDecimal, threeDigits}
 use Rattle.frame.specs.Faults.{firstOf}
-use Rattle.frame.specs.Reply.{modeIn, replyTests, heatIn, readingAt, refusedBy}
+use Rattle.frame.specs.Reply.{modeIn, oddParity, replyTests, heatIn, readingAt, refusedBy}
 use Rattle.frame.specs.Charts.{Chart, oneBit, twoBits, feetTens, decimal, inches, sixteenths, placeIn, sizeOf, isOdd, turned, codeOf}
 use Rattle.frame.specs.declared.Temperature.the-variants as temperature
 use Rattle.frame.specs.Temperature.{Heat, told, bad, signed, isBad, temperatureOf}
 use Rattle.frame.specs.Level.{Level, known, lost, Mode, modeOf, levelOf, fillClear, readRow}
-use Rattle.frame.specs.Pairs.{levelByPairs, secondLevel}
+use Rattle.frame.specs.Pairs.{secondLevel}
 
 -- The chart of a number: 0 one bit, 1 two bits, 2 feet tens, 3 decimal, 4 inches, any other sixteenths.
 unfoldable pub chartOf : ℕ → Chart
@@ -83,10 +84,7 @@ levelNumber largest (lost k) = 7 * 2 ^ 16 + k
 unfoldable pub levelCode : Mode → ℕ → ℕ
 levelCode m n = pick (fillClear n (m .fill)) (levelNumber (m .largest) (levelOf m n)) (6 * 2 ^ 16)
 
--- The same of a mode's digits read by pairs, and of the mode of a number as the second reader takes it.
-unfoldable pub codeByPairs : Mode → ℕ → ℕ
-codeByPairs m n = pick (fillClear n (m .fill)) (levelNumber (m .largest) (levelByPairs m n)) (6 * 2 ^ 16)
-
+-- The same as the second reader takes the mode of a number.
 unfoldable pub secondCode : ℕ → ℕ → ℕ
 secondCode k n = pick (fillClear n (modeOf k .fill)) (levelNumber (modeOf k .largest) (secondLevel k n)) (6 * 2 ^ 16)
 
@@ -113,6 +111,21 @@ heatBy h =
     pick (ltb h 0x4000) (told (temperature.Degrees (signed (eqb (h / 0x2000) 1) (h % 0x2000))))
     (pick (eqb h 0x4000) (told temperature.Above) (pick (eqb h 0x4001) (told temperature.Below) (pick (eqb h 0x4002) (told temperature.Absent) bad)))
 
+-- The refusal of a reply by form or length, 0 for none.
+unfoldable pub formFault : ℕ → List ℕ → ℕ
+formFault count s =
+    pick (not (formed count s)) 14 (pick (eqb count 0) 1 (pick (not (eqb count 40) && not (eqb count 56)) 2 0))
+
+-- The first refusal before a reply's bits are looked at, 0 for none: the first five tests.
+abbrev pub unreadFault : ℕ → ℕ → ℕ → List ℕ → ℕ
+unreadFault settings address count s = pick (ltb 15 settings) 10 (pick (ltb 999 address) 11 (formFault count s))
+
+-- The first refusal of a line before its level, 0 for none: 3, 4 and 5, parity over the ones of its number.
+abbrev pub unfitFault : ℕ → ℕ → ℕ → ℕ
+unfitFault settings address n =
+    pick (eqb (bit n 1) 0) 3
+    (pick (not (threeDecimal n 4 && eqb (threeDigits n 4) address)) 4 (pick (not (eqb (ones n % 2) (oddParity settings))) 5 0))
+
 -- What is left to test of a reply of the right form and length, all but the first five tests: faults 3 to 9, and what it answers.
 unfoldable pub lineFault : ℕ → ℕ → ℕ → List ℕ → ℕ
 unfolding firstOf
@@ -136,8 +149,3 @@ heatReply settings count n level =
 -- The answer by the number of a level.
 abbrev pub levelledReply : ℕ → ℕ → ℕ → ℕ → Reply
 levelledReply settings count n code = pick (ltb code (2 ^ 16)) (heatReply settings count n code) (levelReply code)
-
--- The answer by what the tests before the level gave: a refusal by its number, or the line, which begins with a 1.
-abbrev pub testedReply : ℕ → ℕ → ℕ → Reply
-testedReply settings count r =
-    pick (ltb r (2 ^ 63)) (Refused r) (levelledReply settings count r (levelCode (modeIn settings) r))

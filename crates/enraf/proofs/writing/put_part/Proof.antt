@@ -5,7 +5,7 @@ use Prim.Native.Nat.{ℕ, _≤_, _-_, _+_}
 use native.Mathlib.Omega.{arith}
 use lib.ListN.{length, take, getD, set, length-set}
 use lib.Seq.{sets, take-all}
-use Rattle.enraf.proofs.Putting.{sets-next}
+use Rattle.frame.proofs.Parts.{sets-next}
 use Rattle.enraf.proofs.writing.put_part.Statement.{statement}
 use Rattle.enraf.proofs.writing.put_part.Tie as tie
 

@@ -1,16 +1,17 @@
--- `frame::modes::fill_after` meets its contract: each arm is its mode's constant. Assumes nothing.
-use borrow.Author.Tests.{ne-eqb}
+-- `frame::modes::fill_after` meets its contract: mode by mode. Assumes nothing.
+use borrow.Author.Needs.{needs}
+use Rattle.frame.proofs.SecondReader.{after-is}
 use Rattle.frame.proofs.modes.fill_after.Statement.{statement}
 use Rattle.frame.proofs.modes.fill_after.Tie as tie
 
+add-result : tie.Need-add-result
+add-result c = search needs
+
+sub-result : tie.Need-sub-result
+sub-result c = search needs
+
 returns : tie.Need-returns
-returns c = rw (c .match .keys1)
-
-returns-2 : tie.Need-returns-2
-returns-2 c = rw (c .match .keys2)
-
-returns-3 : tie.Need-returns-3
-returns-3 c = let r = c .match .rest in simp (ne-eqb _ _ (r .0 .1), ne-eqb _ _ (r .1))
+returns c = after-is (c .args .mode) (c .pre .0) (c .pre .1)
 
 pub fill-after-spec : {M : Type 1} → statement M
-fill-after-spec = tie.close (tie.spec returns returns-2 returns-3)
+fill-after-spec = tie.close (tie.spec add-result sub-result returns)

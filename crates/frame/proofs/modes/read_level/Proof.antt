@@ -1,8 +1,12 @@
--- `frame::modes::read_level` meets its contract: each arm is its mode. Assumes nothing.
-use mathlib.Core.Path.{sym, ap, _∙_}
-use Rattle.frame.specs.Level.{Mode}
+-- `frame::modes::read_level` meets its contract: of the fractional mode its own reader, of the others five decimal digits by their constants.
+-- Assumes nothing.
+use mathlib.Core.Path.{_≡_, _∙_}
+use mathlib.Core.Bool.{false}
+use Prim.Native.Nat.{ℕ, _+_}
+use Rattle.frame.specs.Level.{modeOf}
 use Rattle.frame.specs.inside.Packed.{levelCode}
-use Rattle.frame.proofs.EachMode.{mode-0, mode-1, mode-2, mode-else}
+use Rattle.frame.specs.inside.Constants.{Constants, readDecimalsBy, pairedBy}
+use Rattle.frame.proofs.SecondReader.{allowed, plain-0, plain-else}
 use borrow.Author.Needs.{needs}
 use Rattle.frame.proofs.modes.read_level.Statement.{statement}
 use Rattle.frame.proofs.modes.read_level.Tie as tie
@@ -10,45 +14,47 @@ use Rattle.frame.proofs.modes.read_level.Tie as tie
 read-requires : tie.Need-read-requires
 read-requires c κs = search needs
 
-read-requires-2 : tie.Need-read-requires-2
-read-requires-2 c κs = search needs
-
-read-requires-3 : tie.Need-read-requires-3
-read-requires-3 c κs = search needs
-
-read-requires-4 : tie.Need-read-requires-4
-read-requires-4 c κs = search needs
-
 returns : tie.Need-returns
-returns c =
-    let a = c .before .before .args in
-    c .read .ensures ∙ sym (ap (λ (m : Mode). levelCode m (a .n)) (mode-0 (a .mode) (c .before .match .keys1)))
+returns c = let a = c .before .before .args in c .read .ensures ∙ plain-0 (a .mode) (a .n) (c .before .if1 .taken)
+
+digits-of-requires : tie.Need-digits-of-requires
+digits-of-requires c κs = search needs
+
+fill-before-requires : tie.Need-fill-before-requires
+fill-before-requires c κs = search needs
+
+fill-after-requires : tie.Need-fill-after-requires
+fill-after-requires c κs = search needs
+
+read-by-requires : tie.Need-read-by-requires
+read-by-requires c κs =
+    let after = c in
+    let before = after .before in
+    let digits = before .before in
+    rw (digits .digits-of .ensures, before .fill-before .ensures, after .fill-after .ensures) (allowed (digits .before .before .args .mode))
 
 returns-2 : tie.Need-returns-2
 returns-2 c =
-    let a = c .before .before .args in
-    c .read2 .ensures ∙ sym (ap (λ (m : Mode). levelCode m (a .n)) (mode-1 (a .mode) (c .before .match .keys2)))
-
-returns-3 : tie.Need-returns-3
-returns-3 c =
-    let a = c .before .before .args in
-    c .read3 .ensures ∙ sym (ap (λ (m : Mode). levelCode m (a .n)) (mode-2 (a .mode) (c .before .match .keys3)))
-
-returns-4 : tie.Need-returns-4
-returns-4 c =
-    let a = c .before .before .args in
-    let r = c .before .match .rest in
-    c .read4 .ensures ∙ sym (ap (λ (m : Mode). levelCode m (a .n)) (mode-else (a .mode) (r .0 .0 .1) (r .0 .1) (r .1)))
+    let after = c .before in
+    let before = after .before in
+    let digits = before .before in
+    let a = digits .before .before .args in
+    let k = a .mode in
+    let d : digits .digits-of .result ≡ pairedBy k .digits = digits .digits-of .ensures in
+    let b : before .fill-before .result ≡ pairedBy k .before = before .fill-before .ensures in
+    let e : after .fill-after .result ≡ pairedBy k .after = after .fill-after .ensures in
+    let step : readDecimalsBy (record { digits = digits .digits-of .result; first = 16 + before .fill-before .result; before = before .fill-before .result; after = after .fill-after .result; largest = 32699; charts = 0; start = false }) (a .n) ≡ levelCode (modeOf k) (a .n) =
+    rw (d, b, e) (plain-else k (a .n) (digits .before .if1 .left)) in
+    c .read-by .ensures ∙ step
 
 pub read-level-spec : {M : Type 1} → statement M
 read-level-spec =
     tie.close
     (tie.spec
     read-requires
-    read-requires-2
-    read-requires-3
-    read-requires-4
     returns
-    returns-2
-    returns-3
-    returns-4)
+    digits-of-requires
+    fill-before-requires
+    fill-after-requires
+    read-by-requires
+    returns-2)

@@ -2,7 +2,7 @@
 -- nothing.
 use mathlib.Core.Path.{_≡_, _∙_}
 use mathlib.Core.Bool.{false}
-use Prim.Native.Nat.{ℕ}
+use Prim.Native.Nat.{ℕ, _+_}
 use Rattle.frame.specs.inside.Packed.{secondCode}
 use Rattle.frame.specs.inside.Constants.{Constants, readPairsBy, pairedBy}
 use Rattle.frame.proofs.SecondReader.{allowed, second-0, second-else}
@@ -19,42 +19,31 @@ returns c = let a = c .before .before .args in c .read .ensures ∙ second-0 (a 
 digits-of-requires : tie.Need-digits-of-requires
 digits-of-requires c κs = search needs
 
-first-of-requires : tie.Need-first-of-requires
-first-of-requires c κs = search needs
-
 fill-before-requires : tie.Need-fill-before-requires
 fill-before-requires c κs = search needs
 
 fill-after-requires : tie.Need-fill-after-requires
 fill-after-requires c κs = search needs
 
-largest-of-requires : tie.Need-largest-of-requires
-largest-of-requires c κs = search needs
-
 read-by-requires : tie.Need-read-by-requires
 read-by-requires c κs =
-    let after = c .before in
+    let after = c in
     let before = after .before in
-    let first = before .before in
-    let digits = first .before in
-    rw (digits .digits-of .ensures, first .first-of .ensures, before .fill-before .ensures, after .fill-after .ensures) (allowed (digits .before .before .args .mode))
+    let digits = before .before in
+    rw (digits .digits-of .ensures, before .fill-before .ensures, after .fill-after .ensures) (allowed (digits .before .before .args .mode))
 
 returns-2 : tie.Need-returns-2
 returns-2 c =
-    let largest = c .before in
-    let after = largest .before in
+    let after = c .before in
     let before = after .before in
-    let first = before .before in
-    let digits = first .before in
+    let digits = before .before in
     let a = digits .before .before .args in
     let k = a .mode in
     let d : digits .digits-of .result ≡ pairedBy k .digits = digits .digits-of .ensures in
-    let f : first .first-of .result ≡ pairedBy k .first = first .first-of .ensures in
     let b : before .fill-before .result ≡ pairedBy k .before = before .fill-before .ensures in
     let e : after .fill-after .result ≡ pairedBy k .after = after .fill-after .ensures in
-    let l : largest .largest-of .result ≡ pairedBy k .largest = largest .largest-of .ensures in
-    let step : readPairsBy (record { digits = digits .digits-of .result; first = first .first-of .result; before = before .fill-before .result; after = after .fill-after .result; largest = largest .largest-of .result; charts = 0; start = false }) (a .n) ≡ secondCode k (a .n) =
-    rw (d, f, b, e, l) (second-else k (a .n) (digits .before .if1 .left)) in
+    let step : readPairsBy (record { digits = digits .digits-of .result; first = 16 + before .fill-before .result; before = before .fill-before .result; after = after .fill-after .result; largest = 32699; charts = 0; start = false }) (a .n) ≡ secondCode k (a .n) =
+    rw (d, b, e) (second-else k (a .n) (digits .before .if1 .left)) in
     c .read-by .ensures ∙ step
 
 pub read-level-by-pairs-spec : {M : Type 1} → statement M
@@ -64,9 +53,7 @@ read-level-by-pairs-spec =
     read-requires
     returns
     digits-of-requires
-    first-of-requires
     fill-before-requires
     fill-after-requires
-    largest-of-requires
     read-by-requires
     returns-2)

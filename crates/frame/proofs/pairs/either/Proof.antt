@@ -1,0 +1,12 @@
+-- `frame::pairs::either` meets its contract: each return rewrites with its test. Assumes nothing.
+use Rattle.frame.proofs.pairs.either.Statement.{statement}
+use Rattle.frame.proofs.pairs.either.Tie as tie
+
+returns : tie.Need-returns
+returns c = rw (c .if1 .taken)
+
+returns-2 : tie.Need-returns-2
+returns-2 c = rw (c .if1 .left)
+
+pub either-spec : {M : Type 1} → statement M
+either-spec = tie.close (tie.spec returns returns-2)
