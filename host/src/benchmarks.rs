@@ -3,7 +3,7 @@
 //! Each case prepares its inputs once, gives both sides the same, and times a walk over all of
 //! them; the compiler sees neither the inputs nor what becomes of the answers. What is timed is a
 //! call of each side: the library's calls are in an archive, and those of the independent reading
-//! are never put in place. The library's side also turns C structs into the types of this package.
+//! are never put in place. An answer that is a struct is left as each side gives it.
 
 mod areas;
 mod items;
@@ -13,7 +13,7 @@ mod modes;
 mod rounds;
 mod summaries;
 
-use crate::calls::Core;
+use crate::calls::{Bare, Core};
 use crate::generate::{self, ReplyCase, SaveCase};
 use crate::random::Random;
 use crate::stopwatch::{Stopwatch, Timing};
@@ -35,7 +35,7 @@ pub struct Benchmarks<'a, L: Core, R: Core> {
     pub only: String,
 }
 
-impl<L: Core, R: Core> Benchmarks<'_, L, R> {
+impl<L: Bare, R: Bare> Benchmarks<'_, L, R> {
     /// Every case, each told as soon as it is measured.
     pub fn all(&self, mut tell: impl FnMut(&Timing)) {
         self.polls(&mut tell);
@@ -221,34 +221,39 @@ impl<L: Core, R: Core> Benchmarks<'_, L, R> {
     }
 }
 
-fn poll_trip<'a, C: Core>(core: &'a C, polls: &'a [Poll]) -> impl FnMut() + 'a {
+/// Takes an answer where it stands: handed on as a value it would be copied, and the copy timed with
+/// the call.
+#[inline(always)]
+fn taken<T>(answer: T) {
+    black_box(&answer);
+}
+
+fn poll_trip<'a, C: Bare>(core: &'a C, polls: &'a [Poll]) -> impl FnMut() + 'a {
     move || {
         let mut out = [0; 2];
         for poll in polls {
-            let _ = black_box(core.write_poll(black_box(poll), black_box(&mut out)));
-            let _ = black_box(core.read_poll(black_box(&out)));
+            taken(core.write_poll(black_box(poll), black_box(&mut out)));
+            taken(core.bare_read_poll(black_box(&out)));
         }
     }
 }
 
-fn reads<'a, C: Core>(core: &'a C, pool: &'a [ReplyCase]) -> impl FnMut() + 'a {
+fn reads<'a, C: Bare>(core: &'a C, pool: &'a [ReplyCase]) -> impl FnMut() + 'a {
     move || {
         for case in pool {
             let case = black_box(case);
-            let _ =
-                black_box(core.read_reply(case.settings, case.address, case.count, case.reply()));
+            taken(core.bare_read_reply(case.settings, case.address, case.count, case.reply()));
         }
     }
 }
 
 /// By the second reader. The independent reading has one reader, which goes by pairs of digits.
-fn reads_by_pairs<'a, C: Core>(core: &'a C, pool: &'a [ReplyCase]) -> impl FnMut() + 'a {
+fn reads_by_pairs<'a, C: Bare>(core: &'a C, pool: &'a [ReplyCase]) -> impl FnMut() + 'a {
     move || {
         for case in pool {
             let case = black_box(case);
             let (settings, address) = (case.settings, case.address);
-            let _ =
-                black_box(core.read_reply_by_pairs(settings, address, case.count, case.reply()));
+            taken(core.bare_read_reply_by_pairs(settings, address, case.count, case.reply()));
         }
     }
 }
@@ -259,7 +264,7 @@ fn writes<'a, C: Core>(core: &'a C, pool: &'a [(u8, u16, Reading)]) -> impl FnMu
         for case in pool {
             let (settings, address, reading) = black_box(case);
             let out = black_box(&mut out);
-            let _ = black_box(core.write_reply(*settings, *address, reading, out));
+            taken(core.write_reply(*settings, *address, reading, out));
         }
     }
 }
@@ -275,7 +280,7 @@ fn saves<'a, C: Core>(
     move || {
         for case in month {
             let entry = black_box(case).entry();
-            let _ = black_box(core.save(black_box(&mut sheet), &entry, usize::MAX));
+            taken(core.save(black_box(&mut sheet), &entry, usize::MAX));
             if let Some(slot) = sheet.chunks_exact_mut(SLOT).nth(place) {
                 slot.fill(BLANK);
             }
@@ -283,10 +288,10 @@ fn saves<'a, C: Core>(
     }
 }
 
-fn looks<'a, C: Core>(core: &'a C, sheet: &'a [u8]) -> impl FnMut() + 'a {
+fn looks<'a, C: Bare>(core: &'a C, sheet: &'a [u8]) -> impl FnMut() + 'a {
     move || {
         for slot in 0..sheet.len() / SLOT {
-            let _ = black_box(core.look(black_box(sheet), slot));
+            taken(core.bare_look(black_box(sheet), slot));
         }
     }
 }
@@ -298,20 +303,20 @@ fn hears<'a, C: Core>(core: &'a C, rows: &[Row], replies: &'a [ReplyCase]) -> im
             let case = black_box(case);
             let rows = black_box(&mut rows);
             let minute = minute as u32;
-            let _ = black_box(core.hear(rows, minute, case.address, case.count, case.reply()));
+            taken(core.hear(rows, minute, case.address, case.count, case.reply()));
         }
     }
 }
 
 /// Every address looked up.
-fn look_ups<'a, C: Core>(core: &'a C, rows: &[Row], addresses: &'a [u16]) -> impl FnMut() + 'a
+fn look_ups<'a, C: Bare>(core: &'a C, rows: &[Row], addresses: &'a [u16]) -> impl FnMut() + 'a
 where
     C::Row: 'a,
 {
     let rows: Vec<C::Row> = rows.iter().map(|row| core.row(row)).collect();
     move || {
         for &address in addresses {
-            let _ = black_box(core.look_up(black_box(&rows), address));
+            taken(core.bare_look_up(black_box(&rows), address));
         }
     }
 }
@@ -324,8 +329,8 @@ where
     let mut rows: Vec<C::Row> = rows.iter().map(|row| core.row(row)).collect();
     move || {
         for &address in addresses {
-            let _ = black_box(core.remove(black_box(&mut rows), address));
-            let _ = black_box(core.enrol(black_box(&mut rows), 1, address, 0));
+            taken(core.remove(black_box(&mut rows), address));
+            taken(core.enrol(black_box(&mut rows), 1, address, 0));
         }
     }
 }
@@ -341,7 +346,7 @@ fn row_polls<'a, C: Core>(core: &'a C, rows: &[Row], addresses: &'a [u16]) -> im
         let mut out = [0; 2];
         for &address in addresses {
             let rows = black_box(&rows);
-            let _ = black_box(core.poll_row(rows, address, 1, 0, black_box(&mut out)));
+            taken(core.poll_row(rows, address, 1, 0, black_box(&mut out)));
         }
     }
 }
@@ -385,6 +390,6 @@ mod tests {
         benchmarks.summaries(&mut tell);
         benchmarks.joins(&mut tell);
         benchmarks.rounds(&mut tell);
-        assert_eq!(names.len(), 15, "{names:#?}");
+        assert_eq!(names.len(), 16, "{names:#?}");
     }
 }

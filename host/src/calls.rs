@@ -5,6 +5,7 @@
 //! independent reading in this package, and the wrapper of the proved library.
 
 mod areas;
+mod bare;
 mod items;
 mod joins;
 mod lines;
@@ -12,6 +13,7 @@ mod rounds;
 mod summaries;
 
 pub use areas::Areas;
+pub use bare::Bare;
 pub use items::Items;
 pub use joins::Joins;
 pub use lines::Lines;

@@ -1,7 +1,7 @@
 //! Areas: nanoseconds of one site.
 
-use super::Benchmarks;
-use crate::calls::{Areas, Core};
+use super::{taken, Benchmarks};
+use crate::calls::{Areas, Bare};
 use crate::generate;
 use crate::stopwatch::Timing;
 use std::hint::black_box;
@@ -9,7 +9,7 @@ use std::hint::black_box;
 /// Sites of one case.
 const SITES: usize = 64;
 
-impl<L: Core + Areas, R: Core + Areas> Benchmarks<'_, L, R> {
+impl<L: Bare + Areas, R: Bare + Areas> Benchmarks<'_, L, R> {
     /// Sites of 60 to 120 transmitters, planned, and their plans checked.
     pub fn areas(&self, mut tell: impl FnMut(&Timing)) {
         let mut random = self.random();
@@ -30,7 +30,7 @@ impl<L: Core + Areas, R: Core + Areas> Benchmarks<'_, L, R> {
 fn plans<'a, C: Areas>(core: &'a C, sites: &'a [(Vec<u32>, Vec<u8>)]) -> impl FnMut() + 'a {
     move || {
         for (site, _) in sites {
-            let _ = black_box(core.plan_areas(black_box(site)));
+            taken(core.plan_areas(black_box(site)));
         }
     }
 }
@@ -38,7 +38,7 @@ fn plans<'a, C: Areas>(core: &'a C, sites: &'a [(Vec<u32>, Vec<u8>)]) -> impl Fn
 fn checks<'a, C: Areas>(core: &'a C, sites: &'a [(Vec<u32>, Vec<u8>)]) -> impl FnMut() + 'a {
     move || {
         for (site, plan) in sites {
-            let _ = black_box(core.check_areas(black_box(site), black_box(plan)));
+            taken(core.check_areas(black_box(site), black_box(plan)));
         }
     }
 }

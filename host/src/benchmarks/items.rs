@@ -1,13 +1,13 @@
 //! Enraf item records: nanoseconds of one record.
 
-use super::{Benchmarks, POOL};
-use crate::calls::{Core, Items};
+use super::{taken, Benchmarks, POOL};
+use crate::calls::{Bare, Items};
 use crate::generate::{self, AskedCase};
 use crate::stopwatch::Timing;
 use crate::types::items::LONGEST_RECORD;
 use std::hint::black_box;
 
-impl<L: Core + Items, R: Core + Items> Benchmarks<'_, L, R> {
+impl<L: Bare + Items, R: Bare + Items> Benchmarks<'_, L, R> {
     /// Items of all kinds, written, and read again.
     pub fn items(&self, mut tell: impl FnMut(&Timing)) {
         let mut random = self.random();
@@ -28,7 +28,7 @@ impl<L: Core + Items, R: Core + Items> Benchmarks<'_, L, R> {
 fn reads<'a, C: Items>(core: &'a C, records: &'a [Vec<u8>]) -> impl FnMut() + 'a {
     move || {
         for record in records {
-            let _ = black_box(core.read_item(black_box(record)));
+            taken(core.read_item(black_box(record)));
         }
     }
 }
@@ -38,7 +38,7 @@ fn writes<'a, C: Items>(core: &'a C, items: &'a [AskedCase]) -> impl FnMut() + '
         let mut out = [0; LONGEST_RECORD];
         for item in items {
             let item = black_box(item).asked();
-            let _ = black_box(core.write_item(&item, black_box(&mut out)));
+            taken(core.write_item(&item, black_box(&mut out)));
         }
     }
 }

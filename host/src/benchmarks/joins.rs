@@ -1,7 +1,7 @@
 //! Joins: nanoseconds of one.
 
-use super::Benchmarks;
-use crate::calls::{Core, Joins};
+use super::{taken, Benchmarks};
+use crate::calls::{Bare, Joins};
 use crate::generate;
 use crate::stopwatch::Timing;
 use crate::types::summaries::Summary;
@@ -10,7 +10,7 @@ use std::hint::black_box;
 /// Joins of one case.
 const JOINS: usize = 64;
 
-impl<L: Core + Joins, R: Core + Joins> Benchmarks<'_, L, R> {
+impl<L: Bare + Joins, R: Bare + Joins> Benchmarks<'_, L, R> {
     /// Pages of 20 to 30 lines that share most of their pairs.
     pub fn joins(&self, mut tell: impl FnMut(&Timing)) {
         let mut random = self.random();
@@ -31,7 +31,7 @@ impl<L: Core + Joins, R: Core + Joins> Benchmarks<'_, L, R> {
 fn joins<'a, C: Joins>(core: &'a C, pages: &'a [[Summary; 2]]) -> impl FnMut() + 'a {
     move || {
         for [one, other] in pages {
-            let _ = black_box(core.summary_join(black_box(one), black_box(other)));
+            taken(core.summary_join(black_box(one), black_box(other)));
         }
     }
 }

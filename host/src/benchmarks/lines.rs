@@ -1,7 +1,7 @@
 //! The lines: nanoseconds of one sample.
 
 use super::Benchmarks;
-use crate::calls::{Core, Lines};
+use crate::calls::{Bare, Lines};
 use crate::generate;
 use crate::random::Random;
 use crate::stopwatch::Timing;
@@ -19,7 +19,7 @@ const TIMES: PulseTimes = PulseTimes {
     gap: 100,
 };
 
-impl<L: Core + Lines, R: Core + Lines> Benchmarks<'_, L, R> {
+impl<L: Bare + Lines, R: Bare + Lines> Benchmarks<'_, L, R> {
     /// A line that is idle, one full of messages, a stuck one, and noise.
     pub fn lines(&self, mut tell: impl FnMut(&Timing)) {
         let cases = [

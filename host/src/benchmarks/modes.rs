@@ -2,13 +2,13 @@
 //! that these and the cases of all modes mixed tell two things.
 
 use super::{reads, reads_by_pairs, writes, Benchmarks};
-use crate::calls::Core;
+use crate::calls::Bare;
 use crate::stopwatch::Timing;
 
 /// The modes, by the number that settings have for them.
 const MODES: [&str; 4] = ["fractional", "decimal", "20 m", "30 m"];
 
-impl<L: Core, R: Core> Benchmarks<'_, L, R> {
+impl<L: Bare, R: Bare> Benchmarks<'_, L, R> {
     /// Good replies of 40 bits read by either reader, and written, each mode alone.
     pub fn modes(&self, mut tell: impl FnMut(&Timing)) {
         for (number, mode) in MODES.iter().enumerate() {

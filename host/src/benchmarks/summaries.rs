@@ -1,14 +1,14 @@
 //! Summaries: one worked out from a sheet, beside the listing's walk over the same; one save.
 
-use super::{Benchmarks, SLOTS};
-use crate::calls::{Core, Summaries};
+use super::{taken, Benchmarks, SLOTS};
+use crate::calls::{Bare, Summaries};
 use crate::generate::{self, SaveCase};
 use crate::stopwatch::Timing;
 use crate::types::summaries::Summary;
 use crate::types::{BLANK, SLOT};
 use std::hint::black_box;
 
-impl<L: Core + Summaries, R: Core + Summaries> Benchmarks<'_, L, R> {
+impl<L: Bare + Summaries, R: Bare + Summaries> Benchmarks<'_, L, R> {
     pub fn summaries(&self, mut tell: impl FnMut(&Timing)) {
         let sheet = self.sheet(SLOTS, SLOTS);
         let (left, right) = (works_out(self.left, &sheet), works_out(self.right, &sheet));
@@ -31,7 +31,7 @@ impl<L: Core + Summaries, R: Core + Summaries> Benchmarks<'_, L, R> {
 
 fn works_out<'a, C: Summaries>(core: &'a C, sheet: &'a [u8]) -> impl FnMut() + 'a {
     move || {
-        let _ = black_box(core.summary_of(black_box(sheet)));
+        taken(core.summary_of(black_box(sheet)));
     }
 }
 
@@ -46,7 +46,7 @@ fn saves<'a, C: Summaries>(
             let mut slot = [BLANK; SLOT];
             let entry = black_box(case).entry();
             let page = black_box(page);
-            let _ = black_box(core.summary_save(black_box(&mut slot), page, &entry, usize::MAX));
+            taken(core.summary_save(black_box(&mut slot), page, &entry, usize::MAX));
         }
     }
 }

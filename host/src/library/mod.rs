@@ -5,6 +5,7 @@
 //! to nobody else.
 
 mod areas;
+mod bare;
 mod ffi;
 mod items;
 mod joins;
@@ -17,7 +18,7 @@ mod tests;
 pub use ffi::Row as LentRow;
 pub use ffi::VERSION;
 
-use crate::calls::Core;
+use crate::calls::{Bare, Core};
 use crate::types::{
     Answer, Entry, Fault, Last, Poll, Reading, Record, Row, Slot, Standing, Temperature,
 };
@@ -144,10 +145,7 @@ pub fn read_reply_by_pairs(
     count: usize,
     reply: &[u8],
 ) -> Answer<Reading> {
-    // SAFETY: the library reads the bytes of the slice alone.
-    reading(unsafe {
-        ffi::sisal_read_reply_by_pairs(settings, address, count, reply.as_ptr(), reply.len())
-    })
+    reading(Library.bare_read_reply_by_pairs(settings, address, count, reply))
 }
 
 /// Whether a reply of `count` bits is lent in the right form. Refusal: 14.
@@ -161,8 +159,7 @@ impl Core for Library {
 
     #[inline]
     fn read_poll(&self, poll: &[u8]) -> Answer<Poll> {
-        // SAFETY: the library reads the bytes of the slice alone.
-        let told = unsafe { ffi::sisal_read_poll(poll.as_ptr(), poll.len()) };
+        let told = self.bare_read_poll(poll);
         refused(told.number).map(|()| Poll {
             address: told.address,
             raise: told.raise != 0,
@@ -198,10 +195,7 @@ impl Core for Library {
         count: usize,
         reply: &[u8],
     ) -> Answer<Reading> {
-        // SAFETY: the library reads the bytes of the slice alone.
-        reading(unsafe {
-            ffi::sisal_read_reply(settings, address, count, reply.as_ptr(), reply.len())
-        })
+        reading(self.bare_read_reply(settings, address, count, reply))
     }
 
     #[inline]
@@ -250,8 +244,7 @@ impl Core for Library {
 
     #[inline]
     fn look(&self, sheet: &[u8], slot: usize) -> Answer<Slot> {
-        // SAFETY: the library reads the bytes of the slice alone.
-        let told = unsafe { ffi::sisal_look(sheet.as_ptr(), sheet.len(), slot) };
+        let told = self.bare_look(sheet, slot);
         refused(told.number).map(|()| match told.state {
             BLANK => Slot::Blank,
             SPOILED => Slot::Spoiled,
@@ -351,8 +344,7 @@ impl Core for Library {
 
     #[inline]
     fn look_up(&self, rows: &[LentRow], address: u16) -> Answer<Standing> {
-        // SAFETY: the library reads rows of the slice alone.
-        let told = unsafe { ffi::sisal_board_look_up(rows.as_ptr(), rows.len(), address) };
+        let told = self.bare_look_up(rows, address);
         let alarms = [told.alarm1, told.alarm0];
         refused(told.number).map(|()| Standing {
             settings: told.settings,

@@ -7,6 +7,7 @@
 #![forbid(unsafe_code)]
 
 pub mod areas;
+mod bare;
 #[cfg(test)]
 mod bench_checks;
 pub mod board;
