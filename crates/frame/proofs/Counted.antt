@@ -5,7 +5,7 @@ use mathlib.Core.List.{List, [], _∷_}
 use Prim.Native.Nat.{ℕ, zero, suc, _+_, _*_, _/_, _%_, _^_, _<_, _≤_}
 use native.Mathlib.Nat.{add-zero, mod-lt, mod-eq-of-lt}
 use native.Mathlib.Omega.{arith}
-use lib.Count.{ones, onesIn, ones-cat}
+use lib.Count.{ones, onesIn, ones-cat, ones-step}
 use lib.Dec.{lit<}
 use lib.Pow.{pow-pos, split, shr-shr}
 use lib.ListN.{length, getD, drop, drop-of-length-le}
@@ -25,6 +25,16 @@ ones-zero = refl
 
 top-byte : (n : ℕ) → n < 2 ^ 64 → ones (n / 2 ^ 56) ≡ ones (n / 2 ^ 56 % 2 ^ 8)
 top-byte n h = ap ones (sym (mod-eq-of-lt {n = n / 2 ^ 56} {m = 2 ^ 8} (omega arith)))
+
+-- a one in the lowest bit, where that is 0, is one more
+pub with-lowest : (n o : ℕ) → n % 2 ≡ 0 → o < 2 → ones (n + o) ≡ ones n + o
+with-lowest n o e h = ones-step (n + o) ∙ last (ones ((n + o) / 2)) (ones (n / 2)) (ap ones same) ∙ ap (λ (k : ℕ). k + o) (sym (ones-step n))
+  where
+    same : (n + o) / 2 ≡ n / 2
+    same = omega arith
+
+    last : (x y : ℕ) → x ≡ y → (n + o) % 2 + x ≡ n % 2 + y + o
+    last x y p = omega arith
 
 -- where the lowest k bits are 0, the ones stand above them
 above : (n k : ℕ) → n % 2 ^ k ≡ 0 → ones n ≡ ones (n / 2 ^ k)

@@ -7,9 +7,13 @@ pub mod Tables
 pub mod EachMode
 pub mod DecimalCode
 pub mod Digits
+pub mod SideBySide
 pub mod Upward
+pub mod Quotients
 pub mod Straight
+pub mod LevelCodes
 pub mod Constants
+pub mod LevelPlaces
 pub mod Keys
 pub mod PairsAreDigits
 pub mod Cut
@@ -26,5 +30,7 @@ pub mod Parts
 pub mod Counted
 pub mod Oddness
 pub mod Sums
+pub mod Tenths
+pub mod Parity
 pub mod ToldBack
 pub mod Rising

@@ -12,10 +12,11 @@ use Rattle.frame.specs.declared.Temperature.the-variants.{Degrees, Above
 use Rattle.frame.specs.Pick.{pick}
 use Rattle.frame.specs.Line.{put, mark}
 use Rattle.frame.specs.Level.{Mode, modeOf, putLevel, fractionalMode, decimalMode, twentyMetreMode, thirtyMetreMode}
-use Rattle.frame.specs.Temperature.{limit, isPlus, magnitude, putDegrees, putDegrees1900, putHeat1900, putDegrees1800, putHeat1800, putHeat, isAbsent}
+use Rattle.frame.specs.Temperature.{limit, isPlus, magnitude, putDegrees, putHundreds1900, putDegrees1900, putHeat1900, putDegrees1800, putHeat1800, putHeat, isAbsent}
 use Rattle.frame.specs.declared.Reading.{Reading}
 use Rattle.frame.specs.Reply.{modeIn, is1800, bodyOf}
 use Rattle.frame.specs.inside.Packed.{threeOf}
+use Rattle.frame.specs.inside.Written.{frontOf}
 use Rattle.frame.specs.inside.Constants.{Constants, fractional, decimalFeet, metres20, metres30, digitBits, codesBy, writeBy}
 use Rattle.frame.proofs.Constants.{Fits, write-is, fractional-fits, decimal-fits, metres20-fits, metres30-fits}
 use Rattle.frame.proofs.Upward.{up-lt, sixteen}
@@ -71,6 +72,12 @@ degrees-small false m = omega arith
 degrees-ends : (plus : Bool) (m : ℕ) → putDegrees plus m % 2 ^ 9 ≡ 0
 degrees-ends true m = omega arith
 degrees-ends false m = omega arith
+
+pub hundreds-small : (h : ℕ) → putHundreds1900 h < 2 ^ 25
+hundreds-small h = sum (1 - h % 2) (1 - h / 2 % 2) (1 - h / 4 % 2) (omega arith) (omega arith) (omega arith)
+  where
+    sum : (a b c : ℕ) → a ≤ 1 → b ≤ 1 → c ≤ 1 → a * 2 ^ 24 + b * 2 ^ 22 + c * 2 ^ 21 < 2 ^ 25
+    sum a b c ha hb hc = omega arith
 
 with-hundreds : (a b c d : ℕ) → a ≤ 1 → b ≤ 1 → c ≤ 1 → d < 2 ^ 23 + 2 ^ 21 → d % 2 ^ 9 ≡ 0 → Low (a * 2 ^ 24 + b * 2 ^ 22 + c * 2 ^ 21 + d)
 with-hundreds a b c d ha hb hc small ends = record { small = omega arith; ends = omega arith }
@@ -146,6 +153,11 @@ pub body-right : (settings address : ℕ) (r : Reading) → address ≤ 999 → 
 body-right settings address r h =
     rw (body-is settings address r)
     (add-up (threeOf address) (putLevel (modeIn settings) (r .level)) (mark (r .alarm1)) (mark (r .alarm0)) (putHeat (is1800 settings) (r .temperature)) (three-lt address h) (level-middle (settings % 4) (r .level)) (mark-le (r .alarm1)) (mark-le (r .alarm0)) (heat-low (is1800 settings) (r .temperature)))
+
+-- and so does what stands before the temperature
+pub front-small : (settings address : ℕ) (r : Reading) → address ≤ 999 → frontOf settings address r < 2 ^ 63 + 2 ^ 62
+unfolding bodyOf
+front-small settings address r h = omega (arith, body-right settings address r h .small)
 
 -- an absent temperature has no bits, so that 40 bits hold the rest
 pub no-heat : (b : Bool) (t : Temperature) → isAbsent t ≡ true → putHeat b t ≡ 0

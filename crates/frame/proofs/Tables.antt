@@ -6,11 +6,11 @@ use Prim.Native.Nat.{ℕ, zero, suc, _*_, _/_, _%_, _^_, _<_, _≤_}
 use native.Mathlib.Decide.{ℕ-discrete}
 use native.Mathlib.Omega.{arith}
 use borrow.Author.Tests.{ne-eqb}
-use lib.Dec.{T, eqb, eqb→eq, leb, leb→le}
+use lib.Dec.{T, eqb, eqb→eq, ltb, ltb→lt, leb, leb→le}
 use lib.ListN.{getD}
 use Rattle.frame.specs.Pick.{pick}
 use Rattle.frame.specs.Charts.{Chart, oneBit, twoBits, feetTens, decimal, inches, sixteenths, placeIn, sizeOf}
-use Rattle.frame.specs.inside.Packed.{chartOf, placesOf, codesOf}
+use Rattle.frame.specs.inside.Packed.{chartOf, placesOf}
 use Rattle.frame.proofs.Both.{and-left, and-right}
 
 pub pick-case : {A : Type 0} (P : A → Type 0) (t : Bool) {a b : A} → P a → P b → P (pick t a b)
@@ -50,13 +50,13 @@ pub places-rule : (k code : ℕ) → code < 16 → placesOf (chartOf k) / 2 ^ (4
 unfolding placeRight placesOf placeIn oneBit twoBits feetTens decimal inches sixteenths
 places-rule k code h = eqb→eq _ _ (at-below (placeRight (chartOf k)) 16 (every-chart (λ (c : Chart). T (allBelow (placeRight c) 16)) tt tt tt tt tt tt k) code h)
 
--- the table of codes holds, at each place, its code
-codeRight : Chart → ℕ → Bool
-codeRight c at = eqb (codesOf c / 2 ^ (4 * at) % 16) (getD (c .codes) at 0)
+-- every code takes four bits
+codeSmall : Chart → ℕ → Bool
+codeSmall c at = ltb (getD (c .codes) at 0) 16
 
-pub codes-rule : (k at : ℕ) → at < 16 → codesOf (chartOf k) / 2 ^ (4 * at) % 16 ≡ getD (chartOf k .codes) at 0
-unfolding codeRight codesOf oneBit twoBits feetTens decimal inches sixteenths
-codes-rule k at h = eqb→eq _ _ (at-below (codeRight (chartOf k)) 16 (every-chart (λ (c : Chart). T (allBelow (codeRight c) 16)) tt tt tt tt tt tt k) at h)
+pub code-small : (k at : ℕ) → at < 16 → getD (chartOf k .codes) at 0 < 16
+unfolding codeSmall oneBit twoBits feetTens decimal inches sixteenths
+code-small k at h = ltb→lt _ _ (at-below (codeSmall (chartOf k)) 16 (every-chart (λ (c : Chart). T (allBelow (codeSmall c) 16)) tt tt tt tt tt tt k) at h)
 
 -- a digit has from 2 to 16 values, and an even number of them
 pub size-low : (k : ℕ) → 2 ≤ sizeOf (chartOf k)

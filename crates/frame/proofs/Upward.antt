@@ -12,10 +12,10 @@ use lib.Dec.{eqb, leb, lit<}
 use lib.Pow.{pow-add, pow-mono}
 use Rattle.frame.specs.Charts.{Chart, sizeOf, isOdd, turned, codeOf}
 use Rattle.frame.specs.Level.{widthOf, valuesOf, writeRow}
-use Rattle.frame.specs.inside.Packed.{chartOf, codesOf, rowOf, writeUp}
+use Rattle.frame.specs.inside.Packed.{chartOf, rowOf, writeUp}
 use Rattle.frame.specs.inside.Constants.{placedAt}
 use Rattle.frame.proofs.Digits.{turned-lt}
-use Rattle.frame.proofs.Tables.{size-low, size-high, size-even, codes-rule}
+use Rattle.frame.proofs.Tables.{size-low, size-high, size-even, code-small}
 
 -- a row's digit read in four bits
 abbrev pub inFour : ℕ → Chart
@@ -129,7 +129,7 @@ upward row (suc k) v h =
 pub code-lt : (k : ℕ) (odd : Bool) (d : ℕ) → d < sizeOf (chartOf k) → codeOf odd (chartOf k) d < 16
 code-lt k odd d h =
     let at = turned-lt odd (sizeOf (chartOf k)) d h in
-    rw (← codes-rule k (turned odd (sizeOf (chartOf k)) d) (omega (arith, size-high k))) (mod-lt (codesOf (chartOf k) / 2 ^ (4 * turned odd (sizeOf (chartOf k)) d)) (lit< tt))
+    code-small k (turned odd (sizeOf (chartOf k)) d) (omega (arith, size-high k))
 
 pub up-lt : (row left v : ℕ) → writeUp row left v < 16 ^ left
 unfolding writeUp

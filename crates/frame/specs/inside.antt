@@ -2,3 +2,5 @@
 pub mod Packed
 pub mod Constants
 pub mod PairWords
+pub mod Codes
+pub mod Written

@@ -2,12 +2,14 @@
 ghost use mathlib.Core.Path.{_≡_};
 ghost use mathlib.Core.Bool.{false};
 ghost use mathlib.Core.Logic.{_≢_};
-ghost use Prim.Native.Nat.{_+_, _<_, _≤_, _^_, min};
+ghost use Prim.Native.Nat.{_+_, _%_, _<_, _≤_, _^_, min};
 ghost use Rattle.frame.specs.Pick.{pick};
 ghost use Rattle.frame.specs.Line.{bit};
-ghost use Rattle.frame.specs.Temperature.{limit, signed, isPlus, magnitude, degreesAt, hundreds1900, heat1800, heatOf, putDegrees, putDegrees1900, putDegrees1800, putHeat1900, putHeat1800};
-ghost use Rattle.frame.specs.inside.Packed.{heatFor, heatBy};
+ghost use Rattle.frame.specs.Temperature.{limit, signed, isPlus, magnitude, degreesAt, hundreds1900, heat1800, heatOf, putDegrees, putHundreds1900, putDegrees1900, putDegrees1800};
+ghost use Rattle.frame.specs.inside.Packed.{heatFor, heatBy, threeOf};
+ghost use Rattle.frame.specs.inside.Written.{isAbove, isBelow, tenthsFor, putTenths};
 use crate::Temperature;
+use crate::kinds;
 use crate::line;
 
 // The most that each type can say, with either sign.
@@ -134,44 +136,53 @@ pub(crate) fn read(is_1800: bool, n: u64) -> u64
     degrees_at(n, hundreds(is_1800, n))
 }
 
-// The sign and the last three digits of a number of tenths.
-fn put_degrees(plus: bool, m: u64) -> u64
-    ensures { λ r. ⌜ r ≡ putDegrees plus m ⌝ }
+// The last three digits of a number of tenths, four bits each: a ten is 16 there and a hundred 256, so that every ten adds 6 and every
+// hundred 96 more; 1000 would be 2560, which is taken off. Each quotient is that of the number itself, so that none waits for another.
+fn last_three(m: u64) -> u64
+    requires { ⌜ m < 2 ^ 13 ⌝ }
+    ensures { λ r. ⌜ r ≡ threeOf (m % 1000) ⌝ }
 {
-    let digits = line::three_of(m % 1000) * line::BIT_55;
-    if plus {
-        return line::BIT_41 + digits;
-    }
-    digits
+    m + 6 * (m / 10 + 16 * (m / 100)) - 2560 * (m / 1000)
 }
 
-fn put_1900(plus: bool, m: u64) -> u64
-    ensures { λ r. ⌜ r ≡ putDegrees1900 plus m ⌝ }
+// The sign and the last three digits of a number of tenths.
+fn put_degrees(plus: bool, m: u64) -> u64
+    requires { ⌜ m < 2 ^ 13 ⌝ }
+    ensures { λ r. ⌜ r ≡ putDegrees plus m ⌝ }
 {
-    let h = m / 1000;
-    let hundreds = (1 - h % 2) * line::BIT_40
-        + (1 - h / 2 % 2) * line::BIT_42
-        + (1 - h / 4 % 2) * line::BIT_43;
-    hundreds + put_degrees(plus, m)
+    line::mark(plus) * line::BIT_41 + last_three(m) * line::BIT_55
+}
+
+// The hundreds of a 1900 by their number: bits 0, 1, 2 in bits 40, 42, 43, each inverted.
+fn hundreds_1900(h: u64) -> u64
+    requires { ⌜ h < 8 ⌝ }
+    ensures { λ r. ⌜ r ≡ putHundreds1900 h ⌝ }
+{
+    match h {
+        0 => line::BIT_40 + line::BIT_42 + line::BIT_43,
+        1 => line::BIT_42 + line::BIT_43,
+        2 => line::BIT_40 + line::BIT_43,
+        3 => line::BIT_43,
+        4 => line::BIT_40 + line::BIT_42,
+        5 => line::BIT_42,
+        6 => line::BIT_40,
+        _ => 0,
+    }
 }
 
 // The magnitude of a temperature, at most the end of the range of type 1900.
 fn within_1900(m: u64) -> u64
-    ensures { λ r. ⌜ r ≡ min m (limit false) ⌝ }
+    ensures { λ r. ⌜ (r ≡ min m (limit false)) × (r ≤ 7999) ⌝ }
 {
     if LIMIT_1900 < m { LIMIT_1900 } else { m }
 }
 
-// Type 1900: beyond the range, and for above and below, the nearer end.
-pub(crate) fn write_1900(t: Temperature) -> u64
-    ensures { λ r. ⌜ r ≡ putHeat1900 t ⌝ }
+// Degrees of a 1900: beyond the range the nearer end.
+fn degrees_1900(plus: bool, m: u64) -> u64
+    ensures { λ r. ⌜ r ≡ putDegrees1900 plus (min m (limit false)) ⌝ }
 {
-    match t {
-        Temperature::Degrees(d) => put_1900(is_plus(d), within_1900(magnitude(d))),
-        Temperature::Above => put_1900(true, LIMIT_1900),
-        Temperature::Below => put_1900(false, LIMIT_1900),
-        Temperature::Absent => 0,
-    }
+    let within = within_1900(m);
+    hundreds_1900(within / 1000) + put_degrees(plus, within)
 }
 
 // Above range sets bit 43 and a plus; below sets bits 43 and 40.
@@ -192,14 +203,51 @@ fn degrees_1800(plus: bool, m: u64) -> u64
     BELOW_1800
 }
 
-// Type 1800: beyond the range is above or below.
-pub(crate) fn write_1800(t: Temperature) -> u64
-    ensures { λ r. ⌜ r ≡ putHeat1800 t ⌝ }
+fn is_above(t: Temperature) -> bool
+    ensures { λ r. ⌜ r ≡ isAbove t ⌝ }
 {
     match t {
-        Temperature::Degrees(d) => degrees_1800(is_plus(d), magnitude(d)),
-        Temperature::Above => ABOVE_1800,
-        Temperature::Below => BELOW_1800,
-        Temperature::Absent => 0,
+        Temperature::Degrees(_) => false,
+        Temperature::Above => true,
+        Temperature::Below => false,
+        Temperature::Absent => false,
     }
+}
+
+fn is_below(t: Temperature) -> bool
+    ensures { λ r. ⌜ r ≡ isBelow t ⌝ }
+{
+    match t {
+        Temperature::Degrees(_) => false,
+        Temperature::Above => false,
+        Temperature::Below => true,
+        Temperature::Absent => false,
+    }
+}
+
+// A temperature as a number of tenths, which stays in a register: above and below are numbers beyond the range of either type, so that each
+// is written as such a number would be.
+pub(crate) fn tenths(t: Temperature) -> i16
+    ensures { λ r. ⌜ r ≡ tenthsFor t ⌝ }
+{
+    let d = kinds::tenths_of(t);
+    if is_above(t) {
+        return 32767;
+    }
+    if is_below(t) {
+        return -32768;
+    }
+    d
+}
+
+// The bits of a number of tenths by type.
+pub(crate) fn write(is_1800: bool, d: i16) -> u64
+    ensures { λ r. ⌜ r ≡ putTenths is_1800 d ⌝ }
+{
+    let plus = is_plus(d);
+    let m = magnitude(d);
+    if is_1800 {
+        return degrees_1800(plus, m);
+    }
+    degrees_1900(plus, m)
 }

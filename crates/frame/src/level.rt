@@ -1,10 +1,12 @@
-// Level: the digits of a row read one after another from the top, and the codes of a level's digits placed on the line.
+// Level: the digits of a row read one after another from the top, and the codes of a level's digits worked out side by side.
 ghost use mathlib.Core.Path.{_≡_};
 ghost use Prim.Native.Nat.{_+_, _-_, _*_, _/_, _%_, _^_, _<_, _≤_};
 ghost use Rattle.frame.specs.Charts.{sizeOf};
 ghost use Rattle.frame.specs.Level.{Level, readRow};
-ghost use Rattle.frame.specs.inside.Packed.{chartOf, digitOf, rowOf, readCode, Below, levelNumber, onesCode, writeUp};
-ghost use Rattle.frame.specs.inside.Constants.{Constants, fillAt, digitBits, readBy, placedAt};
+ghost use Rattle.frame.specs.Pick.{pick};
+ghost use Rattle.frame.specs.inside.Packed.{chartOf, digitOf, rowOf, readCode, Below, levelNumber};
+ghost use Rattle.frame.specs.inside.Constants.{Constants, fillAt, digitBits, readBy};
+ghost use Rattle.frame.specs.inside.Codes.{aboveTwo, digitsWord, codesIn};
 use crate::charts;
 
 // What the reader gives for a digit in no chart: this, and the digit's place. Every level is below it.
@@ -47,30 +49,6 @@ pub(crate) fn read_digits(row: u64, left: u64, bits: u64, odd: bool, sofar: u64,
     }
     let next = with_digit(row, sofar, d);
     read_digits(row / 16, left - 1, bits, d % 2 == 1, next, place + 1)
-}
-
-// The code of the ones digit of a level: the digit above is odd exactly if all that stands above is. Handed a chart by its constant
-// number, this is a multiplication and two shifts.
-pub(crate) fn ones_code(chart: u64, v: u64) -> u64
-    ensures { λ r. ⌜ (r ≡ onesCode (chartOf chart) v) × (r < 16) ⌝ }
-{
-    let above = charts::over(chart, v);
-    charts::code(chart, v - above * charts::size(chart), above % 2 == 1)
-}
-
-// The last three decimal digits of a level in their codes, as three of the modes have them.
-pub(crate) fn three_decimals(v: u64) -> u64
-    ensures { λ r. ⌜ (r ≡ writeUp 0x333 3 v) × (r < 4096) ⌝ }
-{
-    ones_code(3, v) + 16 * ones_code(3, v / 10) + 256 * ones_code(3, v / 100)
-}
-
-// The five digits of a level in metres in their codes: the chart of the top one is handed over by its number.
-pub(crate) fn five_digits(top: u64, v: u64) -> u64
-    requires { ⌜ top < 16 ⌝ }
-    ensures { λ r. ⌜ (r ≡ writeUp (0x33330 + top) 5 v) × (r < 2 ^ 20) ⌝ }
-{
-    three_decimals(v) + 4096 * ones_code(3, v / 1000) + 65536 * ones_code(top, v / 10000)
 }
 
 // The fill bits of a mode are 0: those from bit 16 up to its first digit bit, and those after its digits up to bit 37.
@@ -133,16 +111,45 @@ pub(crate) fn read_by(
     judged(largest, read_digits(charts, digits, bits, start, 0, 0))
 }
 
-// A level's bits by its mode's constants and its digits in their codes. A level outside its mode has every digit bit 1; the fill is 0.
-pub(crate) fn write_by(v: u64, codes: u64, first: u64, after: u64, largest: u64) -> u64
-    requires { ⌜ codes < 2 ^ 20 ⌝ }
-    requires { ⌜ 16 ≤ first ⌝ }
-    requires { ⌜ first ≤ 17 ⌝ }
-    requires { ⌜ after ≤ 6 ⌝ }
-    ensures { λ r. ⌜ r ≡ placedAt v codes first after largest ⌝ }
+// One number or the other: where both are at hand, the compiler makes a choice of it and no branch.
+pub(crate) fn either(which: bool, yes: u64, no: u64) -> u64
+    ensures { λ r. ⌜ r ≡ pick which yes no ⌝ }
 {
-    if v <= largest {
-        return codes << (27 + after);
-    }
-    ((1 << (38 - first - after)) - 1) << (27 + after)
+    if which { yes } else { no }
+}
+
+// 2 ^ 26 divided by the sixteenths of a foot, and by a hundred, rounded up: a level times one of them, shifted back, is the level divided.
+const BY_192: u64 = 349526;
+
+const BY_100: u64 = 671089;
+
+// What stands above the last two digits of a level: feet in the fractional mode, hundreds in any other.
+fn above_two(fractional: bool, v: u64) -> u64
+    requires { ⌜ v < 2 ^ 16 ⌝ }
+    ensures { λ r. ⌜ r ≡ aboveTwo fractional v ⌝ }
+{
+    (v * either(fractional, BY_192, BY_100)) >> 26
+}
+
+// The digits of a level side by side in a word, four bits each. A ten is 16 there, so that every ten adds 6, every hundred 16 times that, and
+// so on; a foot of 12 inches is 16 of them, so that every foot adds 4 inches, 64 sixteenths. Multiplied and shifted, what stands above two
+// digits gives its tenth and its hundredth part.
+fn digits(fractional: bool, v: u64) -> u64
+    requires { ⌜ v < 2 ^ 16 ⌝ }
+    ensures { λ r. ⌜ r ≡ digitsWord fractional v ⌝ }
+{
+    let above = above_two(fractional, v);
+    let two = either(fractional, 64 * above, 6 * (v / 10) + 96 * above);
+    v + two + 1536 * (((above * 205) >> 11) + 16 * ((above * 41) >> 12))
+}
+
+// The codes of a level's digits, worked out side by side. No mode has code of its own, so that none is guessed wrong where replies of several
+// modes come one after another: only the numbers differ that tell inches and sixteenths from decimal digits. A top digit of fewer bits has
+// the first codes of the decimal chart. What a level outside its mode gives is not used.
+pub(crate) fn codes(fractional: bool, v: u64) -> u64
+    requires { ⌜ v < 2 ^ 16 ⌝ }
+    ensures { λ r. ⌜ r ≡ codesIn fractional v ⌝ }
+{
+    let places = charts::turn(digits(fractional, v), either(fractional, 0x6640, 0x6666));
+    charts::codes(places, either(fractional, 0x1100, 0x1111))
 }

@@ -1,12 +1,14 @@
 // The four modes. Each mode's type carries its constants: digit count, first bit, the fill bits before the digits (from bit 16) and after
-// them (up to bit 37), largest level, and the starting state of the digit reader: no odd digit stands above the first, which is always read
-// straight. Where digits are not all decimal, it has their charts in a word too (four bits a digit, the top digit lowest).
+// them (up to bit 37), largest level, how far the digits stand above the line's lowest bit, the bits of a level outside the mode (every digit
+// bit 1), and the starting state of the digit reader: no odd digit stands above the first, which is always read straight. Where digits are not
+// all decimal, it has their charts in a word too (four bits a digit, the top digit lowest).
 ghost use mathlib.Core.Path.{_≡_};
 ghost use mathlib.Core.Logic.{_≢_};
 ghost use Prim.Native.Nat.{_<_, _^_};
 ghost use Rattle.frame.specs.Level.{modeOf, fractionalMode, decimalMode, twentyMetreMode, thirtyMetreMode, putLevel};
 ghost use Rattle.frame.specs.inside.Packed.{levelCode, secondCode};
-ghost use Rattle.frame.specs.inside.Constants.{Constants, fractional, decimalFeet, codesBy, pairedBy};
+ghost use Rattle.frame.specs.inside.Constants.{Constants, pairedBy};
+ghost use Rattle.frame.specs.inside.Codes.{placeBy};
 use crate::decimals;
 use crate::level;
 use crate::pairs;
@@ -27,6 +29,10 @@ impl Fractional {
 
     const CHARTS: u64 = 0x5432;
 
+    const SHIFT: u64 = 27 + Self::AFTER;
+
+    const OUTSIDE: u64 = ((1 << (38 - Self::FIRST - Self::AFTER)) - 1) << Self::SHIFT;
+
     const START: bool = false;
 
     fn read(n: u64) -> u64
@@ -42,22 +48,6 @@ impl Fractional {
             Self::CHARTS,
             Self::START,
         )
-    }
-
-    // The codes of a level's digits, the ones digit lowest, each by its chart.
-    fn codes(v: u64) -> u64
-        ensures { λ r. ⌜ (r ≡ codesBy fractional v) × (r < 2 ^ 20) ⌝ }
-    {
-        level::ones_code(5, v)
-            + 16 * level::ones_code(4, v / 16)
-            + 256 * level::ones_code(3, v / 192)
-            + 4096 * level::ones_code(2, v / 1920)
-    }
-
-    fn write(v: u64) -> u64
-        ensures { λ r. ⌜ r ≡ putLevel fractionalMode v ⌝ }
-    {
-        level::write_by(v, Self::codes(v), Self::FIRST, Self::AFTER, Self::LARGEST)
     }
 }
 
@@ -75,19 +65,11 @@ impl Decimal {
 
     const LARGEST: u64 = 7999;
 
+    const SHIFT: u64 = 27 + Self::AFTER;
+
+    const OUTSIDE: u64 = ((1 << (38 - Self::FIRST - Self::AFTER)) - 1) << Self::SHIFT;
+
     const START: bool = false;
-
-    fn codes(v: u64) -> u64
-        ensures { λ r. ⌜ (r ≡ codesBy decimalFeet v) × (r < 2 ^ 20) ⌝ }
-    {
-        level::three_decimals(v) + 4096 * level::ones_code(2, v / 1000)
-    }
-
-    fn write(v: u64) -> u64
-        ensures { λ r. ⌜ r ≡ putLevel decimalMode v ⌝ }
-    {
-        level::write_by(v, Self::codes(v), Self::FIRST, Self::AFTER, Self::LARGEST)
-    }
 }
 
 // 20 m, in millimetres.
@@ -104,19 +86,11 @@ impl Metres20 {
 
     const LARGEST: u64 = 19999;
 
-    const START: bool = false;
+    const SHIFT: u64 = 27 + Self::AFTER;
 
-    fn write(v: u64) -> u64
-        ensures { λ r. ⌜ r ≡ putLevel twentyMetreMode v ⌝ }
-    {
-        level::write_by(
-            v,
-            level::five_digits(0, v),
-            Self::FIRST,
-            Self::AFTER,
-            Self::LARGEST,
-        )
-    }
+    const OUTSIDE: u64 = ((1 << (38 - Self::FIRST - Self::AFTER)) - 1) << Self::SHIFT;
+
+    const START: bool = false;
 }
 
 // 30 m, in millimetres.
@@ -133,19 +107,11 @@ impl Metres30 {
 
     const LARGEST: u64 = 32699;
 
-    const START: bool = false;
+    const SHIFT: u64 = 27 + Self::AFTER;
 
-    fn write(v: u64) -> u64
-        ensures { λ r. ⌜ r ≡ putLevel thirtyMetreMode v ⌝ }
-    {
-        level::write_by(
-            v,
-            level::five_digits(1, v),
-            Self::FIRST,
-            Self::AFTER,
-            Self::LARGEST,
-        )
-    }
+    const OUTSIDE: u64 = ((1 << (38 - Self::FIRST - Self::AFTER)) - 1) << Self::SHIFT;
+
+    const START: bool = false;
 }
 
 // The constants of the modes in decimal digits, by their number.
@@ -215,14 +181,47 @@ pub(crate) fn read_level_by_pairs(mode: u64, n: u64) -> u64
     )
 }
 
-// The bits of a level in the mode of this number.
-pub(crate) fn write_level(mode: u64, v: u64) -> u64
-    ensures { λ r. ⌜ r ≡ putLevel (modeOf mode) v ⌝ }
+// What a level is written by in a mode, of its constants.
+struct Place {
+    largest: u64,
+    shift: u64,
+    outside: u64,
+}
+
+// They are picked by one choice: its three constants are then loaded, and no mode has code of its own.
+fn place_of(mode: u64) -> Place
+    ensures { λ r. ⌜ r ≡ placeBy mode ⌝ }
 {
     match mode {
-        0 => Fractional::write(v),
-        1 => Decimal::write(v),
-        2 => Metres20::write(v),
-        _ => Metres30::write(v),
+        0 => Place {
+            largest: Fractional::LARGEST,
+            shift: Fractional::SHIFT,
+            outside: Fractional::OUTSIDE,
+        },
+        1 => Place {
+            largest: Decimal::LARGEST,
+            shift: Decimal::SHIFT,
+            outside: Decimal::OUTSIDE,
+        },
+        2 => Place {
+            largest: Metres20::LARGEST,
+            shift: Metres20::SHIFT,
+            outside: Metres20::OUTSIDE,
+        },
+        _ => Place {
+            largest: Metres30::LARGEST,
+            shift: Metres30::SHIFT,
+            outside: Metres30::OUTSIDE,
+        },
     }
+}
+
+// The bits of a level in the mode of this number; the fill is 0.
+pub(crate) fn write_level(mode: u64, v: u64) -> u64
+    requires { ⌜ v < 2 ^ 16 ⌝ }
+    ensures { λ r. ⌜ r ≡ putLevel (modeOf mode) v ⌝ }
+{
+    let place = place_of(mode);
+    let codes = level::codes(mode == 0, v);
+    level::either(v <= place.largest, codes << place.shift, place.outside)
 }

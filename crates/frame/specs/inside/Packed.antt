@@ -38,11 +38,6 @@ placesOf c =
     nibbles
     (map (λ code. placeIn code (c .codes)) (0 ∷ 1 ∷ 2 ∷ 3 ∷ 4 ∷ 5 ∷ 6 ∷ 7 ∷ 8 ∷ 9 ∷ 10 ∷ 11 ∷ 12 ∷ 13 ∷ 14 ∷ 15 ∷ []))
 
--- For each place its code.
-unfoldable pub codesOf : Chart → ℕ
-unfolding nibbles
-codesOf c = nibbles (c .codes)
-
 -- A digit read in four bits: the digit, or 16 for a code in no chart.
 unfoldable pub digitOf : Chart → ℕ → Bool → ℕ
 digitOf c code odd =

@@ -1,78 +1,70 @@
--- `frame::writing::whole_line` meets its contract: the ones of the word are the marks of its bytes, so the parity bit is that of the definition, and it fits below the rest. Assumes nothing.
-use mathlib.Core.Path.{_≡_, sym, _∙_}
-use mathlib.Core.Bool.{true, false}
-use Prim.Native.Nat.{_+_, _^_, _<_, _≤_}
+-- `frame::writing::whole_line` meets its contract: the ones of the word are the marks of its bytes, so the parity bit is that of the definition,
+-- and it fits below the rest. Assumes nothing.
+use mathlib.Core.Path.{_≡_, sym, ap, _∙_}
+use mathlib.Core.Bool.{Bool}
+use Prim.Native.Nat.{ℕ, _+_, _/_, _%_, _^_, _≤_}
 use native.Mathlib.Omega.{arith}
-use Rattle.frame.specs.Temperature.{isAbsent}
-use Rattle.frame.specs.Reply.{bodyOf, replyLine}
-use Rattle.frame.proofs.Counted.{counted-5, counted-7}
-use Rattle.frame.proofs.Sums.{body-right, body-short}
+use lib.Count.{ones}
+use Rattle.frame.specs.Charts.{isOdd}
+use Rattle.frame.specs.Pick.{pick}
+use Rattle.frame.specs.Line.{put}
+use Rattle.frame.specs.Reply.{countFor}
+use Rattle.frame.proofs.Parity.{last-small, with-parity, without-parity}
+use Rattle.frame.proofs.Sums.{Body, body-right}
 use borrow.Author.Needs.{needs}
 use Rattle.frame.proofs.writing.whole_line.Statement.{statement}
 use Rattle.frame.proofs.writing.whole_line.Tie as tie
 
--- the word and its parity bit fit
-small : (c : tie.After-parity-bit) → c .before .body .result < 2 ^ 63 + 2 ^ 62
-small c =
-    let b = c .before .before in
-    rw (c .before .body .ensures) (body-right (b .args .settings) (b .args .address) (b .args .reading) (b .pre) .small)
+-- the word is small and ends before its parity bit
+right : (c : tie.After-body) → Body (c .body .result)
+right c =
+    let b = c .before in
+    rw (c .body .ensures) (body-right (b .args .settings) (b .args .address) (b .args .reading) (b .pre))
 
-parity-le : (c : tie.After-parity-bit) → c .parity-bit .result ≤ 1
-parity-le c = omega (arith, c .parity-bit .ensures)
+-- the last bit is that of the reply, and small
+last : (c : tie.After-last-bit) → c .last-bit .result ≡ put 1 (countFor (c .before .before .before .args .reading))
+last c = c .last-bit .ensures ∙ ap (λ (short : Bool). put 1 (pick short 40 56)) (c .before .is-absent .ensures)
+
+small : (c : tie.After-last-bit) → c .last-bit .result ≤ 2 ^ 24
+small c = rw (c .last-bit .ensures) (last-small (c .before .is-absent .result))
 
 body-requires : tie.Need-body-requires
 body-requires c κs = search needs
 
-parity-bit-requires : tie.Need-parity-bit-requires
-parity-bit-requires c κs = search needs
-
 is-absent-requires : tie.Need-is-absent-requires
 is-absent-requires c κs = search needs
 
-mul-result : tie.Need-mul-result
-mul-result c = search needs
+last-bit-requires : tie.Need-last-bit-requires
+last-bit-requires c κs = search needs
+
+parity-wanted-requires : tie.Need-parity-wanted-requires
+parity-wanted-requires c κs = omega (arith, right (c .before .before) .ends)
 
 add-result : tie.Need-add-result
-add-result c = omega (arith, small (c .before .before), parity-le (c .before .before))
+add-result c = omega (arith, right (c .before .before .before .before) .small, small (c .before .before))
 
 returns : tie.Need-returns
-unfolding replyLine
 returns c =
-    let b = c .before .before .before .before in
-    let a = b .args in
-    let n = bodyOf (a .settings) (a .address) (a .reading) in
-    let right = body-right (a .settings) (a .address) (a .reading) (b .pre) in
-    let t : isAbsent (a .reading .temperature) ≡ true = sym (c .before .is-absent .ensures) ∙ c .if1 .taken in
-    let marked = counted-5 n (omega (arith, right .small)) (body-short (a .settings) (a .address) (a .reading) t) in
-    rw (t, c .before .before .parity-bit .ensures, c .before .before .before .body .ensures, marked)
-
-mul-result-2 : tie.Need-mul-result-2
-mul-result-2 c = search needs
-
-add-result-2 : tie.Need-add-result-2
-add-result-2 c = omega (arith, small (c .before .before), parity-le (c .before .before))
+    let n = c .before .before .before .before in
+    let a = n .before .args in
+    let odd = rw (n .body .ensures) at (sym (c .before .parity-wanted .ensures) ∙ c .if1 .taken) in
+    rw (n .body .ensures, last (c .before .before)) (with-parity (a .settings) (a .address) (a .reading) (n .before .pre) odd)
 
 returns-2 : tie.Need-returns-2
-unfolding replyLine
 returns-2 c =
-    let b = c .before .before .before .before in
-    let a = b .args in
-    let n = bodyOf (a .settings) (a .address) (a .reading) in
-    let right = body-right (a .settings) (a .address) (a .reading) (b .pre) in
-    let t : isAbsent (a .reading .temperature) ≡ false = sym (c .before .is-absent .ensures) ∙ c .if1 .left in
-    let marked = counted-7 n (omega (arith, right .small)) (omega (arith, right .ends)) in
-    rw (t, c .before .before .parity-bit .ensures, c .before .before .before .body .ensures, marked)
+    let n = c .before .before .before .before in
+    let a = n .before .args in
+    let even = rw (n .body .ensures) at (sym (c .before .parity-wanted .ensures) ∙ c .if1 .left) in
+    rw (n .body .ensures) (without-parity (a .settings) (a .address) (a .reading) (n .before .pre) even)
 
 pub whole-line-spec : {M : Type 1} → statement M
 whole-line-spec =
     tie.close
     (tie.spec
     body-requires
-    parity-bit-requires
     is-absent-requires
-    mul-result
+    last-bit-requires
+    parity-wanted-requires
     add-result
     returns
-    mul-result-2
-    add-result-2
     returns-2)
