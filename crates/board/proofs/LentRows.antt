@@ -2,15 +2,17 @@
 use mathlib.Core.Path.{_≡_, refl, sym, _∙_, ap}
 use mathlib.Core.Bool.{Bool, true, false}
 use mathlib.Core.List.{List, [], _∷_, _++_}
-use Prim.Native.Nat.{ℕ, _+_, _*_, _<_, _≤_, _^_}
+use Prim.Native.Nat.{ℕ, _+_, _-_, _*_, _<_, _≤_, _^_}
 use native.Mathlib.Omega.{arith}
 use native.Mathlib.Numerals.{add-one}
 use lib.Dec.{ltb}
-use lib.ListN.{length, take, set, getD, length-take}
-use lib.Seq.{take-suc, take-all, take-suc-set}
+use lib.ListN.{length, take, drop, set, getD, replicate, length-take, length-replicate, take-append-drop, replicate-append-replicate}
+use lib.Seq.{take-suc, take-all, take-suc-set, drop-set-lt, drop-drop, drop-at, length-take-le}
 use borrow.Author.Tests.{ltb-true, ltb-false}
 use Rattle.frame.specs.Pick.{pick}
-use Rattle.board.specs.inside.ByValue.{counted}
+use Rattle.board.specs.declared.Row.{Row}
+use Rattle.board.specs.Row.{freeRow}
+use Rattle.board.specs.inside.ByValue.{counted, filled}
 
 -- how many bytes a row has
 abbrev pub rowBytes : ℕ
@@ -48,3 +50,19 @@ module _ {A : Type 0} (ys : List A) where
       ap (λ (k : ℕ). take k (set xs i (getD ys i d))) (add-one i) ∙ take-suc-set xs i (getD ys i d) h ∙ ap (λ (zs : List A). zs ++ (getD ys i d ∷ [])) e
       ∙ sym (take-suc ys i d l)
       ∙ ap (λ (k : ℕ). take k ys) (sym (add-one i))
+
+  -- and those behind it stay as they were
+  pub behind : (xs : List A) (i : ℕ) (a : A) → drop i xs ≡ drop i ys → drop (i + 1) (set xs i a) ≡ drop (i + 1) ys
+  behind xs i a e = drop-set-lt (i + 1) xs i a (omega arith) ∙ sym (drop-drop 1 i xs) ∙ ap (drop 1) e ∙ drop-drop 1 i ys
+
+free-behind : (n : ℕ) → n ≤ 30 → drop n (replicate 30 freeRow) ≡ replicate (30 - n) freeRow
+free-behind n l =
+    let e : 30 ≡ n + (30 - n) = omega arith in
+    ap (λ (k : ℕ). drop n (replicate k freeRow)) e ∙ ap (drop n) (sym (replicate-append-replicate n (30 - n) freeRow))
+    ∙ drop-at (replicate n freeRow) (replicate (30 - n) freeRow) n (length-replicate n freeRow)
+
+-- n rows copied over free ones, and the free ones behind them
+pub filled-by : (ys xs : List Row) (n : ℕ) → n ≤ length ys → n ≤ 30 → take n xs ≡ take n ys → drop n xs ≡ drop n (replicate 30 freeRow) → xs ≡ filled (take n ys)
+filled-by ys xs n l m e r =
+    sym (take-append-drop n xs) ∙ ap (λ (zs : List Row). zs ++ drop n xs) e
+    ∙ ap (λ (zs : List Row). take n ys ++ zs) (r ∙ free-behind n m ∙ ap (λ (k : ℕ). replicate (30 - k) freeRow) (sym (length-take-le n ys l)))

@@ -7,7 +7,6 @@ use Prim.Native.Nat.{ℕ, _<_, _≤_}
 use native.Mathlib.Omega.{arith}
 use lib.Dec.{eqb}
 use lib.ListN.{length, set}
-use lib.Seq.{length-take-le}
 use borrow.Author.Tests.{eqb-true}
 use Rattle.frame.specs.declared.Reading.{Reading}
 use Rattle.frame.specs.declared.Reply.{Reply}
@@ -16,18 +15,13 @@ use Rattle.frame.specs.Level.{Level, placeLost}
 use Rattle.frame.specs.Reply.{refusedBy}
 use Rattle.frame.specs.Pick.{pick}
 use Rattle.board.specs.declared.Row.{Row}
-use Rattle.board.specs.declared.value.Board.{Board}
 use Rattle.board.specs.declared.value.Change.{Change}
 use Rattle.board.specs.Gauge.{outsideBy}
 use Rattle.board.specs.Row.{freeRow, withReading, withFault, setsFault}
 use Rattle.board.specs.Order.{kept, inOrder}
-use Rattle.board.specs.inside.ByValue.{rowsOf, moved, FitsIn, onward, Changes, changeOf, refusal, heardChange}
+use Rattle.board.specs.inside.ByValue.{moved, FitsIn, onward, Changes, changeOf, refusal, heardChange}
 use Rattle.board.proofs.Faults.{sets-7, sets-26}
 use Rattle.board.proofs.Carried.{carry-none, carry-one}
-
--- the rows of a board by value are as many as it says
-pub rows-count : (b : Board) → length (b .rows) ≡ 30 → b .n ≤ 30 → length (rowsOf b) ≡ b .n
-rows-count b e l = length-take-le (b .n) (b .rows) (omega arith)
 
 -- On a board not so kept every call answers 38 and changes no row.
 pub out-of-order : (board : List Row) (number : ℕ) (after : List Row) (c : Change) → kept board ≡ false → c ≡ refusal 38 → Changes board (inOrder board number 38) (inOrder board after board) c

@@ -1,13 +1,14 @@
 -- What one pass over the rows comes to: whether they are so kept and, where they are, the first free place, the place for an address, and whether
--- its row stands there. Each law goes by induction on the rows, from whatever is known of those passed before.
+-- its row stands there. Each law goes by induction on the rows, from whatever is known of those passed before. The rows passed are a board and
+-- free rows behind it, which change nothing of what is found.
 use mathlib.Core.Path.{_≡_, refl, sym, _∙_, ap, subst}
 use mathlib.Core.Bool.{Bool, true, false, _&&_, _||_}
-use mathlib.Core.List.{List, [], _∷_}
+use mathlib.Core.List.{List, [], _∷_, _++_}
 use Prim.Native.Nat.{ℕ, zero, suc, _+_, _-_, _<_, _≤_}
 use native.Mathlib.Omega.{arith}
 use native.Mathlib.Numerals.{add-one}
 use lib.Dec.{eqb, leb, ltb}
-use lib.ListN.{length, getD, drop, drop-of-length-le}
+use lib.ListN.{length, getD, drop, replicate, length-append, length-replicate, drop-of-length-le, List·getD-append}
 use lib.Seq.{drop-cons}
 use borrow.Author.Tests.{ltb-true, ltb-false, le-leb, lt-leb, lt-ltb, le-ltb, eq-eqb, ne-eqb, eqb-true, eqb-false}
 use Rattle.frame.specs.Pick.{pick}
@@ -18,125 +19,163 @@ use Rattle.board.specs.Rows.{holds, placeBy, placeOf, rowOf, placeFree}
 use Rattle.board.specs.Order.{allFree, keptFrom, kept, insertRow, withoutRow}
 use Rattle.board.specs.declared.value.Found.{Found}
 use Rattle.board.specs.declared.value.Search.{Search}
-use Rattle.board.specs.inside.ByValue.{reaches, placeFor, passed, searched, unsearched, foundBy, Finds, carry, Within, onward, backward}
+use Rattle.board.specs.inside.ByValue.{filled, reaches, placeFor, overFree, overLow, overUsed, passed, searched, unsearched, foundBy, unkept, Finds, carry, Within, onward, backward}
 use Rattle.board.proofs.Places.{place-le}
 use Rattle.board.proofs.Order.{neither, free-holds, used-holds, off-cons, free-front, free-off, low-off, First, first-free, first-used, first-of}
 use Rattle.board.proofs.Carried.{free-place, for-place, of-place, or-left, or-right, insert-carry, without-carry}
 
--- a free row passed, and one in use
-abbrev overFree : Search → Search
-overFree s = record { used = s .used; below = s .below; least = s .least; dense = false; kept = s .kept }
+-- a row passed, by its tests
+abbrev by : Search → ℕ → Bool → Bool → Bool → Search
+by s m t u v = pick t (overFree s) (pick u (overLow s) (record { vacant = s .vacant; below = pick v (s .below + 1) (s .below); least = m; kept = s .kept }))
 
-abbrev overUsed : ℕ → Search → Row → Search
-overUsed a s row =
-    record { used = s .used + 1; below = pick (ltb (row .address) a) (s .below + 1) (s .below); least = row .address + 1; dense = s .dense; kept = s .kept && (s .dense && leb (s .least) (row .address)) }
+bounds-by : (s : Search) (m i : ℕ) (t u v : Bool) → s .vacant + s .below ≤ i → by s m t u v .vacant + by s m t u v .below ≤ i + 1
+bounds-by s m i true u v l = omega arith
+bounds-by s m i false true v l = omega arith
+bounds-by s m i false false true l = omega arith
+bounds-by s m i false false false l = omega arith
+
+low-by : (s : Search) (m : ℕ) (t u v : Bool) → s .kept ≡ false → by s m t u v .kept ≡ false
+low-by s m true u v e = e
+low-by s m false true v e = refl
+low-by s m false false v e = e
 
 module _ (a : ℕ) (s : Search) (row : Row) where
   pass-free : isFree row ≡ true → passed a s row ≡ overFree s
-  pass-free f = ap (λ (t : Bool). pick t (overFree s) (overUsed a s row)) f
+  pass-free f = ap (λ (t : Bool). pick t (overFree s) (pick (ltb (row .address) (s .least)) (overLow s) (overUsed a s row))) f
 
-  pass-used : isFree row ≡ false → passed a s row ≡ overUsed a s row
-  pass-used f = ap (λ (t : Bool). pick t (overFree s) (overUsed a s row)) f
+  in-use : isFree row ≡ false → passed a s row ≡ pick (ltb (row .address) (s .least)) (overLow s) (overUsed a s row)
+  in-use f = ap (λ (t : Bool). pick t (overFree s) (pick (ltb (row .address) (s .least)) (overLow s) (overUsed a s row))) f
+
+  pass-low : isFree row ≡ false → ltb (row .address) (s .least) ≡ true → passed a s row ≡ overLow s
+  pass-low f l = in-use f ∙ ap (λ (t : Bool). pick t (overLow s) (overUsed a s row)) l
+
+  pass-used : isFree row ≡ false → s .least ≤ row .address → passed a s row ≡ overUsed a s row
+  pass-used f l = in-use f ∙ ap (λ (t : Bool). pick t (overLow s) (overUsed a s row)) (le-ltb (row .address) (s .least) l)
 
   -- the counts stay in bounds
-  pub pass-bounds : (i : ℕ) → s .below ≤ s .used → s .used ≤ i → (passed a s row .below ≤ passed a s row .used) × (passed a s row .used ≤ i + 1)
-  pass-bounds i l m = go (isFree row) (ltb (row .address) a)
-    where
-      go : (t u : Bool) → (pick t (overFree s) (record { used = s .used + 1; below = pick u (s .below + 1) (s .below); least = row .address + 1; dense = s .dense; kept = s .kept && (s .dense && leb (s .least) (row .address)) }) .below
-          ≤ pick t (overFree s) (record { used = s .used + 1; below = pick u (s .below + 1) (s .below); least = row .address + 1; dense = s .dense; kept = s .kept && (s .dense && leb (s .least) (row .address)) }) .used)
-          × (pick t (overFree s) (record { used = s .used + 1; below = pick u (s .below + 1) (s .below); least = row .address + 1; dense = s .dense; kept = s .kept && (s .dense && leb (s .least) (row .address)) }) .used ≤ i + 1)
-      go true u = (l, omega arith)
-      go false true = (omega arith, omega arith)
-      go false false = (omega arith, omega arith)
+  pub pass-bounds : (i : ℕ) → s .vacant + s .below ≤ i → passed a s row .vacant + passed a s row .below ≤ i + 1
+  pass-bounds i l = bounds-by s (row .address + 1) i (isFree row) (ltb (row .address) (s .least)) (ltb (row .address) a) l
 
--- Whether the rest is so kept, once rows in use alone have been passed, or a free one too.
-abbrev rest : Bool → ℕ → List Row → Bool
-rest dense least rows = pick dense (keptFrom least rows) (allFree rows)
+-- Once a row was out of order, no row behind it mends that.
+stays-low : (a : ℕ) (s : Search) (rows : List Row) → s .kept ≡ false → searched a s rows .kept ≡ false
+unfolding searched
+stays-low a s [] e = e
+stays-low a s (row ∷ rows) e =
+    stays-low a (passed a s row) rows (low-by s (row .address + 1) (isFree row) (ltb (row .address) (s .least)) (ltb (row .address) a) e)
 
-rest-free : (d : Bool) (m : ℕ) (row : Row) (rows : List Row) → isFree row ≡ true → rest d m (row ∷ rows) ≡ allFree rows
-unfolding keptFrom allFree
-rest-free true m row rows f = ap (λ (t : Bool). pick t (allFree rows) (leb m (row .address) && keptFrom (suc (row .address)) rows)) f
-rest-free false m row rows f = ap (λ (t : Bool). t && allFree rows) f
-
-rest-used : (d : Bool) (m : ℕ) (row : Row) (rows : List Row) → isFree row ≡ false → rest d m (row ∷ rows) ≡ (d && (leb m (row .address) && keptFrom (suc (row .address)) rows))
-unfolding keptFrom allFree
-rest-used true m row rows f = ap (λ (t : Bool). pick t (allFree rows) (leb m (row .address) && keptFrom (suc (row .address)) rows)) f
-rest-used false m row rows f = ap (λ (t : Bool). t && allFree rows) f
-
-regroup : (k d l r q : Bool) → ((k && (d && l)) && pick d r q) ≡ (k && (d && (l && r)))
-regroup true true true r q = refl
-regroup true true false r q = refl
-regroup true false l r q = refl
-regroup false d l r q = refl
-
-pub searched-kept : (a : ℕ) (s : Search) (rows : List Row) → searched a s rows .kept ≡ (s .kept && rest (s .dense) (s .least) rows)
-unfolding searched keptFrom allFree
-searched-kept a s [] = go (s .kept) (s .dense)
-  where
-    go : (k d : Bool) → k ≡ (k && pick d true true)
-    go true true = refl
-    go true false = refl
-    go false d = refl
-searched-kept a s (row ∷ rows) = go (searched-kept a (overFree s) rows) (searched-kept a (overUsed a s row) rows) (isFree row) refl
-  where
-    go : searched a (overFree s) rows .kept ≡ (s .kept && allFree rows)
-        → searched a (overUsed a s row) rows .kept ≡ ((s .kept && (s .dense && leb (s .least) (row .address))) && rest (s .dense) (row .address + 1) rows)
-        → (t : Bool) → isFree row ≡ t → searched a (passed a s row) rows .kept ≡ (s .kept && rest (s .dense) (s .least) (row ∷ rows))
-    go e h true f =
-        ap (λ (z : Search). searched a z rows .kept) (pass-free a s row f) ∙ e ∙ sym (ap (λ (t : Bool). s .kept && t) (rest-free (s .dense) (s .least) row rows f))
-    go e h false f =
-        ap (λ (z : Search). searched a z rows .kept) (pass-used a s row f) ∙ h
-        ∙ ap (λ (n : ℕ). (s .kept && (s .dense && leb (s .least) (row .address))) && rest (s .dense) n rows) (add-one (row .address))
-        ∙ regroup (s .kept) (s .dense) (leb (s .least) (row .address)) (keptFrom (suc (row .address)) rows) (allFree rows)
-        ∙ sym (ap (λ (t : Bool). s .kept && t) (rest-used (s .dense) (s .least) row rows f))
-
--- Free rows change no count.
-over-free : (a : ℕ) (s : Search) (rows : List Row) → allFree rows ≡ true → (searched a s rows .used ≡ s .used) × (searched a s rows .below ≡ s .below)
+-- Free rows are counted, and nothing else comes of them.
+over-free : (a : ℕ) (s : Search) (rows : List Row) → allFree rows ≡ true → (searched a s rows .vacant ≡ s .vacant + length rows) × ((searched a s rows .below ≡ s .below) × (searched a s rows .kept ≡ s .kept))
 unfolding searched allFree
-over-free a s [] e = (refl, refl)
+over-free a s [] e = (omega arith, (refl, refl))
 over-free a s (row ∷ rows) e =
     let h = over-free a (overFree s) rows (both-right (isFree row) (allFree rows) e) in
     let p = pass-free a s row (both-left (isFree row) (allFree rows) e) in
-    (ap (λ (z : Search). searched a z rows .used) p ∙ h .0, ap (λ (z : Search). searched a z rows .below) p ∙ h .1)
+    (ap (λ (z : Search). searched a z rows .vacant) p ∙ h .0 ∙ omega arith, (ap (λ (z : Search). searched a z rows .below) p ∙ h .1 .0, ap (λ (z : Search). searched a z rows .kept) p ∙ h .1 .1))
 
 -- Nor do rows from the address on count as below it.
-over-high : (a : ℕ) (s : Search) (m : ℕ) (rows : List Row) → a ≤ m → keptFrom m rows ≡ true → searched a s rows .below ≡ s .below
+over-high : (a : ℕ) (s : Search) (m : ℕ) (rows : List Row) → a ≤ m → s .least ≤ m → keptFrom m rows ≡ true → searched a s rows .below ≡ s .below
 unfolding searched
-over-high a s m [] l k = refl
-over-high a s m (row ∷ rows) l k = go (over-high a (overUsed a s row) (suc (row .address)) rows) (first-of m row rows k)
+over-high a s m [] l g k = refl
+over-high a s m (row ∷ rows) l g k = go (over-high a (overUsed a s row) (suc (row .address)) rows) (first-of m row rows k)
   where
-    go : (a ≤ suc (row .address) → keptFrom (suc (row .address)) rows ≡ true → searched a (overUsed a s row) rows .below ≡ pick (ltb (row .address) a) (s .below + 1) (s .below)) → First m row rows → searched a (passed a s row) rows .below ≡ s .below
-    go h (first-free f e) = ap (λ (z : Search). searched a z rows .below) (pass-free a s row f) ∙ over-free a (overFree s) rows e .1
+    go : (a ≤ suc (row .address) → row .address + 1 ≤ suc (row .address) → keptFrom (suc (row .address)) rows ≡ true → searched a (overUsed a s row) rows .below ≡ pick (ltb (row .address) a) (s .below + 1) (s .below)) → First m row rows → searched a (passed a s row) rows .below ≡ s .below
+    go h (first-free f e) = ap (λ (z : Search). searched a z rows .below) (pass-free a s row f) ∙ over-free a (overFree s) rows e .1 .0
     go h (first-used f n e) =
-        ap (λ (z : Search). searched a z rows .below) (pass-used a s row f) ∙ h (omega arith) e ∙ ap (λ (t : Bool). pick t (s .below + 1) (s .below)) (le-ltb (row .address) a (omega arith))
+        ap (λ (z : Search). searched a z rows .below) (pass-used a s row f (omega arith)) ∙ h (omega arith) (omega arith) e ∙ ap (λ (t : Bool). pick t (s .below + 1) (s .below)) (le-ltb (row .address) a (omega arith))
 
--- The first free place, and the place for an address.
-pub searched-places : (a : ℕ) (s : Search) (rows : List Row) → keptFrom (s .least) rows ≡ true → (searched a s rows .used ≡ s .used + placeFree rows) × (searched a s rows .below ≡ s .below + placeFor a rows)
+-- Of rows so kept: how many are not free, the place for an address, and that none is out of order.
+abbrev Placed : ℕ → Search → Search → List Row → Type 0
+Placed a s z rows = (z .vacant + placeFree rows ≡ s .vacant + length rows) × ((z .below ≡ s .below + placeFor a rows) × (z .kept ≡ s .kept))
+
+pub searched-places : (a : ℕ) (s : Search) (rows : List Row) → keptFrom (s .least) rows ≡ true → Placed a s (searched a s rows) rows
 unfolding searched placeBy
-searched-places a s [] k = (omega arith, omega arith)
+searched-places a s [] k = (omega arith, (omega arith, refl))
 searched-places a s (row ∷ rows) k = go (searched-places a (overUsed a s row) rows) (first-of (s .least) row rows k)
   where
-    go : (keptFrom (row .address + 1) rows ≡ true → (searched a (overUsed a s row) rows .used ≡ (s .used + 1) + placeFree rows) × (searched a (overUsed a s row) rows .below ≡ pick (ltb (row .address) a) (s .below + 1) (s .below) + placeFor a rows))
-        → First (s .least) row rows → (searched a (passed a s row) rows .used ≡ s .used + placeFree (row ∷ rows)) × (searched a (passed a s row) rows .below ≡ s .below + placeFor a (row ∷ rows))
+    go : (keptFrom (row .address + 1) rows ≡ true → Placed a (overUsed a s row) (searched a (overUsed a s row) rows) rows) → First (s .least) row rows → Placed a s (searched a (passed a s row) rows) (row ∷ rows)
     go h (first-free f e) =
-        let p = pass-free a s row f in
+        let p = ap (λ (z : Search). searched a z rows) (pass-free a s row f) in
         let w = over-free a (overFree s) rows e in
         let u = free-place true row rows f in
         let v = for-place true a row rows (or-left (isFree row) (leb a (row .address)) f) in
-        (ap (λ (z : Search). searched a z rows .used) p ∙ w .0 ∙ omega (arith, u), ap (λ (z : Search). searched a z rows .below) p ∙ w .1 ∙ omega (arith, v))
+        subst (λ (z : Search). Placed a s z (row ∷ rows)) (sym p) (omega (arith, w .0, u), (w .1 .0 ∙ omega (arith, v), w .1 .1))
     go h (first-used f n e) =
-        let p = pass-used a s row f in
+        let p = ap (λ (z : Search). searched a z rows) (pass-used a s row f (omega arith)) in
         let w = h (ap (λ (m : ℕ). keptFrom m rows) (add-one (row .address)) ∙ e) in
         let u = free-place false row rows f in
-        (ap (λ (z : Search). searched a z rows .used) p ∙ w .0 ∙ omega (arith, u), ap (λ (z : Search). searched a z rows .below) p ∙ by (ltb (row .address) a) refl (w .1))
+        subst (λ (z : Search). Placed a s z (row ∷ rows)) (sym p) (omega (arith, w .0, u), (below (ltb (row .address) a) refl (w .1 .0), w .1 .1))
       where
-        by : (t : Bool) → ltb (row .address) a ≡ t → searched a (overUsed a s row) rows .below ≡ pick (ltb (row .address) a) (s .below + 1) (s .below) + placeFor a rows → searched a (overUsed a s row) rows .below ≡ s .below + placeFor a (row ∷ rows)
-        by true l w =
+        below : (t : Bool) → ltb (row .address) a ≡ t → searched a (overUsed a s row) rows .below ≡ pick (ltb (row .address) a) (s .below + 1) (s .below) + placeFor a rows → searched a (overUsed a s row) rows .below ≡ s .below + placeFor a (row ∷ rows)
+        below true l w =
             let v = for-place false a row rows (or-right (isFree row) (leb a (row .address)) f ∙ lt-leb a (row .address) (ltb-true (row .address) a l)) in
             w ∙ ap (λ (b : Bool). pick b (s .below + 1) (s .below) + placeFor a rows) l ∙ omega (arith, v)
-        by false l w =
+        below false l w =
             let v = for-place true a row rows (or-right (isFree row) (leb a (row .address)) f ∙ le-leb a (row .address) (ltb-false (row .address) a l)) in
-            over-high a (overUsed a s row) (suc (row .address)) rows (omega (arith, ltb-false (row .address) a l)) e ∙ ap (λ (b : Bool). pick b (s .below + 1) (s .below)) l ∙ omega (arith, v)
+            over-high a (overUsed a s row) (suc (row .address)) rows (omega (arith, ltb-false (row .address) a l)) (omega arith) e ∙ ap (λ (b : Bool). pick b (s .below + 1) (s .below)) l ∙ omega (arith, v)
+
+-- The addresses are those of machine words of 16 bits.
+abbrev pub Low : List Row → Type 0
+Low rows = (i : ℕ) → i < length rows → getD rows i freeRow .address < 0x10000
+
+-- No address is above them all, so that what is kept from there on is free.
+high-free : (rows : List Row) → Low rows → keptFrom 0x10000 rows ≡ true → allFree rows ≡ true
+unfolding allFree
+high-free [] low k = refl
+high-free (row ∷ rows) low k = go (first-of 0x10000 row rows k)
+  where
+    go : First 0x10000 row rows → isFree row && allFree rows ≡ true
+    go (first-free f e) = ap (λ (t : Bool). t && allFree rows) f ∙ e
+    go (first-used f n e) = let l : row .address < 0x10000 = low 0 (omega arith) in absurd (omega arith)
+
+-- Where no row was out of order, the rows are so kept.
+kept-back : (a : ℕ) (s : Search) (rows : List Row) → Low rows → searched a s rows .kept ≡ true → keptFrom (s .least) rows ≡ true
+unfolding searched keptFrom
+kept-back a s [] low k = refl
+kept-back a s (row ∷ rows) low k =
+    go (kept-back a (overFree s) rows (λ i l. low (suc i) (omega arith))) (kept-back a (overUsed a s row) rows (λ i l. low (suc i) (omega arith))) (isFree row) (ltb (row .address) (s .least)) refl refl
+  where
+    go : (searched a (overFree s) rows .kept ≡ true → keptFrom 0x10000 rows ≡ true) → (searched a (overUsed a s row) rows .kept ≡ true → keptFrom (row .address + 1) rows ≡ true)
+        → (t u : Bool) → isFree row ≡ t → ltb (row .address) (s .least) ≡ u → pick (isFree row) (allFree rows) (leb (s .least) (row .address) && keptFrom (suc (row .address)) rows) ≡ true
+    go free used true u f l =
+        ap (λ (t : Bool). pick t (allFree rows) (leb (s .least) (row .address) && keptFrom (suc (row .address)) rows)) f
+        ∙ high-free rows (λ i l. low (suc i) (omega arith)) (free (sym (ap (λ (z : Search). searched a z rows .kept) (pass-free a s row f)) ∙ k))
+    go free used false true f l =
+        neither (sym (ap (λ (z : Search). searched a z rows .kept) (pass-low a s row f l)) ∙ k) (stays-low a (overLow s) rows refl)
+    go free used false false f l =
+        let m : s .least ≤ row .address = ltb-false (row .address) (s .least) l in
+        ap (λ (t : Bool). pick t (allFree rows) (leb (s .least) (row .address) && keptFrom (suc (row .address)) rows)) f
+        ∙ ap (λ (t : Bool). t && keptFrom (suc (row .address)) rows) (le-leb (s .least) (row .address) m)
+        ∙ sym (ap (λ (n : ℕ). keptFrom n rows) (add-one (row .address)))
+        ∙ used (sym (ap (λ (z : Search). searched a z rows .kept) (pass-used a s row f m)) ∙ k)
+
+-- Free rows behind a board change nothing of it.
+all-free-rows : (k : ℕ) → allFree (replicate k freeRow) ≡ true
+unfolding allFree
+all-free-rows zero = refl
+all-free-rows (suc k) = all-free-rows k
+
+all-free-more : (rows : List Row) (k : ℕ) → allFree (rows ++ replicate k freeRow) ≡ allFree rows
+unfolding allFree
+all-free-more [] k = all-free-rows k
+all-free-more (row ∷ rows) k = ap (λ (t : Bool). isFree row && t) (all-free-more rows k)
+
+free-rows-kept : (m k : ℕ) → keptFrom m (replicate k freeRow) ≡ true
+unfolding keptFrom
+free-rows-kept m zero = refl
+free-rows-kept m (suc k) = all-free-rows k
+
+kept-more : (m : ℕ) (rows : List Row) (k : ℕ) → keptFrom m (rows ++ replicate k freeRow) ≡ keptFrom m rows
+unfolding keptFrom
+kept-more m [] k = free-rows-kept m k
+kept-more m (row ∷ rows) k =
+    ap (λ (t : Bool). pick (isFree row) t (leb m (row .address) && keptFrom (suc (row .address)) (rows ++ replicate k freeRow))) (all-free-more rows k)
+    ∙ ap (λ (t : Bool). pick (isFree row) (allFree rows) (leb m (row .address) && t)) (kept-more (suc (row .address)) rows k)
+
+place-more : (test : Row → Bool) → test freeRow ≡ true → (rows : List Row) (k : ℕ) → placeBy test (rows ++ replicate k freeRow) ≡ placeBy test rows
+unfolding placeBy
+place-more test h [] zero = refl
+place-more test h [] (suc k) = ap (λ (t : Bool). pick t zero (suc (placeBy test (replicate k freeRow)))) h
+place-more test h (row ∷ rows) k = ap (λ (n : ℕ). pick (test row) zero (suc n)) (place-more test h rows k)
 
 -- The row of an address stands at the place for it, or nowhere.
 pub data Seen (a : ℕ) (rows : List Row) : Type 0 where
@@ -204,58 +243,106 @@ pub search-end : (a : ℕ) (s : Search) (board : List Row) (i : ℕ) → length 
 unfolding searched
 search-end a s board i l = ap (searched a s) (drop-of-length-le board l)
 
--- What was found on a board, once the pass is over.
-module _ (a : ℕ) (board : List Row) (s : Search) (row : Row) (all : s ≡ searched a unsearched board) (low : s .below ≤ s .used) (few : s .used ≤ 30) (within : s .used ≤ length board) (there : s .below < length board → row ≡ getD board (s .below) freeRow) where
-  abbrev f : Found
-  f = foundBy s (length board) row a
+-- What is known where i rows have been passed: their counts are in bounds, their addresses are words, and what the pass over all rows comes to is what
+-- it comes to from here over the rest. It is so again one row on.
+abbrev pub Passing : ℕ → List Row → Search → ℕ → Type 0
+Passing a held s i = (s .vacant + s .below ≤ i) × (((j : ℕ) → j < i → getD held j freeRow .address < 0x10000) × (searched a s (drop i held) ≡ searched a unsearched held))
 
-  order : s .kept ≡ kept board
-  order = ap (λ (z : Search). z .kept) all ∙ searched-kept a unsearched board
+pub passes-on : (a : ℕ) (held : List Row) (s r : Search) (i : ℕ) → i < length held → (r ≡ passed a s (getD held i freeRow)) × (getD held i freeRow .address < 0x10000) → Passing a held s i → Passing a held r (i + 1)
+passes-on a held s r i l e so = (
+  subst (λ (z : Search). z .vacant + z .below ≤ i + 1) (sym (e .0)) (pass-bounds a s (getD held i freeRow) i (so .0)),
+  (λ j m. words j m (ltb j i) refl, ap (λ (z : Search). searched a z (drop (i + 1) held)) (e .0) ∙ sym (search-step a s held i l) ∙ so .1 .1),
+)
+  where
+    words : (j : ℕ) → j < i + 1 → (t : Bool) → ltb j i ≡ t → getD held j freeRow .address < 0x10000
+    words j m true f = so .1 .0 j (ltb-true j i f)
+    words j m false f =
+        let same : i ≡ j = omega (arith, ltb-false j i f) in
+        subst (λ (k : ℕ). getD held k freeRow .address < 0x10000) same (e .1)
 
-  module _ (k : kept board ≡ true) where
-    used-is : s .used ≡ placeFree board
-    used-is = ap (λ (z : Search). z .used) all ∙ searched-places a unsearched board k .0 ∙ omega arith
+-- What was found on a board so kept, by its places.
+module _ (a : ℕ) (board : List Row) (s : Search) (row : Row) (k : kept board ≡ true) (used-is : 30 - s .vacant ≡ placeFree board) (below-is : s .below ≡ placeFor a board) (low : s .vacant + s .below ≤ 30) (there : s .below < length board → row ≡ getD board (s .below) freeRow) where
+  -- the place of the row, and the row
+  abbrev At : Bool → Type 0
+  At t = (pick t (s .below) (length board) ≡ placeOf a board) × (pick t (s .below) (length board) < length board → row ≡ rowOf a board)
 
-    below-is : s .below ≡ placeFor a board
-    below-is = ap (λ (z : Search). z .below) all ∙ searched-places a unsearched board k .1 ∙ omega arith
+  on : s .below < 30 - s .vacant → s .below < length board
+  on l = omega (arith, used-is, place-le isFree board)
 
-    -- the place of the row, and the row
-    abbrev At : Bool → Type 0
-    At t = (pick t (s .below) (length board) ≡ placeOf a board) × (pick t (s .below) (length board) < length board → row ≡ rowOf a board)
+  seen-at : (t : Bool) → (ltb (s .below) (30 - s .vacant) && eqb (row .address) a) ≡ t → Seen a board → At t
+  seen-at true e (seen less is at) =
+      let p : s .below ≡ placeOf a board = below-is ∙ sym at in
+      (p, λ l. there l ∙ ap (λ (i : ℕ). getD board i freeRow) p)
+  seen-at false e (seen less is at) =
+      let l : s .below < 30 - s .vacant = subst (λ (n : ℕ). s .below < n) (sym used-is) (subst (λ (n : ℕ). n < placeFree board) (sym below-is) less) in
+      let same : row .address ≡ a = ap (λ (r : Row). r .address) (there (on l)) ∙ ap (λ (i : ℕ). getD board i freeRow .address) below-is ∙ is in
+      neither (ap (λ (t : Bool). t && eqb (row .address) a) (lt-ltb (s .below) (30 - s .vacant) l) ∙ eq-eqb (row .address) a same) e
+  seen-at true e (unseen none off) =
+      let l : s .below < 30 - s .vacant = ltb-true (s .below) (30 - s .vacant) (both-left (ltb (s .below) (30 - s .vacant)) (eqb (row .address) a) e) in
+      let same : row .address ≡ a = eqb-true (row .address) a (both-right (ltb (s .below) (30 - s .vacant)) (eqb (row .address) a) e) in
+      absurd (none (subst (λ (n : ℕ). n < placeFree board) below-is (subst (λ (n : ℕ). s .below < n) used-is l)) (sym (ap (λ (i : ℕ). getD board i freeRow .address) below-is) ∙ sym (ap (λ (r : Row). r .address) (there (on l))) ∙ same))
+  seen-at false e (unseen none off) = (omega (arith, place-le (holds a) board), λ l. absurd (omega arith))
 
-    seen-at : (t : Bool) → (ltb (s .below) (s .used) && eqb (row .address) a) ≡ t → Seen a board → At t
-    seen-at true e (seen less is at) =
-        let p : s .below ≡ placeOf a board = below-is ∙ sym at in
-        (p, λ l. there l ∙ ap (λ (i : ℕ). getD board i freeRow) p)
-    seen-at false e (seen less is at) =
-        let l : s .below < s .used = omega (arith, used-is, below-is) in
-        let same : row .address ≡ a = ap (λ (r : Row). r .address) (there (omega arith)) ∙ ap (λ (i : ℕ). getD board i freeRow .address) below-is ∙ is in
-        neither (ap (λ (t : Bool). t && eqb (row .address) a) (lt-ltb (s .below) (s .used) l) ∙ eq-eqb (row .address) a same) e
-    seen-at true e (unseen none off) =
-        let l : s .below < s .used = ltb-true (s .below) (s .used) (both-left (ltb (s .below) (s .used)) (eqb (row .address) a) e) in
-        let same : row .address ≡ a = eqb-true (row .address) a (both-right (ltb (s .below) (s .used)) (eqb (row .address) a) e) in
-        absurd (none (omega (arith, used-is, below-is)) (sym (ap (λ (i : ℕ). getD board i freeRow .address) below-is) ∙ sym (ap (λ (r : Row). r .address) (there (omega arith))) ∙ same))
-    seen-at false e (unseen none off) = (omega (arith, place-le (holds a) board), λ l. absurd (omega arith))
-
-    at-is : At (ltb (s .below) (s .used) && eqb (row .address) a)
-    at-is = seen-at (ltb (s .below) (s .used) && eqb (row .address) a) refl (seen-of a 0 board k)
+  at-is : At (ltb (s .below) (30 - s .vacant) && eqb (row .address) a)
+  at-is = seen-at (ltb (s .below) (30 - s .vacant) && eqb (row .address) a) refl (seen-of a 0 board k)
 
   spot-at : (t : Bool) → pick t (s .below) (length board) < length board → s .below ≡ pick t (s .below) (length board)
   spot-at true l = refl
   spot-at false l = absurd (omega arith)
 
-  pub found-all : Finds board a f
+  found-all : Finds board a (foundBy s (length board) row a)
   found-all =
       record {
         count = refl;
-        bounds = record { spot-free = low; free-few = few };
-        order = order;
-        place = λ k. at-is k .0;
-        there = λ k. at-is k .1;
-        vacant = used-is;
-        stands = below-is;
-        found = spot-at (ltb (s .below) (s .used) && eqb (row .address) a);
+        bounds = record { spot-free = omega arith; free-few = omega arith };
+        order = sym k;
+        place = λ _. at-is .0;
+        there = λ _. at-is .1;
+        vacant = λ _. used-is;
+        stands = λ _. below-is;
+        found = spot-at (ltb (s .below) (30 - s .vacant) && eqb (row .address) a);
       }
+
+length-filled : (board : List Row) → length board ≤ 30 → length (filled board) ≡ 30
+length-filled board l =
+    length-append board (replicate (30 - length board) freeRow) ∙ ap (λ (n : ℕ). length board + n) (length-replicate (30 - length board) freeRow) ∙ omega arith
+
+-- What was found on a board, once all of the array that holds it has been passed and none of its rows was out of order.
+pub found-filled : (a : ℕ) (board : List Row) (s : Search) (row : Row) → length board ≤ 30 → s ≡ searched a unsearched (filled board) → s .kept ≡ true → Low (filled board) → s .vacant + s .below ≤ 30
+    → (s .below < length board → row ≡ getD (filled board) (s .below) freeRow) → Finds board a (foundBy s (length board) row a)
+found-filled a board s row few all sound low bound there =
+    let k : kept (filled board) ≡ true = kept-back a unsearched (filled board) low (sym (ap (λ (z : Search). z .kept) all) ∙ sound) in
+    let placed = subst (λ (z : Search). Placed a unsearched z (filled board)) (sym all) (searched-places a unsearched (filled board) k) in
+    let free-is = place-more isFree refl board (30 - length board) in
+    let for-is = place-more (reaches a) refl board (30 - length board) in
+    let long = length-filled board few in
+    found-all a board s row (sym (kept-more 0 board (30 - length board)) ∙ k) (vacant-is (s .vacant) (placeFree (filled board)) (placeFree board) (length (filled board)) (placed .0) free-is long) (below-is (s .below) (placeFor a (filled board)) (placeFor a board) (placed .1 .0) for-is) bound
+    (λ l. there l ∙ List·getD-append board (replicate (30 - length board) freeRow) freeRow (s .below) l)
+  where
+    vacant-is : (v p q n : ℕ) → v + p ≡ 0 + n → p ≡ q → n ≡ 30 → 30 - v ≡ q
+    vacant-is v p q n e f g = omega arith
+
+    below-is : (v p q : ℕ) → v ≡ 0 + p → p ≡ q → v ≡ q
+    below-is v p q e f = omega arith
+
+-- And where one was, the board is not so kept.
+pub found-low : (a : ℕ) (board : List Row) (s : Search) (i n : ℕ) → length board ≡ n → searched a s (drop i (filled board)) ≡ searched a unsearched (filled board) → s .kept ≡ false → Finds board a (unkept n)
+found-low a board s i n count all low =
+    record {
+      count = sym count;
+      bounds = record { spot-free = omega arith; free-few = omega arith };
+      order = sym (not-kept (kept board) refl);
+      place = λ k. neither k (not-kept (kept board) refl);
+      there = λ k. neither k (not-kept (kept board) refl);
+      vacant = λ k. neither k (not-kept (kept board) refl);
+      stands = λ k. neither k (not-kept (kept board) refl);
+      found = λ l. absurd (omega arith);
+    }
+  where
+    not-kept : (t : Bool) → kept board ≡ t → kept board ≡ false
+    not-kept false e = e
+    not-kept true e =
+        neither (searched-places a unsearched (filled board) (kept-more 0 board (30 - length board) ∙ e) .1 .1) (sym (ap (λ (z : Search). z .kept) all) ∙ stays-low a s (drop i (filled board)) low)
 
 -- The change that an enrolment makes of a board on which the address was not found, and that of a removal where it was.
 module _ (a : ℕ) (board : List Row) (f : Found) (finds : Finds board a f) (k : kept board ≡ true) where

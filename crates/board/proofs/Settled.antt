@@ -6,14 +6,13 @@ use Prim.Native.Nat.{ℕ, _≤_}
 use native.Mathlib.Omega.{arith}
 use lib.ListN.{length, take-append-drop}
 use Rattle.board.specs.declared.Row.{Row}
-use Rattle.board.specs.declared.value.Board.{Board}
 use Rattle.board.specs.declared.value.Change.{Change}
 use Rattle.board.specs.declared.value.Found.{Found}
 use Rattle.board.specs.Rows.{boardOf, beyond}
 use Rattle.board.specs.Order.{inOrder}
-use Rattle.board.specs.inside.ByValue.{Loaded, Finds, moved, FitsIn, Changes, ChangesOn}
+use Rattle.board.specs.inside.ByValue.{Finds, moved, FitsIn, Changes, ChangesOn}
 use Rattle.board.proofs.Carried.{within-more, carry-front}
-use Rattle.board.proofs.LentRows.{length-counted, counted-le, counted-few}
+use Rattle.board.proofs.LentRows.{length-counted, counted-le}
 
 module _ (rows : List Row) where
   -- what is carried on the board leaves the rows beyond it
@@ -21,15 +20,8 @@ module _ (rows : List Row) where
   put-on-board c fits =
       ap (moved c) (sym (take-append-drop 30 rows)) ∙ carry-front (c .up) (c .down) (c .count) (c .at) (c .row) (boardOf rows) (beyond rows) fits
 
-  pub board-few : length (boardOf rows) ≤ 30
-  board-few = omega (arith, length-counted rows, counted-few (length rows))
-
   board-within : length (boardOf rows) ≤ length rows
   board-within = omega (arith, length-counted rows, counted-le (length rows))
-
-  -- the rows that count of a board that `load` held
-  pub few : (b : Board) → Loaded rows b → b .n ≤ 30
-  few b loaded = omega (arith, loaded .count, board-few)
 
   module _ (address : ℕ) (f : Found) (finds : Finds (boardOf rows) address f) (Number : List Row → ℕ) (After : List Row → List Row) (c : Change) (made : ChangesOn f address Number After c) where
     changes : Changes (boardOf rows) (inOrder (boardOf rows) (Number (boardOf rows)) 38) (inOrder (boardOf rows) (After (boardOf rows)) (boardOf rows)) c

@@ -1,43 +1,46 @@
-// The rows that the host lends: the board is copied out of them, and a run of rows is stored back.
+// The rows that the host lends: the rows that count are copied out of them, and a run of rows is stored back.
 ghost use mathlib.Core.Path.{_≡_};
-ghost use lib.ListN.{length};
+ghost use Prim.Native.Nat.{_≤_};
+ghost use lib.ListN.{length, take};
 ghost use Rattle.board.specs.Rows.{boardOf};
-ghost use Rattle.board.specs.inside.ByValue.{Loaded, Finds, counted, FitsIn, moved};
+ghost use Rattle.board.specs.inside.ByValue.{filled, Finds, FitsIn, moved};
 use crate::Row;
 use crate::rows;
 use crate::value;
-use crate::value::Board;
 use crate::value::Change;
 use crate::value::Found;
 
-// The first 30 rows count.
-fn counted(len: usize) -> usize
-    ensures { λ r. ⌜ r ≡ counted len ⌝ }
+// The first n rows by value, and free ones behind them. Each is stored straight into its place.
+fn fill(rows: &[Row], n: usize) -> [Row; 30]
+    requires { ⌜ (n ≤ length (now rows)) × (n ≤ 30) ⌝ }
+    ensures { λ r. ⌜ r ≡ filled (take n (now (rows .entry))) ⌝ }
 {
-    if 30 < len { 30 } else { len }
-}
-
-// The rows that count, by value. Each is stored straight into its place: a board handed on row by row would be copied each time.
-pub(crate) fn load(rows: &[Row]) -> Board
-    ensures { λ r. ⌜ Loaded (now (rows .entry)) r ⌝ }
-{
-    let n = counted(rows.len());
     let mut held = rows::free_rows();
     let mut i: usize = 0;
     while i < n {
         held[i] = rows[i];
         i = i + 1;
     }
-    value::of_rows(held, n)
+    held
 }
 
-// Searches the rows that count. It stands apart from the calls: in one function with the reading of a reply the compiler would copy the
-// array once more.
+// The rows that count, by value. Thirty rows are asked for by that number: the compiler then sees that no free row is left of the
+// fill, and leaves it out.
+fn load(rows: &[Row]) -> [Row; 30]
+    ensures { λ r. ⌜ r ≡ filled (boardOf (now (rows .entry))) ⌝ }
+{
+    if rows.len() < 30 {
+        return fill(rows, rows.len());
+    }
+    fill(rows, 30)
+}
+
+// Searches the rows that count.
 pub(crate) fn find(rows: &[Row], address: u16) -> Found
     ensures { λ r. ⌜ Finds (boardOf (now (rows .entry))) address r ⌝ }
 {
-    let b = load(rows);
-    value::find(b, address)
+    let held = load(rows);
+    value::find(held, rows.len(), address)
 }
 
 // Makes the change: over its run of places each takes the row that comes, and hands on the one that stood in it. Answers its number.

@@ -1,11 +1,11 @@
-// The board by value: an array of 30 rows, of which the first n count. One pass finds all that a call asks of it; each call then decides,
-// in the order of the documents, over which places a row is carried, or that none changes.
+// The board by value: an array of 30 rows, of which those behind the rows lent are free. One pass finds all that a call asks of it; each
+// call then decides, in the order of the documents, over which places a row is carried, or that none changes.
 ghost use mathlib.Core.Path.{_≡_};
 ghost use mathlib.Core.Bool.{_&&_};
 ghost use Prim.Native.Nat.{_+_, _<_, _≤_};
-ghost use lib.Dec.{eqb, leb, ltb};
+ghost use lib.Dec.{ltb};
 ghost use Rattle.frame.specs.Pick.{pick};
-ghost use Rattle.board.specs.inside.ByValue.{rowsOf, Finds, Bounded, passed, foundBy, changeOf, refusal, heardChange, saidOf, EnrolsOn, HearsOn, RemovesOn, LooksOn, readChange, MayPollOn, WritesOr};
+ghost use Rattle.board.specs.inside.ByValue.{FindsOn, Bounded, counted, passed, foundBy, unkept, changeOf, refusal, heardChange, saidOf, EnrolsOn, HearsOn, RemovesOn, LooksOn, readChange, MayPollOn, WritesOr};
 use crate::Heard;
 use crate::Looked;
 use crate::Row;
@@ -14,11 +14,6 @@ use crate::rows;
 use frame::Reading;
 use frame::Reply;
 use frame::Written;
-
-pub(crate) struct Board {
-    pub rows: [Row; 30],
-    pub n: usize,
-}
 
 // A row is carried over a run of `count` places: each takes the row that comes, the first `row`, and hands on the one that stood in it. The
 // places go on from `at`, where `up` is 1 and `down` 0, or back from the one before it, where `up` is 0 and `down` 1. And the number that the
@@ -33,13 +28,12 @@ pub(crate) struct Change {
     pub place: u8,
 }
 
-// What a pass over the rows has seen so far: how many are in use, and how many of these have a smaller address than the one asked for; the
-// least address that may follow; whether no free row was passed; and whether the rows are so kept.
+// What a pass over the rows has seen so far: how many are free, and how many of those in use have a smaller address than the one asked
+// for; the least address that may follow, which is above them all once a free row was passed; and whether the rows are so kept.
 pub(crate) struct Search {
-    pub used: usize,
+    pub vacant: usize,
     pub below: usize,
     pub least: u32,
-    pub dense: bool,
     pub kept: bool,
 }
 
@@ -55,10 +49,11 @@ pub(crate) struct Found {
     pub kept: bool,
 }
 
-pub(crate) fn of_rows(rows: [Row; 30], n: usize) -> Board
-    ensures { λ r. ⌜ (r .rows ≡ rows) × (r .n ≡ n) ⌝ }
+// The first 30 rows count.
+fn counted(len: usize) -> usize
+    ensures { λ r. ⌜ r ≡ counted len ⌝ }
 {
-    Board { rows: rows, n: n }
+    if 30 < len { 30 } else { len }
 }
 
 // How many rows in use have a smaller address, once one more has been passed.
@@ -72,49 +67,35 @@ fn below_after(below: usize, passed: u16, address: u16) -> usize
     below
 }
 
-// Whether a row in use may stand where it stands.
-fn rises(s: Search, address: u16) -> bool
-    ensures { λ r. ⌜ r ≡ s .kept && (s .dense && leb (s .least) address) ⌝ }
-{
-    if !s.kept {
-        return false;
-    }
-    if !s.dense {
-        return false;
-    }
-    s.least <= address as u32
-}
-
-// One row more has been passed.
+// One row more has been passed. What may follow a free row is above every address, so that it can only be free: an address is 16 bits.
 fn pass(s: Search, row: Row, address: u16) -> Search
-    requires { ⌜ (s .used < 30) × (s .below ≤ s .used) ⌝ }
-    ensures { λ r. ⌜ r ≡ passed address s row ⌝ }
+    requires { ⌜ (s .vacant < 30) × (s .below < 30) ⌝ }
+    ensures { λ r. ⌜ (r ≡ passed address s row) × (row .address < 0x10000) ⌝ }
 {
+    let mut next = s;
     if rows::is_free(row) {
-        let mut next = s;
-        next.dense = false;
+        next.vacant = s.vacant + 1;
+        next.least = 0x10000;
         return next;
     }
-    let below = below_after(s.below, row.address, address);
-    let kept = rises(s, row.address);
-    Search {
-        used: s.used + 1,
-        below: below,
-        least: row.address as u32 + 1,
-        dense: s.dense,
-        kept: kept,
+    if (row.address as u32) < s.least {
+        next.kept = false;
+        return next;
     }
+    next.below = below_after(s.below, row.address, address);
+    next.least = row.address as u32 + 1;
+    next
 }
 
 // The place of the address's row, or n where it has none.
-fn place_in(s: Search, n: usize, stands: u16, address: u16) -> usize
-    ensures { λ r. ⌜ r ≡ pick (ltb (s .below) (s .used) && eqb stands address) (s .below) n ⌝ }
+fn place_in(used: usize, below: usize, n: usize, same: bool) -> usize
+    ensures { λ r. ⌜ r ≡ pick (ltb below used && same) below n ⌝ }
 {
-    if s.used <= s.below {
+    if used <= below {
         return n;
     }
-    if stands == address {
-        return s.below;
+    if same {
+        return below;
     }
     n
 }
@@ -129,40 +110,63 @@ fn on_board(place: usize, n: usize) -> usize
     0
 }
 
-// What was found, once all n rows have been passed; `row` is the one at the place for the address, where that is on the board.
+// What was found, once all rows have been passed; `row` is the one at the place for the address, where that is on the board.
 fn told(s: Search, n: usize, row: Row, address: u16) -> Found
+    requires { ⌜ s .vacant ≤ 30 ⌝ }
     ensures { λ r. ⌜ r ≡ foundBy s n row address ⌝ }
 {
-    let at = place_in(s, n, row.address, address);
+    let used = 30 - s.vacant;
+    let at = place_in(used, s.below, n, row.address == address);
     Found {
         at: at,
         n: n,
         row: row,
-        free: s.used,
+        free: used,
         spot: s.below,
-        kept: s.kept,
+        kept: true,
     }
 }
 
-// Passes over the rows once. The array is indexed and not the board, so that the compiler searches it where `load` filled it.
-pub(crate) fn find(b: Board, address: u16) -> Found
-    requires { ⌜ b .n ≤ 30 ⌝ }
-    ensures { λ r. ⌜ Finds (rowsOf b) address r ⌝ }
+// What is told of n rows that are not kept in order.
+fn unkept(n: usize) -> Found
+    ensures { λ r. ⌜ r ≡ unkept n ⌝ }
 {
-    let n = b.n;
-    let held = b.rows;
+    let row = rows::free_row();
+    Found {
+        at: n,
+        n: n,
+        row: row,
+        free: 0,
+        spot: 0,
+        kept: false,
+    }
+}
+
+// Passes over all 30 places, of which those behind the rows lent are free, and ends at the first row that is out of order. Two rows are
+// passed in a turn.
+pub(crate) fn find(held: [Row; 30], len: usize, address: u16) -> Found
+    ensures { λ r. ⌜ FindsOn held len address r ⌝ }
+{
+    let n = counted(len);
     let mut s = Search {
-        used: 0,
+        vacant: 0,
         below: 0,
         least: 0,
-        dense: true,
         kept: true,
     };
     let mut i: usize = 0;
-    while i < n {
+    while i < 30 {
         let row = held[i];
         s = pass(s, row, address);
-        i = i + 1;
+        if !s.kept {
+            return unkept(n);
+        }
+        let next = held[i + 1];
+        s = pass(s, next, address);
+        if !s.kept {
+            return unkept(n);
+        }
+        i = i + 2;
     }
     let spot = on_board(s.below, n);
     let row = held[spot];

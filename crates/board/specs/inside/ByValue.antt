@@ -1,11 +1,11 @@
--- How the code goes about it: the board as an array by value with a count, one pass over it, and a row carried over a run of its places. A
+-- How the code goes about it: the board as an array of 30 rows by value, one pass over it, and a row carried over a run of its places. A
 -- reader of the documents need not believe this file.
 use mathlib.Core.Path.{_≡_}
 use mathlib.Core.Bool.{Bool, true, false, not, _&&_, _||_}
 use mathlib.Core.List.{List, [], _∷_, _++_}
 use Prim.Native.Nat.{ℕ, zero, suc, _+_, _-_, _<_, _≤_}
 use lib.Dec.{eqb, leb, ltb}
-use lib.ListN.{length, take, drop, getD, set}
+use lib.ListN.{length, drop, getD, set, replicate}
 use Rattle.frame.specs.declared.Reading.{Reading}
 use Rattle.frame.specs.declared.Reply.{Reply}
 use Rattle.frame.specs.declared.Reply.the-variants.{Read, Refused, Unreadable}
@@ -17,7 +17,6 @@ use Rattle.frame.specs.Poll.{pollLine, writePollFault}
 use Rattle.board.specs.declared.Heard.{Heard}
 use Rattle.board.specs.declared.Looked.{Looked}
 use Rattle.board.specs.declared.Row.{Row}
-use Rattle.board.specs.declared.value.Board.{Board}
 use Rattle.board.specs.declared.value.Change.{Change}
 use Rattle.board.specs.declared.value.Found.{Found}
 use Rattle.board.specs.declared.value.Search.{Search}
@@ -27,14 +26,9 @@ use Rattle.board.specs.Rows.{boardOf, placeBy, placeOf, onBoard, rowOf, 
 use Rattle.board.specs.Order.{kept, inOrder}
 use Rattle.board.specs.Calls.{enrolNumber, enrolRows, hearNumber, hearPlace, hearRows, heardAs, findNumber, removeRows, lookedAt, refusedLook}
 
--- The rows that a board by value holds.
-abbrev pub rowsOf : Board → List Row
-rowsOf b = take (b .n) (b .rows)
-
--- It holds the rows that count of those lent.
-pub record Loaded (rows : List Row) (b : Board) : Type 0 where
-  pub count : b .n ≡ length (boardOf rows)
-  pub held : rowsOf b ≡ boardOf rows
+-- A board by value: its rows, and free ones behind them up to thirty.
+abbrev pub filled : List Row → List Row
+filled board = board ++ replicate (30 - length board) freeRow
 
 -- The first row that is free or has at least this address: where the address stands, or is to stand.
 abbrev pub reaches : ℕ → Row → Bool
@@ -43,17 +37,19 @@ reaches address row = isFree row || leb address (row .address)
 abbrev pub placeFor : ℕ → List Row → ℕ
 placeFor address board = placeBy (reaches address) board
 
--- What is known of the rows passed, once one more has been passed.
+-- What is known of the rows passed, once one more has been passed: a free one, one in use that is out of order, or one that is not.
+abbrev pub overFree : Search → Search
+overFree s = record { vacant = s .vacant + 1; below = s .below; least = 0x10000; kept = s .kept }
+
+abbrev pub overLow : Search → Search
+overLow s = record { vacant = s .vacant; below = s .below; least = s .least; kept = false }
+
+abbrev pub overUsed : ℕ → Search → Row → Search
+overUsed address s row =
+    record { vacant = s .vacant; below = pick (ltb (row .address) address) (s .below + 1) (s .below); least = row .address + 1; kept = s .kept }
+
 abbrev pub passed : ℕ → Search → Row → Search
-passed address s row =
-    pick (isFree row) (record { used = s .used; below = s .below; least = s .least; dense = false; kept = s .kept })
-    (record {
-      used = s .used + 1;
-      below = pick (ltb (row .address) address) (s .below + 1) (s .below);
-      least = row .address + 1;
-      dense = s .dense;
-      kept = s .kept && (s .dense && leb (s .least) (row .address));
-    })
+passed address s row = pick (isFree row) (overFree s) (pick (ltb (row .address) (s .least)) (overLow s) (overUsed address s row))
 
 -- And once all have been passed.
 unfoldable pub searched : ℕ → Search → List Row → Search
@@ -61,12 +57,15 @@ searched address s [] = s
 searched address s (row ∷ rows) = searched address (passed address s row) rows
 
 abbrev pub unsearched : Search
-unsearched = record { used = 0; below = 0; least = 0; dense = true; kept = true }
+unsearched = record { vacant = 0; below = 0; least = 0; kept = true }
 
--- What was found on n rows, where `row` is the one at the place for the address.
+-- What was found on n rows so kept, where `row` is the one at the place for the address; and what is told of n rows that are not.
 abbrev pub foundBy : Search → ℕ → Row → ℕ → Found
 foundBy s n row address =
-    record { at = pick (ltb (s .below) (s .used) && eqb (row .address) address) (s .below) n; n = n; row = row; free = s .used; spot = s .below; kept = s .kept }
+    record { at = pick (ltb (s .below) (30 - s .vacant) && eqb (row .address) address) (s .below) n; n = n; row = row; free = 30 - s .vacant; spot = s .below; kept = true }
+
+abbrev pub unkept : ℕ → Found
+unkept n = record { at = n; n = n; row = freeRow; free = 0; spot = 0; kept = false }
 
 -- The places that a search names are in their order.
 pub record Bounded (f : Found) : Type 0 where
@@ -88,6 +87,10 @@ pub record Finds (board : List Row) (address : ℕ) (f : Found) : Type 0 where
 -- How many of so many rows count.
 abbrev pub counted : ℕ → ℕ
 counted n = pick (ltb 30 n) 30 n
+
+-- It is found in the array of every board so long, of which as many rows count.
+pub record FindsOn (held : List Row) (len address : ℕ) (f : Found) : Type 0 where
+  pub on : (board : List Row) → length board ≡ counted len → held ≡ filled board → Finds board address f
 
 -- A row carried over `count` places: each takes the row that comes, and hands on the one that stood in it. The places go on from `at`, where
 -- `up` is 1 and `down` 0, or back from the one before it, where `up` is 0 and `down` 1.

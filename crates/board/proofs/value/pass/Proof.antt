@@ -1,40 +1,42 @@
--- `board::value::pass` meets its contract: the test of the row picks the part of the definition, and what is called gives its fields.
+-- `board::value::pass` meets its contract: the tests of the row pick the part of the definition. Its address is a machine word of 16 bits.
 use borrow.Author.Needs.{needs}
-use mathlib.Core.Bool.{Bool}
-use Prim.Native.Nat.{ℕ}
+use borrow.Author.Tests.{lt-ltb, le-ltb}
+use native.Mathlib.Omega.{arith}
 use mathlib.Core.Path.{_≡_, sym, _∙_, ap}
-use Rattle.board.specs.declared.value.Search.{Search}
 use Rattle.board.proofs.value.pass.Statement.{statement}
 use Rattle.board.proofs.value.pass.Tie as tie
 
 is-free-requires : tie.Need-is-free-requires
 is-free-requires c κs = search needs
 
+add-next : tie.Need-add-next
+add-next c = search needs
+
 returns : tie.Need-returns
-returns c = simp (sym (c .before .is-free .ensures) ∙ c .if1 .taken)
+returns c = (simp (sym (c .before .before .is-free .ensures) ∙ c .before .if1 .taken), search needs)
+
+cast-if2 : tie.Need-cast-if2
+cast-if2 c = search needs
+
+returns-2 : tie.Need-returns-2
+returns-2 c =
+    let u = c .before .before .before in
+    (simp (sym (u .before .is-free .ensures) ∙ u .if1 .left, lt-ltb _ _ (c .if2 .taken)), search needs)
 
 below-after-requires : tie.Need-below-after-requires
 below-after-requires c κs = search needs
 
-rises-requires : tie.Need-rises-requires
-rises-requires c κs = search needs
+cast-next : tie.Need-cast-next
+cast-next c = search needs
 
-add-t8 : tie.Need-add-t8
-add-t8 c = search needs
+add-next-2 : tie.Need-add-next-2
+add-next-2 c = search needs
 
-cast-t9 : tie.Need-cast-t9
-cast-t9 c = search needs
-
-add-t10 : tie.Need-add-t10
-add-t10 c = search needs
-
-returns-2 : tie.Need-returns-2
-returns-2 c =
-    let r = c .before .before in
-    let b = r .before in
-    let e = b .before in
-    simp (b .below-after .ensures, r .rises .ensures, sym (e .before .is-free .ensures) ∙ e .if1 .left)
+returns-3 : tie.Need-returns-3
+returns-3 c =
+    let e = c .before .before in
+    let u = e .before .before .before in
+    (simp (c .before .below-after .ensures, sym (u .before .is-free .ensures) ∙ u .if1 .left, le-ltb _ _ (e .if2 .left)), search needs)
 
 pub pass-spec : {M : Type 1} → statement M
-pass-spec =
-    tie.close (tie.spec is-free-requires returns below-after-requires rises-requires add-t8 cast-t9 add-t10 returns-2)
+pass-spec = tie.close (tie.spec is-free-requires add-next returns cast-if2 returns-2 below-after-requires cast-next add-next-2 returns-3)

@@ -1,7 +1,7 @@
--- `board::lent::counted` meets its contract, arm by arm.
+-- `board::value::counted` meets its contract, arm by arm.
 use borrow.Author.Tests.{lt-ltb, le-ltb}
-use Rattle.board.proofs.lent.counted.Statement.{statement}
-use Rattle.board.proofs.lent.counted.Tie as tie
+use Rattle.board.proofs.value.counted.Statement.{statement}
+use Rattle.board.proofs.value.counted.Tie as tie
 
 returns : tie.Need-returns
 returns c = simp (lt-ltb _ _ (c .if1 .taken))
