@@ -3,3 +3,4 @@ pub mod Turns
 pub mod Trying
 pub mod Lent
 pub mod Counting
+pub mod KeptLines

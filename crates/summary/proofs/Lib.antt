@@ -4,6 +4,7 @@ pub mod Putting
 pub mod Pages
 pub mod Levels
 pub mod LineAdded
+pub mod Moved
 pub mod PairFigures
 pub mod KeptPairs
 pub mod OneRecordMore
@@ -12,6 +13,7 @@ pub mod Seen
 pub mod Saved
 pub mod GoodLevel
 pub mod Shaped
+pub mod StillRight
 pub mod RecordAdded
 pub mod PutAll
 pub mod Merging

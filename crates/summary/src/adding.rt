@@ -1,5 +1,5 @@
 // A line added to a summary: its pair is found among the pairs of the lines, and that line alone changes; a new one goes to its place, and those behind it
-// move on by one.
+// move on by one. What is public here is for a round, which keeps lines and pairs in a loop of its own.
 use crate::Line;
 use crate::Summary;
 use crate::figures::pair_of;
@@ -12,7 +12,7 @@ ghost use Rattle.summary.specs.Line.{pairOf};
 ghost use Rattle.summary.specs.Handed.{linesOf};
 ghost use Rattle.summary.specs.Updated.{hasLine, withLine};
 ghost use Rattle.summary.specs.inside.Placed.{placeIn, movedOn, Sound, Room};
-ghost use Rattle.summary.specs.inside.Entering.{Finds};
+ghost use Rattle.summary.specs.inside.Entering.{Finds, Places};
 
 // How many lines stand before the place of a pair.
 fn place(s: Summary, pair: u32) -> usize
@@ -33,7 +33,7 @@ fn place(s: Summary, pair: u32) -> usize
 }
 
 // The pairs of all 30 lines, one number each: what a search goes over, so that it copies no line.
-pub(crate) fn pairs_in(lines: [Line; 30]) -> [u32; 30]
+pub fn pairs_in(lines: [Line; 30]) -> [u32; 30]
     ensures { λ r. ⌜ r ≡ map pairOf lines ⌝ }
 {
     let mut pairs = [0u32; 30];
@@ -47,7 +47,7 @@ pub(crate) fn pairs_in(lines: [Line; 30]) -> [u32; 30]
 }
 
 // Where a pair stands among the first of some pairs; 30 where it is none of them.
-pub(crate) fn find(pairs: &[u32; 30], count: u32, pair: u32) -> usize
+pub fn find(pairs: &[u32; 30], count: u32, pair: u32) -> usize
     requires { ⌜ count ≤ 30 ⌝ }
     ensures { λ r. ⌜ Finds (now (pairs .entry)) count pair r ⌝ }
 {
@@ -62,8 +62,40 @@ pub(crate) fn find(pairs: &[u32; 30], count: u32, pair: u32) -> usize
     30
 }
 
+// How many of the first of some pairs that rise stand before a pair.
+pub fn place_among(pairs: &[u32; 30], count: u32, pair: u32) -> usize
+    requires { ⌜ count ≤ 30 ⌝ }
+    ensures { λ r. ⌜ Places (now (pairs .entry)) count pair r ⌝ }
+{
+    let n = count as usize;
+    let mut i: usize = 0;
+    while i < n {
+        if pair <= pairs[i] {
+            return i;
+        }
+        i += 1;
+    }
+    n
+}
+
+// A new pair at a place, those behind it moved on: with the lines moved alike, the pairs need not be made anew.
+pub fn insert_pair(pairs: [u32; 30], at: usize, n: usize, pair: u32) -> [u32; 30]
+    requires { ⌜ at ≤ n ⌝ }
+    requires { ⌜ n < 30 ⌝ }
+    ensures { λ r. ⌜ r ≡ movedOn pairs at n pair ⌝ }
+{
+    let mut out = pairs;
+    out[at] = pair;
+    let mut i = at;
+    while i < n {
+        out[i + 1] = pairs[i];
+        i += 1;
+    }
+    out
+}
+
 // A new line at a place, those behind it moved on.
-fn insert(lines: [Line; 30], at: usize, n: usize, line: Line) -> [Line; 30]
+pub fn insert(lines: [Line; 30], at: usize, n: usize, line: Line) -> [Line; 30]
     requires { ⌜ at ≤ n ⌝ }
     requires { ⌜ n < 30 ⌝ }
     ensures { λ r. ⌜ r ≡ movedOn lines at n line ⌝ }

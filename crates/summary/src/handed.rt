@@ -3,7 +3,9 @@ use crate::Line;
 use crate::Summary;
 use crate::figures::pair_of;
 ghost use mathlib.Core.Path.{_≡_};
-ghost use Rattle.summary.specs.Handed.{isBlank, levelsRight, countsOver, linesOver, handedFault};
+ghost use lib.Dec.{ltb};
+ghost use Rattle.frame.specs.Pick.{pick};
+ghost use Rattle.summary.specs.Handed.{most, isBlank, levelsRight, countsOver, linesOver, handedFault};
 ghost use Rattle.summary.specs.Handed as said;
 ghost use Rattle.summary.specs.inside.Entering.{rightFrom};
 
@@ -103,7 +105,7 @@ pub(crate) fn lines_over(s: Summary) -> bool
 }
 
 // 37, then 24; 0 where neither is given.
-pub(crate) fn fault_of(s: Summary) -> u8
+pub fn fault_of(s: Summary) -> u8
     ensures { λ r. ⌜ r ≡ handedFault s ⌝ }
 {
     if misshapen(s) {
@@ -113,4 +115,18 @@ pub(crate) fn fault_of(s: Summary) -> u8
         return 24;
     }
     if lines_over(s) { 24 } else { 0 }
+}
+
+// What a summary that no test refused is refused by when this line of it has changed: 24, or 0 where its counts are not over.
+pub fn line_fault(line: Line) -> u8
+    ensures { λ r. ⌜ r ≡ pick (countsOver line) 24 0 ⌝ }
+{
+    if counts_over(line) { 24 } else { 0 }
+}
+
+// The same when a record more is one of the others.
+pub fn others_fault(others: u32) -> u8
+    ensures { λ r. ⌜ r ≡ pick (ltb most others) 24 0 ⌝ }
+{
+    if 1_000_000 < others { 24 } else { 0 }
 }

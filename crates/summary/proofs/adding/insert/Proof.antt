@@ -1,44 +1,18 @@
 -- `summary::adding::insert` meets its contract. The invariant: the array is a copy with the line stored and the first lines from its place pasted behind it.
-use mathlib.Core.Path.{_≡_, refl, sym, ap, _∙_}
-use mathlib.Core.List.{List, [], _∷_, _++_}
-use Prim.Native.Nat.{ℕ, suc, _+_, _-_, _<_, _≤_}
+use mathlib.Core.Path.{_≡_, sym, ap, _∙_}
+use mathlib.Core.List.{List}
+use Prim.Native.Nat.{ℕ, _+_, _-_, _≤_}
 use native.Mathlib.Omega.{arith}
 use borrow.Author.Needs.{needs}
-use lib.ListN.{length, getD, set, take, drop, length-set, length-drop}
-use lib.Seq.{paste, paste-zero, paste-suc, getD-drop, take-suc-set, drop-set-lt, append-snoc}
+use lib.ListN.{length, getD, set, drop, length-set}
+use lib.Seq.{paste, paste-zero}
 use Rattle.summary.specs.declared.Line.{Line}
 use Rattle.summary.specs.Line.{blankLine}
-use Rattle.summary.specs.inside.Placed.{movedOn}
+use Rattle.summary.proofs.Moved.{one-more, all-moved}
 use Rattle.summary.proofs.adding.insert.Statement.{statement}
 use Rattle.summary.proofs.adding.insert.Tie as tie
 use Rattle.summary.proofs.adding.insert.Reads as reads
 use Rattle.summary.proofs.adding.insert.Lts as lts
-
--- one line more is pasted
-one-more : (d ls : List Line) (at i : ℕ) → length d ≡ 30 → length ls ≡ 30 → at ≤ i → i + 1 < 30
-    → set (paste d (at + 1) (drop at ls) (i - at)) (i + 1) (getD ls i blankLine) ≡ paste d (at + 1) (drop at ls) (i + 1 - at)
-one-more d ls at i long-d long-ls low high =
-    let j = i - at in
-    let there : getD ls i blankLine ≡ getD (drop at ls) j blankLine =
-    ap (λ (k : ℕ). getD ls k blankLine) (omega arith) ∙ sym (getD-drop at ls j blankLine) in
-    let place : i + 1 ≡ at + 1 + j = omega arith in
-    let next : suc j ≡ i + 1 - at = omega arith in
-    ap (λ (v : Line). set (paste d (at + 1) (drop at ls) j) (i + 1) v) there
-    ∙ ap (λ (k : ℕ). set (paste d (at + 1) (drop at ls) j) k (getD (drop at ls) j blankLine)) place
-    ∙ paste-suc d (at + 1) (drop at ls) j blankLine (omega arith) (omega (arith, length-drop at ls))
-    ∙ ap (paste d (at + 1) (drop at ls)) next
-
--- all are
-all-moved : (ls : List Line) (at n : ℕ) (x : Line) → length ls ≡ 30 → at ≤ n → n < 30
-    → paste (set ls at x) (at + 1) (drop at ls) (n - at) ≡ movedOn ls at n x
-all-moved ls at n x long low high =
-    let one : at + 1 ≡ suc at = omega arith in
-    let end : at + 1 + (n - at) ≡ n + 1 = omega arith in
-    ap (λ (k : ℕ). take k (set ls at x) ++ take (n - at) (drop at ls) ++ drop (at + 1 + (n - at)) (set ls at x)) one
-    ∙ ap (λ (h : List Line). h ++ take (n - at) (drop at ls) ++ drop (at + 1 + (n - at)) (set ls at x)) (take-suc-set ls at x (omega arith))
-    ∙ ap (λ (k : ℕ). (take at ls ++ x ∷ []) ++ take (n - at) (drop at ls) ++ drop k (set ls at x)) end
-    ∙ ap (λ (l : List Line). (take at ls ++ x ∷ []) ++ take (n - at) (drop at ls) ++ l) (drop-set-lt (n + 1) ls at x (omega arith))
-    ∙ ap (λ (l : List Line). l ++ drop (n + 1) ls) (append-snoc (take at ls) x (take (n - at) (drop at ls)))
 
 abbrev Inv-loop : tie.InvT-loop
 Inv-loop at n lines out₀ i₀ out i = (at ≤ i) × ((i ≤ n) × (out ≡ paste (out₀) (at + 1) (drop at lines) (i - at)))
@@ -86,7 +60,7 @@ loop-again c =
     let long : length (a .t1) ≡ 30 = l .before .good .0 .1 .0 .1 in
     let d = set (a .t1) (a .at) (a .line) in
     let long-d : length d ≡ 30 = length-set (a .t1) (a .at) (a .line) ∙ long in
-    (omega arith, (omega arith, ap (λ (o : List Line). set o (l .loop .i + 1) (getD (a .t1) (l .loop .i) blankLine)) (l .loop .inv .1 .1) ∙ one-more d (a .t1) (a .at) (l .loop .i) long-d long (omega arith) (omega arith)))
+    (omega arith, (omega arith, ap (λ (o : List Line). set o (l .loop .i + 1) (getD (a .t1) (l .loop .i) blankLine)) (l .loop .inv .1 .1) ∙ one-more blankLine d (a .t1) (a .at) (l .loop .i) long-d long (omega arith) (omega arith)))
 
 returns : tie.Need-returns Inv-loop μ-loop
 returns c =
