@@ -34,10 +34,11 @@ pub(crate) fn judged(largest: u64, zeros: u64, v: u64) -> u64
     level::judged(largest, v)
 }
 
-// The digits of a level's bits, or `UNCLEAR` where fill is not 0: those after the digits, which a shift down and up again would lose, and the one
-// before them where a mode has one.
+// What `clear_digits` gives where fill is not 0. Digits are always below it.
 pub(crate) const UNCLEAR: u64 = 1 << 22;
 
+// The digits of a level, cut out between their fill: the fill after them is what a shift down and up again loses, and the one bit before them, in a
+// mode that has it, what stands above them.
 pub(crate) fn clear_digits(n: u64, before: u64, after: u64) -> u64
     requires { ⌜ before ≤ 1 ⌝ }
     requires { ⌜ after ≤ 6 ⌝ }

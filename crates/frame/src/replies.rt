@@ -1,4 +1,4 @@
-// The reply, once its form and length are right: faults 3 to 9 in their order, and the reading.
+// A reply: its refusals in their order, by what is asked before its bits, of its line, and of its level and temperature; and the reading.
 ghost use mathlib.Core.Path.{_≡_};
 ghost use lib.Dec.{eqb};
 ghost use Prim.Native.Nat.{ℕ, _≤_, _<_, _%_, _^_};
@@ -71,8 +71,8 @@ fn parity_right(settings: u8, n: u64) -> bool
     if settings / 8 % 2 == 1 { odd } else { !odd }
 }
 
-// The first refusal of a line before its level, 3, 4 or 5, and 0 for none. The address is compared in its digits, since that of an address
-// polled are decimal.
+// The first refusal of a line before its level, 3, 4 or 5, and 0 for none. The address is compared in its digits, since those of an address that
+// was polled are decimal.
 fn unfit(settings: u8, address: u16, n: u64) -> u64
     requires { ⌜ address ≤ 999 ⌝ }
     ensures { λ r. ⌜ r ≡ unfitFault settings address n ⌝ }
