@@ -225,7 +225,7 @@ struct sisal_row {
     uint32_t heard;   /* minute of the latest hearing, good or faulty; it means nothing while kind and fault are both 0 */
     uint16_t faulty;  /* faulty replies since the last good one or since enrolment; it stays at 65,535 */
     uint8_t place;    /* beside fault 7 the first digit in no chart, counted from 0 at the top; not read beside another fault */
-    uint8_t gauge;    /* enum sisal_gauge, as enrolling was given it, kept by a hearing; 0 in a free row */
+    uint8_t gauge;    /* enum sisal_gauge, as enrolling was given it, kept by a hearing; enrolling and removing set it, and of a free row it is not read */
 };
 
 /* A reply that was heard on the board. */
@@ -352,7 +352,8 @@ enum sisal_sample {
 
 /*
  * What was heard so far. All zeros is the beginning; from then on a host hands back what the last call left, and changes nothing in it.
- * Whatever else is handed in is heard as a spoiled message. 16 bytes, no padding.
+ * A pattern that no call leaves is heard as a spoiled message; an old state that one did leave is gone on from as it stands, so hand over
+ * the last. 16 bytes, no padding.
  */
 struct sisal_lines_so_far {
     uint64_t bits;  /* of the message so far, the first the highest; 0 after the count */
