@@ -12,10 +12,12 @@ use lib.Dec.{eqb, lit<, lit≤}
 use lib.ListN.{length}
 use lib.Pow.{pow-pos}
 use Rattle.frame.specs.Charts.{Chart, oneBit, twoBits, feetTens, decimal, inches, sixteenths}
-use Rattle.frame.specs.Level.{Mode, widthOf, valuesOf, readRow, writeRow, fillClear, lastBit, putLevel, fractionalMode, decimalMode, twentyMetreMode, thirtyMetreMode}
+use Rattle.frame.specs.Pick.{pick}
+use Rattle.frame.specs.Level.{Mode, modeOf, widthOf, valuesOf, readRow, writeRow, fillClear, lastBit, putLevel, fractionalMode, decimalMode, twentyMetreMode, thirtyMetreMode}
 use Rattle.frame.specs.inside.Packed.{chartOf, rowOf, levelCode, writeUp}
-use Rattle.frame.specs.inside.Constants.{Constants, fractional, decimalFeet, metres20, metres30, fillAt, digitBits, readBy, writeBy}
+use Rattle.frame.specs.inside.Constants.{Constants, fractional, decimalFeet, metres20, metres30, constantsBy, fillAt, digitBits, readBy, writeBy}
 use Rattle.frame.proofs.Both.{and-true}
+use Rattle.frame.proofs.Tables.{pick-case}
 use Rattle.frame.proofs.Upward.{placed-up}
 
 -- a digit's chart read in four bits
@@ -160,3 +162,25 @@ metres30-fits =
       begins = lit≤ tt;
       ends = lit≤ tt;
     }
+
+-- so those of every number fit the mode of that number
+pub constants-fit : (k : ℕ) → Fits (modeOf k) (constantsBy k)
+unfolding modeOf
+constants-fit k = go (eqb k 0) (eqb k 1) (eqb k 2)
+  where
+    go : (a b c : Bool)
+        → Fits (pick a fractionalMode (pick b decimalMode (pick c twentyMetreMode thirtyMetreMode))) (pick a fractional (pick b decimalFeet (pick c metres20 metres30)))
+    go true b c = fractional-fits
+    go false true c = decimal-fits
+    go false false true = metres20-fits
+    go false false false = metres30-fits
+
+-- what the readers ask of a mode's constants
+abbrev pub Allowed : Constants → Type 0
+Allowed k = (k .digits ≤ 5) × ((16 ≤ k .first) × ((k .first ≤ 17) × ((k .before ≤ 1) × (k .after ≤ 6))))
+
+pub allowed : (k : ℕ) → Allowed (constantsBy k)
+allowed k =
+    pick-case Allowed (eqb k 0) (lit≤ tt, (lit≤ tt, (lit≤ tt, (lit≤ tt, lit≤ tt))))
+    (pick-case Allowed (eqb k 1) (lit≤ tt, (lit≤ tt, (lit≤ tt, (lit≤ tt, lit≤ tt))))
+    (pick-case Allowed (eqb k 2) (lit≤ tt, (lit≤ tt, (lit≤ tt, (lit≤ tt, lit≤ tt)))) (lit≤ tt, (lit≤ tt, (lit≤ tt, (lit≤ tt, lit≤ tt))))))

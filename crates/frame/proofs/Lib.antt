@@ -16,8 +16,6 @@ pub mod Constants
 pub mod LevelPlaces
 pub mod Keys
 pub mod PairsAreDigits
-pub mod Cut
-pub mod OneLimit
 pub mod PairTable
 pub mod PairSteps
 pub mod SecondReader

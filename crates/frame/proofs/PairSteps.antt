@@ -31,21 +31,6 @@ lostAt k bits odd place = pick (eqb (entryOf (indexOf odd (bits / 2 ^ (8 * k + 4
 pub top-lt : (k bits : ℕ) (odd : Bool) → (topPair k bits odd ≡ 255 → ⊥) → topPair k bits odd < 100
 top-lt k bits odd = entry-lt odd (bits / 2 ^ (8 * k + 4) % 16) (bits / 2 ^ (8 * k) % 16) (mod-lt (bits / 2 ^ (8 * k + 4)) (lit< tt)) (mod-lt (bits / 2 ^ (8 * k)) (lit< tt))
 
--- with 0000 for its second code a pair is marked exactly if its first code is in no chart: computed over the codes
-same-bool : (p q : Bool) → _≡_ {A = ℕ} (pick p 1 0) (pick q 1 0) → p ≡ q
-same-bool true true e = refl
-same-bool true false e = absurd (omega arith)
-same-bool false true e = absurd (omega arith)
-same-bool false false e = refl
-
-firstRight : Bool → ℕ → Bool
-firstRight odd a = eqb (pick (eqb (entryOf (indexOf odd a 0)) noPair) 1 0) (pick (eqb (digitOf (chartOf 3) a odd) 16) 1 0)
-
-pub lost-first : (odd : Bool) (a : ℕ) → a < 16 → eqb (entryOf (indexOf odd a 0)) noPair ≡ eqb (digitOf (chartOf 3) a odd) 16
-unfolding firstRight pairOf decimal placeIn turned digitOf chartOf
-lost-first true a h = same-bool _ _ (eqb→eq _ _ (at-below (firstRight true) 16 tt a h))
-lost-first false a h = same-bool _ _ (eqb→eq _ _ (at-below (firstRight false) 16 tt a h))
-
 module _ (bits : ℕ) (odd : Bool) (sofar place : ℕ) where
   step-marked : (k : ℕ) → topPair k bits odd ≡ 255 → readPairs (suc k) bits odd sofar place ≡ lost (lostAt k bits odd place)
   unfolding readPairs
@@ -112,43 +97,3 @@ hundred-le (suc (suc zero)) h = lit≤ tt
 hundred-le (suc (suc (suc zero))) h = lit≤ tt
 hundred-le (suc (suc (suc (suc zero)))) h = lit≤ tt
 hundred-le (suc (suc (suc (suc (suc k))))) h = absurd (omega arith)
-
-pub uncounted-below : (b zeros : ℕ) (l : Level) → Below b l → Below b (uncounted zeros l)
-uncounted-below b zeros (known v) h = h
-uncounted-below b zeros (lost k) h = tt
-
--- three pairs whose first is 0000 0000 are the other two, but for the places
-no-pair-place : (bits : ℕ) (odd : Bool) (sofar place : ℕ) → uncounted 2 (readPairs 0 bits odd sofar (suc (suc place))) ≡ readPairs 0 bits odd sofar place
-unfolding readPairs
-no-pair-place bits odd sofar place = refl
-
-two-off : (b : Bool) (p : ℕ) → pick b (suc (suc p)) (suc (suc (suc p))) - 2 ≡ pick b p (suc p)
-two-off true p = omega arith
-two-off false p = omega arith
-
-fewer-places : (k bits : ℕ) (odd : Bool) (sofar place : ℕ) → uncounted 2 (readPairs k bits odd sofar (suc (suc place))) ≡ readPairs k bits odd sofar place
-fewer-places zero bits odd sofar place = no-pair-place bits odd sofar place
-fewer-places (suc k) bits odd sofar place =
-    let p = topPair k bits odd in
-    elim (ℕ-discrete p 255) [
-      | yes e ↦
-          rw (step-marked bits odd sofar (suc (suc place)) k e, step-marked bits odd sofar place k e)
-          (ap lost (two-off (eqb (entryOf (indexOf odd (bits / 2 ^ (8 * k + 4) % 16) 0)) noPair) place))
-      | no e ↦
-          rw (step-number bits odd sofar (suc (suc place)) k e, step-number bits odd sofar place k e)
-          (fewer-places k bits (isOdd p) (sofar * 100 + p) (suc (suc place)))
-    ]
-
-top-zero : (bits : ℕ) → bits < 2 ^ 16 → topPair 2 bits false ≡ 0
-unfolding pairOf decimal placeIn turned
-top-zero bits h =
-    let first : bits / 2 ^ (8 * 2 + 4) % 16 ≡ 0 = omega arith in
-    let second : bits / 2 ^ (8 * 2) % 16 ≡ 0 = omega arith in
-    rw (first, second)
-
-pub zero-pair : (bits : ℕ) → bits < 2 ^ 16 → uncounted 2 (readPairs 3 bits false 0 0) ≡ readPairs 2 bits false 0 0
-zero-pair bits h =
-    let z = top-zero bits h in
-    let none : topPair 2 bits false ≡ 255 → ⊥ = λ e. omega (arith, z, e) in
-    let on : readPairs 3 bits false 0 0 ≡ readPairs 2 bits false 0 2 = step-number bits false 0 0 2 none ∙ rw z in
-    ap (uncounted 2) on ∙ fewer-places 2 bits false 0 0

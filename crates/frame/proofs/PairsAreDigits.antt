@@ -279,19 +279,6 @@ module _ (m : Mode) (p : Paired m) (n : ℕ) where
   one-above =
       ap (uncounted 1) (zero-above (decimals (suc (p .below))) bits 0 none-above) ∙ uncounted-row (decimals (suc (p .below))) bits false 0 0 ∙ sym plain
 
-  -- five digits read those of a mode that has five or four
-  pub by-five : (suc (p .below) ≡ 5) ⊎ (suc (p .below) ≡ 4) → uncounted (5 - suc (p .below)) (readRow (decimals 5) bits false 0 0) ≡ levelOf m n
-  by-five = ⊎-elim whole short
-    where
-      whole : suc (p .below) ≡ 5 → uncounted (5 - suc (p .below)) (readRow (decimals 5) bits false 0 0) ≡ levelOf m n
-      whole e = rw (← e) (let none : suc (p .below) - suc (p .below) ≡ 0 = omega arith in rw none (all-counted (readRow (decimals (suc (p .below))) bits false 0 0) ∙ sym plain))
-
-      short : suc (p .below) ≡ 4 → uncounted (5 - suc (p .below)) (readRow (decimals 5) bits false 0 0) ≡ levelOf m n
-      short e =
-          let one : 5 - suc (p .below) ≡ 1 = omega (arith, e) in
-          let five : suc (suc (p .below)) ≡ 5 = omega (arith, e) in
-          rw (one, ← five) one-above
-
   pub same-level : levelByPairs m n ≡ levelOf m n
   unfolding decimals
   same-level =

@@ -1,7 +1,6 @@
 // The frame: polls and replies of the Mark/Space line, read and written. Each call takes every input; a bad one is refused by its
 // number in document 01, and a refused write changes nothing.
 mod charts;
-mod decimals;
 mod heat;
 pub mod kinds;
 mod level;

@@ -1,184 +1,133 @@
-// The four modes. Each mode's type carries its constants: digit count, first bit, the fill bits before the digits (from bit 16) and after
-// them (up to bit 37), largest level, how far the digits stand above the line's lowest bit, the bits of a level outside the mode (every digit
-// bit 1), and the starting state of the digit reader: no odd digit stands above the first, which is always read straight. Where digits are not
-// all decimal, it has their charts in a word too (four bits a digit, the top digit lowest).
+// The four modes. Each mode's type carries its constants, and a level is read and written by those of its own mode.
 ghost use mathlib.Core.Path.{_≡_};
-ghost use mathlib.Core.Logic.{_≢_};
 ghost use Prim.Native.Nat.{_<_, _^_};
-ghost use Rattle.frame.specs.Level.{modeOf, fractionalMode, decimalMode, twentyMetreMode, thirtyMetreMode, putLevel};
+ghost use Rattle.frame.specs.Level.{modeOf, putLevel};
 ghost use Rattle.frame.specs.inside.Packed.{levelCode, secondCode};
-ghost use Rattle.frame.specs.inside.Constants.{Constants, pairedBy};
+ghost use Rattle.frame.specs.inside.Constants.{constantsBy};
 ghost use Rattle.frame.specs.inside.Codes.{placeBy};
-use crate::decimals;
 use crate::level;
 use crate::pairs;
+
+// How many digits a mode has, the bit that they begin at, the fill bits before them (from bit 16) and after them (up to bit 37), its largest
+// level, the charts of its digits in a word (four bits a digit, the top digit lowest), and the state that the digit reader starts in: whether
+// a digit above the first is odd. None stands there, and the first is always read straight.
+pub(crate) struct Constants {
+    pub(crate) digits: u64,
+    pub(crate) first: u64,
+    pub(crate) before: u64,
+    pub(crate) after: u64,
+    pub(crate) largest: u64,
+    pub(crate) charts: u64,
+    pub(crate) start: bool,
+}
 
 // Feet, inches and sixteenths.
 struct Fractional;
 
 impl Fractional {
-    const DIGITS: u64 = 4;
+    const CONSTANTS: Constants = Constants {
+        digits: 4,
+        first: 17,
+        before: 1,
+        after: 6,
+        largest: 15359,
+        charts: 0x5432,
+        start: false,
+    };
 
-    const FIRST: u64 = 17;
+    const SHIFT: u64 = 27 + Self::CONSTANTS.after;
 
-    const BEFORE: u64 = 1;
-
-    const AFTER: u64 = 6;
-
-    const LARGEST: u64 = 15359;
-
-    const CHARTS: u64 = 0x5432;
-
-    const SHIFT: u64 = 27 + Self::AFTER;
-
-    const OUTSIDE: u64 = ((1 << (38 - Self::FIRST - Self::AFTER)) - 1) << Self::SHIFT;
-
-    const START: bool = false;
-
-    fn read(n: u64) -> u64
-        ensures { λ r. ⌜ r ≡ levelCode fractionalMode n ⌝ }
-    {
-        level::read_by(
-            n,
-            Self::DIGITS,
-            Self::FIRST,
-            Self::BEFORE,
-            Self::AFTER,
-            Self::LARGEST,
-            Self::CHARTS,
-            Self::START,
-        )
-    }
+    const OUTSIDE: u64 = ((1 << (38 - Self::CONSTANTS.first - Self::CONSTANTS.after)) - 1)
+        << Self::SHIFT;
 }
 
 // Feet and hundredths.
 struct Decimal;
 
 impl Decimal {
-    const DIGITS: u64 = 4;
+    const CONSTANTS: Constants = Constants {
+        digits: 4,
+        first: 17,
+        before: 1,
+        after: 6,
+        largest: 7999,
+        charts: 0x3332,
+        start: false,
+    };
 
-    const FIRST: u64 = 17;
+    const SHIFT: u64 = 27 + Self::CONSTANTS.after;
 
-    const BEFORE: u64 = 1;
-
-    const AFTER: u64 = 6;
-
-    const LARGEST: u64 = 7999;
-
-    const SHIFT: u64 = 27 + Self::AFTER;
-
-    const OUTSIDE: u64 = ((1 << (38 - Self::FIRST - Self::AFTER)) - 1) << Self::SHIFT;
-
-    const START: bool = false;
+    const OUTSIDE: u64 = ((1 << (38 - Self::CONSTANTS.first - Self::CONSTANTS.after)) - 1)
+        << Self::SHIFT;
 }
 
 // 20 m, in millimetres.
 struct Metres20;
 
 impl Metres20 {
-    const DIGITS: u64 = 5;
+    const CONSTANTS: Constants = Constants {
+        digits: 5,
+        first: 16,
+        before: 0,
+        after: 5,
+        largest: 19999,
+        charts: 0x33330,
+        start: false,
+    };
 
-    const FIRST: u64 = 16;
+    const SHIFT: u64 = 27 + Self::CONSTANTS.after;
 
-    const BEFORE: u64 = 0;
-
-    const AFTER: u64 = 5;
-
-    const LARGEST: u64 = 19999;
-
-    const SHIFT: u64 = 27 + Self::AFTER;
-
-    const OUTSIDE: u64 = ((1 << (38 - Self::FIRST - Self::AFTER)) - 1) << Self::SHIFT;
-
-    const START: bool = false;
+    const OUTSIDE: u64 = ((1 << (38 - Self::CONSTANTS.first - Self::CONSTANTS.after)) - 1)
+        << Self::SHIFT;
 }
 
 // 30 m, in millimetres.
 struct Metres30;
 
 impl Metres30 {
-    const DIGITS: u64 = 5;
+    const CONSTANTS: Constants = Constants {
+        digits: 5,
+        first: 16,
+        before: 0,
+        after: 4,
+        largest: 32699,
+        charts: 0x33331,
+        start: false,
+    };
 
-    const FIRST: u64 = 16;
+    const SHIFT: u64 = 27 + Self::CONSTANTS.after;
 
-    const BEFORE: u64 = 0;
-
-    const AFTER: u64 = 4;
-
-    const LARGEST: u64 = 32699;
-
-    const SHIFT: u64 = 27 + Self::AFTER;
-
-    const OUTSIDE: u64 = ((1 << (38 - Self::FIRST - Self::AFTER)) - 1) << Self::SHIFT;
-
-    const START: bool = false;
+    const OUTSIDE: u64 = ((1 << (38 - Self::CONSTANTS.first - Self::CONSTANTS.after)) - 1)
+        << Self::SHIFT;
 }
 
-// The constants of the modes in decimal digits, by their number.
-fn digits_of(mode: u64) -> u64
-    ensures { λ r. ⌜ r ≡ pairedBy mode .digits ⌝ }
+// The constants of the mode of this number: no mode has code of its own, it is read and written by these.
+pub(crate) fn constants_of(mode: u64) -> Constants
+    ensures { λ r. ⌜ r ≡ constantsBy mode ⌝ }
 {
     match mode {
-        1 => Decimal::DIGITS,
-        2 => Metres20::DIGITS,
-        _ => Metres30::DIGITS,
+        0 => Fractional::CONSTANTS,
+        1 => Decimal::CONSTANTS,
+        2 => Metres20::CONSTANTS,
+        _ => Metres30::CONSTANTS,
     }
 }
 
-fn fill_before(mode: u64) -> u64
-    ensures { λ r. ⌜ r ≡ pairedBy mode .before ⌝ }
-{
-    match mode {
-        1 => Decimal::BEFORE,
-        2 => Metres20::BEFORE,
-        _ => Metres30::BEFORE,
-    }
-}
-
-// Of the three modes each has one fill bit less after its digits than the one before it.
-fn fill_after(mode: u64) -> u64
-    requires { ⌜ mode ≢ 0 ⌝ }
-    requires { ⌜ mode < 4 ⌝ }
-    ensures { λ r. ⌜ r ≡ pairedBy mode .after ⌝ }
-{
-    Decimal::AFTER + 1 - mode
-}
-
-// The level of a line in the mode of this number: the level, or 2 ^ 16 times the fault. Every mode's digit reader starts with no odd digit above, and of
-// the modes in decimal digits only the last has codes for levels above its largest, so that its limit serves all three.
+// The level of a line in the mode of this number: the level, or 2 ^ 16 times the fault.
 pub(crate) fn read_level(mode: u64, n: u64) -> u64
-    requires { ⌜ mode < 4 ⌝ }
     ensures { λ r. ⌜ r ≡ levelCode (modeOf mode) n ⌝ }
 {
-    if mode == 0 {
-        return Fractional::read(n);
-    }
-    decimals::read_by(
-        n,
-        digits_of(mode),
-        fill_before(mode),
-        fill_after(mode),
-        Metres30::LARGEST,
-        Decimal::START,
-    )
+    level::read_by(constants_of(mode), n)
 }
 
 // The same, two digits at a time where all digits are decimal.
 pub(crate) fn read_level_by_pairs(mode: u64, n: u64) -> u64
-    requires { ⌜ mode < 4 ⌝ }
     ensures { λ r. ⌜ r ≡ secondCode mode n ⌝ }
 {
     if mode == 0 {
-        return Fractional::read(n);
+        return read_level(mode, n);
     }
-    pairs::read_by(
-        n,
-        digits_of(mode),
-        fill_before(mode),
-        fill_after(mode),
-        Metres30::LARGEST,
-        Decimal::START,
-    )
+    pairs::read_by(constants_of(mode), n)
 }
 
 // What a level is written by in a mode, of its constants.
@@ -194,22 +143,22 @@ fn place_of(mode: u64) -> Place
 {
     match mode {
         0 => Place {
-            largest: Fractional::LARGEST,
+            largest: Fractional::CONSTANTS.largest,
             shift: Fractional::SHIFT,
             outside: Fractional::OUTSIDE,
         },
         1 => Place {
-            largest: Decimal::LARGEST,
+            largest: Decimal::CONSTANTS.largest,
             shift: Decimal::SHIFT,
             outside: Decimal::OUTSIDE,
         },
         2 => Place {
-            largest: Metres20::LARGEST,
+            largest: Metres20::CONSTANTS.largest,
             shift: Metres20::SHIFT,
             outside: Metres20::OUTSIDE,
         },
         _ => Place {
-            largest: Metres30::LARGEST,
+            largest: Metres30::CONSTANTS.largest,
             shift: Metres30::SHIFT,
             outside: Metres30::OUTSIDE,
         },

@@ -4,12 +4,12 @@ ghost use mathlib.Core.Bool.{Bool};
 ghost use Prim.Native.Nat.{suc, _+_, _-_, _*_, _/_, _%_, _^_, _<_, _≤_};
 ghost use lib.Dec.{eqb};
 ghost use Rattle.frame.specs.Pick.{pick};
-ghost use Rattle.frame.specs.Pairs.{noPair, entryOf, indexOf, readPairs};
-ghost use Rattle.frame.specs.inside.Packed.{readCode};
-ghost use Rattle.frame.specs.inside.Constants.{Constants, readPairsBy};
-use crate::charts;
-use crate::decimals;
+ghost use Rattle.frame.specs.Level.{Level};
+ghost use Rattle.frame.specs.Pairs.{noPair, entryOf, indexOf, readPairs, uncounted};
+ghost use Rattle.frame.specs.inside.Packed.{readCode, Below, levelNumber};
+ghost use Rattle.frame.specs.inside.Constants.{readPairsBy};
 use crate::level;
+use crate::modes::Constants;
 use crate::pair_table;
 
 // The mark for a pair in no chart. Every pair's number is below it.
@@ -43,8 +43,8 @@ fn top_pair(left: u64, bits: u64, odd: bool) -> u64
     entry(odd, (bits >> (at + 4)) % 16, (bits >> at) % 16)
 }
 
-// The place of the digit in no chart of a pair that is marked: its first code is in no chart, or else its second one. The table is asked in
-// one place only, `top_pair`, where the compiler can then put it.
+// The place of the digit in no chart of a pair that is marked. The table is asked again, with 0000 for the second code, which is in the chart from
+// either end: it is marked again exactly if the first code is in no chart.
 fn lost_place(left: u64, bits: u64, odd: bool, place: u64) -> u64
     requires { ⌜ 0 < left ⌝ }
     requires { ⌜ left ≤ 4 ⌝ }
@@ -52,7 +52,7 @@ fn lost_place(left: u64, bits: u64, odd: bool, place: u64) -> u64
     ensures { λ r. ⌜ (r ≡ pick (eqb (entryOf (indexOf odd (bits / 2 ^ (8 * (left - 1) + 4) % 16) 0)) noPair) place (suc place)) × (r ≤ 9) ⌝ }
 {
     let first = (bits >> (8 * (left - 1) + 4)) % 16;
-    if charts::digit(3, first, odd) == 16 {
+    if entry(odd, first, 0) == NO_PAIR {
         return place;
     }
     place + 1
@@ -85,25 +85,40 @@ fn read_pairs(left: u64, bits: u64, odd: bool, sofar: u64, place: u64) -> u64
     read_pairs(left - 1, bits, pair % 2 == 1, next, place + 2)
 }
 
-// A level by its mode's constants, as `decimals::read_by` has them, two digits at a time, six of them in every mode.
-pub(crate) fn read_by(
-    n: u64,
-    digits: u64,
-    before: u64,
-    after: u64,
-    largest: u64,
-    start: bool,
-) -> u64
-    requires { ⌜ 4 ≤ digits ⌝ }
-    requires { ⌜ digits ≤ 5 ⌝ }
-    requires { ⌜ before ≤ 1 ⌝ }
-    requires { ⌜ after ≤ 6 ⌝ }
-    ensures { λ r. ⌜ r ≡ readPairsBy (record { digits = digits; first = 16 + before; before = before; after = after; largest = largest; charts = 0; start = start }) n ⌝ }
+// A place counted from the first digit of the mode: digits 0000 that stand before it are not counted.
+fn less_zeros(zeros: u64, place: u64) -> u64
+    ensures { λ r. ⌜ r ≡ place - zeros ⌝ }
 {
-    let bits = decimals::clear_digits(n, before, after);
-    if bits == decimals::UNCLEAR {
+    if place < zeros {
+        return 0;
+    }
+    place - zeros
+}
+
+// What was read, as `level::judged` has it, with the place so counted.
+fn judged(largest: u64, zeros: u64, v: u64) -> u64
+    ensures { λ r. ⌜ ((l : Level) → Below (2 ^ 32) l → v ≡ readCode l → r ≡ levelNumber largest (uncounted zeros l)) ⌝ }
+{
+    if level::LOST <= v {
+        return 7 * level::FAULT + less_zeros(zeros, v - level::LOST);
+    }
+    level::judged(largest, v)
+}
+
+// A level by its mode's constants, as `level::read_by` has it, two digits at a time. A digit 0000 stands before digits that are odd in number: read
+// straight it is 0 and even, so that the first digit of the mode is still read straight.
+pub(crate) fn read_by(k: Constants, n: u64) -> u64
+    requires { ⌜ k .digits ≤ 5 ⌝ }
+    requires { ⌜ 16 ≤ k .first ⌝ }
+    requires { ⌜ k .first ≤ 17 ⌝ }
+    requires { ⌜ k .before ≤ 1 ⌝ }
+    requires { ⌜ k .after ≤ 6 ⌝ }
+    ensures { λ r. ⌜ r ≡ readPairsBy k n ⌝ }
+{
+    if !level::fill_clear(n, k.before, k.after) {
         return 6 * level::FAULT;
     }
-    let v = read_pairs(3, bits, start, 0, 0);
-    decimals::judged(largest, 6 - digits, v)
+    let bits = level::digit_bits(n, k.first, k.after);
+    let v = read_pairs((k.digits + 1) / 2, bits, k.start, 0, 0);
+    judged(k.largest, k.digits % 2, v)
 }

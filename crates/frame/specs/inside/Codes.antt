@@ -6,7 +6,7 @@ use lib.Bits.{bitAnd, bitXor}
 use lib.Dec.{eqb}
 use Rattle.frame.specs.declared.modes.Place.{Place}
 use Rattle.frame.specs.Pick.{pick}
-use Rattle.frame.specs.inside.Constants.{Constants, fractional, pairedBy, digitBits}
+use Rattle.frame.specs.inside.Constants.{Constants, constantsBy, digitBits}
 
 -- What stands above the last two digits: feet in the fractional mode, hundreds in any other.
 abbrev pub aboveTwo : Bool → ℕ → ℕ
@@ -35,10 +35,7 @@ unfoldable pub codesIn : Bool → ℕ → ℕ
 codesIn fractional v =
     codesWord (turnedWord (digitsWord fractional v) (pick fractional 0x6640 0x6666)) (pick fractional 0x1100 0x1111)
 
--- The constants of the mode of a number, and what of them a level is written by.
-abbrev pub constantsBy : ℕ → Constants
-constantsBy k = pick (eqb k 0) fractional (pairedBy k)
-
+-- What of a mode's constants a level is written by.
 abbrev pub placeFor : Constants → Place
 placeFor k =
     record {

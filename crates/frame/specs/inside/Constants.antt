@@ -3,21 +3,11 @@
 use mathlib.Core.Bool.{Bool, false, _&&_}
 use Prim.Native.Nat.{ℕ, _+_, _-_, _*_, _/_, _%_, _^_}
 use lib.Dec.{eqb, leb}
+pub use Rattle.frame.specs.declared.modes.Constants.{Constants}
 use Rattle.frame.specs.Pick.{pick}
 use Rattle.frame.specs.Level.{readRow}
 use Rattle.frame.specs.Pairs.{readPairs, uncounted}
 use Rattle.frame.specs.inside.Packed.{rowOf, levelNumber, writeUp}
-
--- How many digits, the bit that they begin at, the fill bits before them (from bit 16) and after them (up to bit 37), the largest level, the
--- charts of the digits in a word, and the state that the digit reader starts in: whether a digit above the first is odd.
-pub record Constants : Type 0 where
-  pub digits : ℕ
-  pub first : ℕ
-  pub before : ℕ
-  pub after : ℕ
-  pub largest : ℕ
-  pub charts : ℕ
-  pub start : Bool
 
 abbrev pub fractional : Constants
 fractional = record { digits = 4; first = 17; before = 1; after = 6; largest = 15359; charts = 0x5432; start = false }
@@ -30,6 +20,10 @@ metres20 = record { digits = 5; first = 16; before = 0; after = 5; largest = 199
 
 abbrev pub metres30 : Constants
 metres30 = record { digits = 5; first = 16; before = 0; after = 4; largest = 32699; charts = 0x33331; start = false }
+
+-- The constants of the mode of a number.
+abbrev pub constantsBy : ℕ → Constants
+constantsBy k = pick (eqb k 0) fractional (pick (eqb k 1) decimalFeet (pick (eqb k 2) metres20 metres30))
 
 -- The fill bits before and after the digits are 0.
 abbrev pub fillAt : ℕ → ℕ → ℕ → Bool
@@ -49,23 +43,12 @@ readBy k n =
     (levelNumber (k .largest) (readRow (rowOf (k .charts) (k .digits)) (cutBy k n) (k .start) 0 0))
     (6 * 2 ^ 16)
 
--- The same by five decimal digits, whatever the digits: a digit 0000 stands before them where they are four.
-abbrev pub readDecimalsBy : Constants → ℕ → ℕ
-readDecimalsBy k n =
-    pick (fillAt n (k .before) (k .after))
-    (levelNumber (k .largest) (uncounted (5 - k .digits) (readRow (rowOf 0x33333 5) (cutBy k n) (k .start) 0 0)))
-    (6 * 2 ^ 16)
-
--- The same by three pairs, whatever the digits: as many digits 0000 stand before them as are missing to six.
+-- The same two digits at a time, after a digit 0000 where they are odd in number.
 abbrev pub readPairsBy : Constants → ℕ → ℕ
 readPairsBy k n =
     pick (fillAt n (k .before) (k .after))
-    (levelNumber (k .largest) (uncounted (6 - k .digits) (readPairs 3 (cutBy k n) (k .start) 0 0)))
+    (levelNumber (k .largest) (uncounted (k .digits % 2) (readPairs ((k .digits + 1) / 2) (cutBy k n) (k .start) 0 0)))
     (6 * 2 ^ 16)
-
--- The constants of the mode of a number, where its digits are decimal.
-abbrev pub pairedBy : ℕ → Constants
-pairedBy k = pick (eqb k 1) decimalFeet (pick (eqb k 2) metres20 metres30)
 
 -- The codes of a level's digits, written from the ones digit up.
 abbrev pub codesBy : Constants → ℕ → ℕ

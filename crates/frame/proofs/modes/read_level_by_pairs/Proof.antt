@@ -1,59 +1,33 @@
--- `frame::modes::read_level_by_pairs` meets its contract: of the fractional mode the plain reader, of the others their constants. Assumes
--- nothing.
-use mathlib.Core.Path.{_≡_, _∙_}
-use mathlib.Core.Bool.{false}
-use Prim.Native.Nat.{ℕ, _+_}
-use Rattle.frame.specs.inside.Packed.{secondCode}
-use Rattle.frame.specs.inside.Constants.{Constants, readPairsBy, pairedBy}
-use Rattle.frame.proofs.SecondReader.{allowed, second-0, second-else}
+-- `frame::modes::read_level_by_pairs` meets its contract: of the fractional mode the plain reader, of any other its pairs by its constants.
+-- Assumes nothing.
+use mathlib.Core.Path.{_≡_, ap, _∙_}
+use Prim.Native.Nat.{ℕ}
+use Rattle.frame.specs.inside.Constants.{Constants, readPairsBy}
+use Rattle.frame.proofs.Constants.{allowed}
+use Rattle.frame.proofs.SecondReader.{second-0, second-else}
 use borrow.Author.Needs.{needs}
 use Rattle.frame.proofs.modes.read_level_by_pairs.Statement.{statement}
 use Rattle.frame.proofs.modes.read_level_by_pairs.Tie as tie
 
-read-requires : tie.Need-read-requires
-read-requires c κs = search needs
+read-level-requires : tie.Need-read-level-requires
+read-level-requires c κs = search needs
 
 returns : tie.Need-returns
-returns c = let a = c .before .before .args in c .read .ensures ∙ second-0 (a .mode) (a .n) (c .before .if1 .taken)
+returns c = let a = c .before .before .args in c .read-level .ensures ∙ second-0 (a .mode) (a .n) (c .before .if1 .taken)
 
-digits-of-requires : tie.Need-digits-of-requires
-digits-of-requires c κs = search needs
-
-fill-before-requires : tie.Need-fill-before-requires
-fill-before-requires c κs = search needs
-
-fill-after-requires : tie.Need-fill-after-requires
-fill-after-requires c κs = search needs
+constants-of-requires : tie.Need-constants-of-requires
+constants-of-requires c κs = search needs
 
 read-by-requires : tie.Need-read-by-requires
-read-by-requires c κs =
-    let after = c in
-    let before = after .before in
-    let digits = before .before in
-    rw (digits .digits-of .ensures, before .fill-before .ensures, after .fill-after .ensures) (allowed (digits .before .before .args .mode))
+read-by-requires c κs = rw (c .constants-of .ensures) (allowed (c .before .before .args .mode))
 
 returns-2 : tie.Need-returns-2
 returns-2 c =
-    let after = c .before in
-    let before = after .before in
-    let digits = before .before in
-    let a = digits .before .before .args in
-    let k = a .mode in
-    let d : digits .digits-of .result ≡ pairedBy k .digits = digits .digits-of .ensures in
-    let b : before .fill-before .result ≡ pairedBy k .before = before .fill-before .ensures in
-    let e : after .fill-after .result ≡ pairedBy k .after = after .fill-after .ensures in
-    let step : readPairsBy (record { digits = digits .digits-of .result; first = 16 + before .fill-before .result; before = before .fill-before .result; after = after .fill-after .result; largest = 32699; charts = 0; start = false }) (a .n) ≡ secondCode k (a .n) =
-    rw (d, b, e) (second-else k (a .n) (digits .before .if1 .left)) in
-    c .read-by .ensures ∙ step
+    let p = c .before in
+    let a = p .before .before .args in
+    c .read-by .ensures ∙ ap (λ (k : Constants). readPairsBy k (a .n)) (p .constants-of .ensures) ∙ second-else (a .mode) (a .n) (p .before .if1 .left)
 
 pub read-level-by-pairs-spec : {M : Type 1} → statement M
 read-level-by-pairs-spec =
     tie.close
-    (tie.spec
-    read-requires
-    returns
-    digits-of-requires
-    fill-before-requires
-    fill-after-requires
-    read-by-requires
-    returns-2)
+    (tie.spec read-level-requires returns constants-of-requires read-by-requires returns-2)

@@ -1,8 +1,8 @@
--- `frame::decimals::less_zeros` meets its contract: each return is the definition by its test. Assumes nothing.
+-- `frame::pairs::less_zeros` meets its contract: each return is the definition by its test. Assumes nothing.
 use native.Mathlib.Omega.{arith}
 use borrow.Author.Needs.{needs}
-use Rattle.frame.proofs.decimals.less_zeros.Statement.{statement}
-use Rattle.frame.proofs.decimals.less_zeros.Tie as tie
+use Rattle.frame.proofs.pairs.less_zeros.Statement.{statement}
+use Rattle.frame.proofs.pairs.less_zeros.Tie as tie
 
 returns : tie.Need-returns
 returns c = omega (arith, c .if1 .taken)

@@ -1,4 +1,4 @@
--- `frame::decimals::judged` meets its contract: by whether a level was read or a digit was in no chart. Assumes nothing.
+-- `frame::pairs::judged` meets its contract: by whether a level was read or a digit was in no chart. Assumes nothing.
 use mathlib.Core.Path.{_≡_, refl, ap, _∙_}
 use Prim.Native.Nat.{ℕ, _+_, _-_, _*_, _^_, _<_, _≤_}
 use native.Mathlib.Omega.{arith}
@@ -6,8 +6,8 @@ use Rattle.frame.specs.Level.{Level, known, lost}
 use Rattle.frame.specs.Pairs.{uncounted}
 use Rattle.frame.specs.inside.Packed.{readCode, Below, levelNumber}
 use borrow.Author.Needs.{needs}
-use Rattle.frame.proofs.decimals.judged.Statement.{statement}
-use Rattle.frame.proofs.decimals.judged.Tie as tie
+use Rattle.frame.proofs.pairs.judged.Statement.{statement}
+use Rattle.frame.proofs.pairs.judged.Tie as tie
 
 was-lost : (largest zeros v : ℕ) → 2 ^ 32 ≤ v → (l : Level) → Below (2 ^ 32) l → v ≡ readCode l → 7 * 65536 + (v - 2 ^ 32 - zeros) ≡ levelNumber largest (uncounted zeros l)
 was-lost largest zeros v h (known w) small e = absurd (omega arith)
