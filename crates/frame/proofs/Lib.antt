@@ -26,7 +26,6 @@ pub mod Refusals
 pub mod Fronts
 pub mod Parts
 pub mod Counted
-pub mod Oddness
 pub mod Sums
 pub mod Tenths
 pub mod Parity

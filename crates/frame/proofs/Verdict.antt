@@ -6,16 +6,15 @@ use mathlib.Core.List.{List, [], _∷_}
 use Prim.Native.Nat.{ℕ, suc, _+_, _*_, _/_, _%_, _^_, _<_, _≤_}
 use native.Mathlib.Omega.{arith}
 use borrow.Author.Tests.{eqb-true, ltb-true, ltb-false}
-use lib.Count.{ones}
 use lib.Dec.{eqb, ltb, lit<}
 use lib.ListN.{length}
 use Rattle.frame.specs.declared.Reply.the-variants.{Read, Refused, Unreadable}
 use Rattle.frame.specs.Pick.{pick}
-use Rattle.frame.specs.Line.{line, bit, marks, threeDecimal, threeDigits}
+use Rattle.frame.specs.Line.{line, bit, threeDecimal, threeDigits}
 use Rattle.frame.specs.Charts.{Chart, sizeOf, isOdd, turned, placeIn}
 use Rattle.frame.specs.Level.{Level, known, lost, Mode, widthOf, readRow, levelOf, fillClear, noChart, valueOf, placeLost, aboveLargest}
 use Rattle.frame.specs.Temperature.{isBad}
-use Rattle.frame.specs.Reply.{modeIn, heatIn, oddParity, parityRight, readingAt, refusedBy, replyOf}
+use Rattle.frame.specs.Reply.{modeIn, heatIn, parityRight, readingAt, refusedBy, replyOf}
 use Rattle.frame.specs.inside.Packed.{levelNumber, levelCode, lineFault, lineReply, levelReply, heatReply, levelledReply, unreadFault, unfitFault}
 use Rattle.frame.proofs.Answers.{refused-by}
 use Rattle.frame.proofs.Refusals.{plain-by, unread-line}
@@ -192,37 +191,34 @@ module _ (settings address count : ℕ) (s : List ℕ) where
             go true e = sym (line-read (ltb-true (levelCode (modeIn settings) (line s)) 65536 e))
             go false e = sym (line-level (ltb-false (levelCode (modeIn settings) (line s)) 65536 e))
 
--- the answer by the first refusal before the level, where the line's ones are the marks of its bytes
-module _ (settings address count : ℕ) (s : List ℕ) (same : ones (line s) ≡ marks s) where
+-- the answer by the first refusal before the level
+module _ (settings address count : ℕ) (s : List ℕ) where
   abbrev unfit : Bool → Bool → Bool → ℕ
   unfit a b c = pick a 3 (pick (not b) 4 (pick (not c) 5 0))
 
-  by-ones : (c : Bool) → eqb (ones (line s) % 2) (oddParity settings) ≡ c → parityRight settings s ≡ c
-  by-ones c e = rw (← same) e
-
-  pub unfit-refused : (unfitFault settings address (line s) ≡ 0 → ⊥) → lineReply settings address count s ≡ Refused (unfitFault settings address (line s))
-  unfit-refused = go (eqb (bit (line s) 1) 0) (right4 settings address count s) (eqb (ones (line s) % 2) (oddParity settings)) refl refl refl
+  pub unfit-refused : (unfitFault settings address (line s) s ≡ 0 → ⊥) → lineReply settings address count s ≡ Refused (unfitFault settings address (line s) s)
+  unfit-refused = go (eqb (bit (line s) 1) 0) (right4 settings address count s) (parityRight settings s) refl refl refl
     where
-      go : (a b c : Bool) → eqb (bit (line s) 1) 0 ≡ a → right4 settings address count s ≡ b → eqb (ones (line s) % 2) (oddParity settings) ≡ c
+      go : (a b c : Bool) → eqb (bit (line s) 1) 0 ≡ a → right4 settings address count s ≡ b → parityRight settings s ≡ c
           → (unfit a b c ≡ 0 → ⊥) → lineReply settings address count s ≡ Refused (unfit a b c)
       go true b c ea eb ec some = line-3 settings address count s ea
       go false false c ea eb ec some = line-4 settings address count s ea eb
-      go false true false ea eb ec some = line-5 settings address count s ea eb (by-ones false ec)
+      go false true false ea eb ec some = line-5 settings address count s ea eb ec
       go false true true ea eb ec some = absurd (some refl)
 
-  pub unfit-levelled : unfitFault settings address (line s) ≡ 0
+  pub unfit-levelled : unfitFault settings address (line s) s ≡ 0
       → levelledReply settings count (line s) (levelCode (modeIn settings) (line s)) ≡ lineReply settings address count s
-  unfit-levelled = go (eqb (bit (line s) 1) 0) (right4 settings address count s) (eqb (ones (line s) % 2) (oddParity settings)) refl refl refl
+  unfit-levelled = go (eqb (bit (line s) 1) 0) (right4 settings address count s) (parityRight settings s) refl refl refl
     where
-      go : (a b c : Bool) → eqb (bit (line s) 1) 0 ≡ a → right4 settings address count s ≡ b → eqb (ones (line s) % 2) (oddParity settings) ≡ c
+      go : (a b c : Bool) → eqb (bit (line s) 1) 0 ≡ a → right4 settings address count s ≡ b → parityRight settings s ≡ c
           → unfit a b c ≡ 0 → levelledReply settings count (line s) (levelCode (modeIn settings) (line s)) ≡ lineReply settings address count s
       go true b c ea eb ec none = absurd (omega (arith, none))
       go false false c ea eb ec none = absurd (omega (arith, none))
       go false true false ea eb ec none = absurd (omega (arith, none))
-      go false true true ea eb ec none = line-levelled settings address count s ea eb (by-ones true ec)
+      go false true true ea eb ec none = line-levelled settings address count s ea eb ec
 
-pub unfit-small : (settings address n : ℕ) → unfitFault settings address n < 256
-unfit-small settings address n = go (eqb (bit n 1) 0) (not (threeDecimal n 4 && eqb (threeDigits n 4) address)) (not (eqb (ones n % 2) (oddParity settings)))
+pub unfit-small : (settings address n : ℕ) (s : List ℕ) → unfitFault settings address n s < 256
+unfit-small settings address n s = go (eqb (bit n 1) 0) (not (threeDecimal n 4 && eqb (threeDigits n 4) address)) (not (parityRight settings s))
   where
     go : (a b c : Bool) → pick a 3 (pick b 4 (pick c 5 0)) < 256
     go true b c = lit< tt
@@ -231,17 +227,16 @@ unfit-small settings address n = go (eqb (bit n 1) 0) (not (threeDecimal n 4 && 
     go false false false = lit< tt
 
 -- the same of the whole reply, whose line is n
-module _ (settings address count n : ℕ) (s : List ℕ) (is : n ≡ line s) (same : ones n ≡ marks s) (read : unreadFault settings address count s ≡ 0) where
-  by-line : ones (line s) ≡ marks s
-  by-line = rw (← is) same
+module _ (settings address count n : ℕ) (s : List ℕ) (is : n ≡ line s) (read : unreadFault settings address count s ≡ 0) where
+  same-fault : unfitFault settings address n s ≡ unfitFault settings address (line s) s
+  same-fault = ap (λ (m : ℕ). unfitFault settings address m s) is
 
-  pub reply-unfit : (unfitFault settings address n ≡ 0 → ⊥) → Refused (unfitFault settings address n) ≡ replyOf settings address count s
+  pub reply-unfit : (unfitFault settings address n s ≡ 0 → ⊥) → Refused (unfitFault settings address n s) ≡ replyOf settings address count s
   reply-unfit some =
-      let n-is : unfitFault settings address n ≡ unfitFault settings address (line s) = ap (unfitFault settings address) is in
-      ap Refused n-is ∙ sym (unread-line settings address count s read ∙ unfit-refused settings address count s by-line (λ e. some (n-is ∙ e)))
+      ap Refused same-fault ∙ sym (unread-line settings address count s read ∙ unfit-refused settings address count s (λ e. some (same-fault ∙ e)))
 
-  pub reply-levelled : unfitFault settings address n ≡ 0 → levelledReply settings count n (levelCode (modeIn settings) n) ≡ replyOf settings address count s
+  pub reply-levelled : unfitFault settings address n s ≡ 0 → levelledReply settings count n (levelCode (modeIn settings) n) ≡ replyOf settings address count s
   reply-levelled none =
       ap (λ (m : ℕ). levelledReply settings count m (levelCode (modeIn settings) m)) is
-      ∙ unfit-levelled settings address count s by-line (sym (ap (unfitFault settings address) is) ∙ none)
+      ∙ unfit-levelled settings address count s (sym same-fault ∙ none)
       ∙ sym (unread-line settings address count s read)

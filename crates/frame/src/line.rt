@@ -2,9 +2,8 @@
 ghost use mathlib.Core.Path.{_≡_};
 ghost use Prim.Native.Nat.{_+_, _*_, _^_, _≤_};
 ghost use mathlib.Core.Logic.{_≢_};
-ghost use lib.Count.{ones};
 ghost use lib.ListN.{length};
-ghost use Rattle.frame.specs.Line.{formed, line, mark, marks};
+ghost use Rattle.frame.specs.Line.{formed, line, mark};
 ghost use Rattle.frame.specs.inside.Packed.{threeBy, threeOf};
 
 // A line is lent in the right form: at most 64 bits, exactly the bytes for its count, pad bits 0.
@@ -55,31 +54,31 @@ pub(crate) fn mark(b: bool) -> u64
     if b { 1 } else { 0 }
 }
 
-// Two bytes, words or double words as one number, the first of them higher; its ones are those of both.
+// Two bytes, words or double words as one number, the first of them higher.
 pub(crate) fn two(a: u8, b: u8) -> u16
-    ensures { λ r. ⌜ (r ≡ a * 256 + b) × (ones r ≡ ones a + ones b) ⌝ }
+    ensures { λ r. ⌜ r ≡ a * 256 + b ⌝ }
 {
     (a as u16) * 256 + (b as u16)
 }
 
 fn four(a: u16, b: u16) -> u32
-    ensures { λ r. ⌜ (r ≡ a * 2 ^ 16 + b) × (ones r ≡ ones a + ones b) ⌝ }
+    ensures { λ r. ⌜ r ≡ a * 2 ^ 16 + b ⌝ }
 {
     (a as u32) * 0x10000 + (b as u32)
 }
 
 fn eight(a: u32, b: u32) -> u64
-    ensures { λ r. ⌜ (r ≡ a * 2 ^ 32 + b) × (ones r ≡ ones a + ones b) ⌝ }
+    ensures { λ r. ⌜ r ≡ a * 2 ^ 32 + b ⌝ }
 {
     (a as u64) * 0x100000000 + (b as u64)
 }
 
-// The 5 or 7 bytes of a reply as one word, bit 1 highest; its ones are the marks of the bytes.
+// The 5 or 7 bytes of a reply as one word, bit 1 highest.
 pub(crate) fn pack(reply: &[u8]) -> u64
     requires { ⌜ 5 ≤ length (now reply) ⌝ }
     requires { ⌜ length (now reply) ≤ 7 ⌝ }
     requires { ⌜ length (now reply) ≢ 6 ⌝ }
-    ensures { λ r. ⌜ (r ≡ line (now (reply .entry))) × (ones r ≡ marks (now (reply .entry))) ⌝ }
+    ensures { λ r. ⌜ r ≡ line (now (reply .entry)) ⌝ }
 {
     let front = four(two(reply[0], reply[1]), two(reply[2], reply[3]));
     if reply.len() == 7 {

@@ -1,11 +1,12 @@
 // A reply: its refusals in their order, by what is asked before its bits, of its line, and of its level and temperature; and the reading.
 ghost use mathlib.Core.Path.{_≡_};
+ghost use mathlib.Core.Logic.{_≢_};
 ghost use lib.Dec.{eqb};
+ghost use lib.ListN.{length};
 ghost use Prim.Native.Nat.{ℕ, _≤_, _<_, _%_, _^_};
-ghost use lib.Count.{ones};
 ghost use Rattle.frame.specs.Pick.{pick};
-ghost use Rattle.frame.specs.Line.{formed};
-ghost use Rattle.frame.specs.Reply.{heatIn, oddParity, replyOf};
+ghost use Rattle.frame.specs.Line.{formed, marks};
+ghost use Rattle.frame.specs.Reply.{heatIn, parityRight, replyOf};
 ghost use Rattle.frame.specs.inside.Packed.{heatBy, heatReply, levelReply, formFault, unreadFault, unfitFault};
 use crate::Reading;
 use crate::Reply;
@@ -62,20 +63,42 @@ fn unread(settings: u8, address: u16, count: usize, reply: &[u8]) -> u64
     misformed(count, reply)
 }
 
-// Whether a line's marks, which are those of its bytes, are even in number, or odd, by setting. Of the count only the last bit is asked for, which
-// a few instructions tell.
-fn parity_right(settings: u8, n: u64) -> bool
-    ensures { λ r. ⌜ r ≡ eqb (ones n % 2) (oddParity settings) ⌝ }
+// The marks of a reply of 5 or 7 bytes, counted over its bytes.
+fn marks(reply: &[u8]) -> u32
+    requires { ⌜ 5 ≤ length (now reply) ⌝ }
+    requires { ⌜ length (now reply) ≤ 7 ⌝ }
+    requires { ⌜ length (now reply) ≢ 6 ⌝ }
+    ensures { λ r. ⌜ r ≡ marks (now (reply .entry)) ⌝ }
 {
-    let odd = u64::count_ones(n) % 2 == 1;
-    if settings / 8 % 2 == 1 { odd } else { !odd }
+    let five = u8::count_ones(reply[0])
+        + u8::count_ones(reply[1])
+        + u8::count_ones(reply[2])
+        + u8::count_ones(reply[3])
+        + u8::count_ones(reply[4]);
+    if reply.len() == 7 {
+        return five + u8::count_ones(reply[5]) + u8::count_ones(reply[6]);
+    }
+    five
 }
 
-// The first refusal of a line before its level, 3, 4 or 5, and 0 for none. The address is compared in its digits, since those of an address that
-// was polled are decimal.
-fn unfit(settings: u8, address: u16, n: u64) -> u64
+// Parity covers the whole reply, parity bit included: its marks are even in number, or odd, by setting.
+fn parity_right(settings: u8, reply: &[u8]) -> bool
+    requires { ⌜ 5 ≤ length (now reply) ⌝ }
+    requires { ⌜ length (now reply) ≤ 7 ⌝ }
+    requires { ⌜ length (now reply) ≢ 6 ⌝ }
+    ensures { λ r. ⌜ r ≡ parityRight settings (now (reply .entry)) ⌝ }
+{
+    marks(reply) % 2 == (settings / 8 % 2) as u32
+}
+
+// The first refusal of a reply before its level, 3, 4 or 5, and 0 for none; `n` is its line. The address is compared in its digits, since those
+// of an address that was polled are decimal.
+fn unfit(settings: u8, address: u16, n: u64, reply: &[u8]) -> u64
     requires { ⌜ address ≤ 999 ⌝ }
-    ensures { λ r. ⌜ r ≡ unfitFault settings address n ⌝ }
+    requires { ⌜ 5 ≤ length (now reply) ⌝ }
+    requires { ⌜ length (now reply) ≤ 7 ⌝ }
+    requires { ⌜ length (now reply) ≢ 6 ⌝ }
+    ensures { λ r. ⌜ r ≡ unfitFault settings address n (now (reply .entry)) ⌝ }
 {
     if n < line::BIT_1 {
         return 3;
@@ -83,7 +106,7 @@ fn unfit(settings: u8, address: u16, n: u64) -> u64
     if (n >> 49) % 4096 != line::three_of(address as u64) {
         return 4;
     }
-    if !parity_right(settings, n) {
+    if !parity_right(settings, reply) {
         return 5;
     }
     0
@@ -137,7 +160,7 @@ pub(crate) fn read(settings: u8, address: u16, count: usize, reply: &[u8]) -> Re
         return Reply::Refused(early as u8);
     }
     let n = line::pack(reply);
-    let fault = unfit(settings, address, n);
+    let fault = unfit(settings, address, n, reply);
     if fault != 0 {
         return Reply::Refused(fault as u8);
     }
@@ -157,7 +180,7 @@ pub(crate) fn read_by_pairs(settings: u8, address: u16, count: usize, reply: &[u
         return Reply::Refused(early as u8);
     }
     let n = line::pack(reply);
-    let fault = unfit(settings, address, n);
+    let fault = unfit(settings, address, n, reply);
     if fault != 0 {
         return Reply::Refused(fault as u8);
     }

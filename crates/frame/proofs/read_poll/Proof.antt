@@ -63,7 +63,7 @@ is-two c = eq-eqb _ _ (c .before .before .before .if1 .left)
 
 line-is : (c : tie.After-two) → c .two .result * 2 ^ 48 ≡ line (c .before .before .before .before .before .args .poll .now)
 line-is c =
-    ap (λ (n : ℕ). n * 2 ^ 48) (c .two .ensures .0)
+    ap (λ (n : ℕ). n * 2 ^ 48) (c .two .ensures)
     ∙ sym (two-line (c .before .before .before .before .before .args .poll .now) (c .before .before .before .if1 .left))
 
 started : (c : tie.Else2) → eqb (bit (line (c .before .before .before .before .before .before .args .poll .now)) 1) 0 ≡ false

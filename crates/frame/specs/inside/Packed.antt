@@ -4,7 +4,6 @@ use mathlib.Core.Bool.{Bool, false, not, _&&_}
 use mathlib.Core.List.{List, [], _∷_, map}
 use Prim.Native.Nat.{ℕ, zero, suc, _+_, _-_, _*_, _/_, _%_, _^_, _<_}
 use lib.Dec.{eqb, ltb, leb}
-use lib.Count.{ones}
 use lib.ListN.{drop}
 use Rattle.frame.specs.declared.heat.Told.{Told}
 use Rattle.frame.specs.declared.heat.Told.the-variants.{Is, Bad}
@@ -13,7 +12,7 @@ use Rattle.frame.specs.declared.Reply.the-variants.{Read, Refused, Unrea
 use Rattle.frame.specs.Pick.{pick}
 use Rattle.frame.specs.Line.{line, bit, formed, threeDecimal, threeDigits}
 use Rattle.frame.specs.Faults.{firstOf}
-use Rattle.frame.specs.Reply.{modeIn, oddParity, replyTests, heatIn, readingAt, refusedBy}
+use Rattle.frame.specs.Reply.{modeIn, parityRight, replyTests, heatIn, readingAt, refusedBy}
 use Rattle.frame.specs.Charts.{Chart, oneBit, twoBits, feetTens, decimal, inches, sixteenths, placeIn, sizeOf, isOdd, turned, codeOf}
 use Rattle.frame.specs.declared.Temperature.the-variants as temperature
 use Rattle.frame.specs.Temperature.{Heat, told, bad, signed, isBad, temperatureOf}
@@ -115,11 +114,10 @@ formFault count s =
 abbrev pub unreadFault : ℕ → ℕ → ℕ → List ℕ → ℕ
 unreadFault settings address count s = pick (ltb 15 settings) 10 (pick (ltb 999 address) 11 (formFault count s))
 
--- The first refusal of a line before its level, 0 for none: 3, 4 and 5, parity over the ones of its number.
-abbrev pub unfitFault : ℕ → ℕ → ℕ → ℕ
-unfitFault settings address n =
-    pick (eqb (bit n 1) 0) 3
-    (pick (not (threeDecimal n 4 && eqb (threeDigits n 4) address)) 4 (pick (not (eqb (ones n % 2) (oddParity settings))) 5 0))
+-- The first refusal of a reply before its level, 0 for none: 3, 4 and 5; n is its line.
+abbrev pub unfitFault : ℕ → ℕ → ℕ → List ℕ → ℕ
+unfitFault settings address n s =
+    pick (eqb (bit n 1) 0) 3 (pick (not (threeDecimal n 4 && eqb (threeDigits n 4) address)) 4 (pick (not (parityRight settings s)) 5 0))
 
 -- What is left to test of a reply of the right form and length, all but the first five tests: faults 3 to 9, and what it answers.
 unfoldable pub lineFault : ℕ → ℕ → ℕ → List ℕ → ℕ

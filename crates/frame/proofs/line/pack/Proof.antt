@@ -4,8 +4,6 @@ use borrow.Author.Needs.{needs}
 use native.Mathlib.Omega.{arith}
 use lib.ListN.{List·getD-eq-default}
 use Rattle.frame.specs.Line.{line}
-use Rattle.frame.proofs.Counted.{ones-zero}
-use Rattle.frame.proofs.Oddness.{five-bytes, seven-bytes}
 use Rattle.frame.proofs.line.pack.Statement.{statement}
 use Rattle.frame.proofs.line.pack.Tie as tie
 
@@ -55,7 +53,7 @@ returns : tie.Need-returns
 unfolding line
 returns c =
     let s = c .before .before .before .before .before .before .before .before .before .before .before .before .before .before .before .before .args .reply .now in
-    (omega (arith, List·getD-eq-default s 0 {n = 7} (omega arith)), omega (arith, seven-bytes s (omega arith), ones-zero))
+    omega (arith, List·getD-eq-default s 0 {n = 7} (omega arith))
 
 shared-slice-read-two-8 : tie.Need-shared-slice-read-two-8
 shared-slice-read-two-8 c = search needs
@@ -73,7 +71,7 @@ returns-2 : tie.Need-returns-2
 unfolding line
 returns-2 c =
     let s = c .before .before .before .before .before .before .before .before .before .before .before .before .before .args .reply .now in
-    (omega (arith, List·getD-eq-default s 0 {n = 5} (omega arith), List·getD-eq-default s 0 {n = 6} (omega arith), List·getD-eq-default s 0 {n = 7} (omega arith)), omega (arith, five-bytes s (omega arith), ones-zero))
+    omega (arith, List·getD-eq-default s 0 {n = 5} (omega arith), List·getD-eq-default s 0 {n = 6} (omega arith), List·getD-eq-default s 0 {n = 7} (omega arith))
 
 pub pack-spec : {M : Type 1} → statement M
 pack-spec =

@@ -23,7 +23,7 @@ answer-is : (c : tie.Else2) → levelledReply (c .before .before .before .before
 answer-is c =
     let p = c .before .before in
     let a = p .before .before .before .before .args in
-    reply-levelled (a .settings) (a .address) (a .count) (p .pack .result) (a .reply .now) (p .pack .ensures .0) (p .pack .ensures .1) (none-early (p .before)) (sym (c .before .unfit .ensures) ∙ c .if2 .left)
+    reply-levelled (a .settings) (a .address) (a .count) (p .pack .result) (a .reply .now) (p .pack .ensures) (none-early (p .before)) (sym (c .before .unfit .ensures) ∙ c .if2 .left)
 
 -- the number of the level
 level-is : (c : tie.After-read-level-by-pairs) → c .read-level-by-pairs .result ≡ levelCode (modeIn (c .before .before .before .before .before .before .before .args .settings)) (c .before .before .before .pack .result)
@@ -51,20 +51,20 @@ pack-requires c κs =
 unfit-requires : tie.Need-unfit-requires
 unfit-requires c κs =
     let a = c .before .before .before .before .args in
-    unread-form (a .settings) (a .address) (a .count) (a .reply .now) (none-early (c .before)) .0
+    unread-form (a .settings) (a .address) (a .count) (a .reply .now) (none-early (c .before))
 
 cast-t11 : tie.Need-cast-t11
 cast-t11 c =
     let p = c .before .before in
     let a = p .before .before .before .before .args in
-    omega (arith, c .before .unfit .ensures, unfit-small (a .settings) (a .address) (p .pack .result))
+    omega (arith, c .before .unfit .ensures, unfit-small (a .settings) (a .address) (p .pack .result) (a .reply .now))
 
 returns-2 : tie.Need-returns-2
 returns-2 c =
     let p = c .before .before in
     let a = p .before .before .before .before .args in
     let e = c .before .unfit .ensures in
-    ap Refused e ∙ reply-unfit (a .settings) (a .address) (a .count) (p .pack .result) (a .reply .now) (p .pack .ensures .0) (p .pack .ensures .1) (none-early (p .before)) (λ none. c .if2 .taken (e ∙ none))
+    ap Refused e ∙ reply-unfit (a .settings) (a .address) (a .count) (p .pack .result) (a .reply .now) (p .pack .ensures) (none-early (p .before)) (λ none. c .if2 .taken (e ∙ none))
 
 cast-read-level-by-pairs : tie.Need-cast-read-level-by-pairs
 cast-read-level-by-pairs c = search needs

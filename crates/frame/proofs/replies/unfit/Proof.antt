@@ -37,24 +37,24 @@ module _ (n address : ℕ) (small : address ≤ 999) where
       matches (field n 4 7) (field n 8 11) (field n 12 15) address small (mod-lt (n / 2 ^ 57) (lit< tt)) (mod-lt (n / 2 ^ 53) (lit< tt)) (mod-lt (n / 2 ^ 49) (lit< tt))
       (sym (twelve n) ∙ e)
 
-started : (c : tie.Else1) → eqb (bit (c .before .args .n) 1) 0 ≡ false
-started c = with-start (c .before .args .n) (c .if1 .left) (omega arith)
+started : (c : tie.Else1) → eqb (bit (c .before .before .args .n) 1) 0 ≡ false
+started c = with-start (c .before .before .args .n) (c .if1 .left) (omega arith)
 
-addressed : (c : tie.Else2) → (threeDecimal (c .before .before .before .args .n) 4 && eqb (threeDigits (c .before .before .before .args .n) 4) (c .before .before .before .args .address)) ≡ true
+addressed : (c : tie.Else2) → (threeDecimal (c .before .before .before .before .args .n) 4 && eqb (threeDigits (c .before .before .before .before .args .n) 4) (c .before .before .before .before .args .address)) ≡ true
 addressed c =
-    let b = c .before .before .before in
-    same-address (b .args .n) (b .args .address) (b .pre) (c .if2 .left ∙ c .before .three-of .ensures)
+    let b = c .before .before .before .before in
+    same-address (b .args .n) (b .args .address) (b .pre .0) (c .if2 .left ∙ c .before .three-of .ensures)
 
 returns : tie.Need-returns
-returns c = rw (without-start (c .before .args .n) (c .if1 .taken))
+returns c = rw (without-start (c .before .before .args .n) (c .if1 .taken))
 
 three-of-requires : tie.Need-three-of-requires
 three-of-requires c κs = search needs
 
 returns-2 : tie.Need-returns-2
 returns-2 c =
-    let b = c .before .before .before in
-    rw (started (c .before .before), other-address (b .args .n) (b .args .address) (b .pre) (λ e. c .if2 .taken (e ∙ sym (c .before .three-of .ensures))))
+    let b = c .before .before .before .before in
+    rw (started (c .before .before), other-address (b .args .n) (b .args .address) (b .pre .0) (λ e. c .if2 .taken (e ∙ sym (c .before .three-of .ensures))))
 
 parity-right-requires : tie.Need-parity-right-requires
 parity-right-requires c κs = search needs
