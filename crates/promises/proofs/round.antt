@@ -3,6 +3,7 @@ pub mod Traces
 pub mod OneByOne
 pub mod Closed
 pub mod Told
+pub mod Cut
 pub mod DemandThree
 pub mod AtAnyMoment
 pub mod Stops

@@ -2,6 +2,7 @@
 pub mod Tries
 pub mod OneByOne
 pub mod Told
+pub mod Cut
 pub mod Histories
 pub mod DemandThree
 pub mod AtAnyMoment

@@ -2,6 +2,7 @@
 use Rattle.promises.specs.round.WholeRound.{WholeRound}
 use Rattle.promises.proofs.round.OneByOne.{one-by-one}
 use Rattle.promises.proofs.round.Told.{told}
+use Rattle.promises.proofs.round.Cut.{round-cut}
 use Rattle.promises.proofs.round.DemandThree.{over-rounds}
 use Rattle.promises.proofs.round.AtAnyMoment.{rounds-at-any-moment}
 use Rattle.promises.proofs.round.Stops.{round-stops}
@@ -12,6 +13,7 @@ whole-round =
     record {
       one-by-one = one-by-one;
       told = told;
+      cut = round-cut;
       over-rounds = over-rounds;
       at-any-moment = rounds-at-any-moment;
       stops = round-stops;
