@@ -7,5 +7,7 @@ pub mod Histories
 pub mod DemandThree
 pub mod AtAnyMoment
 pub mod Stops
+pub mod AnyCalls
+pub mod DemandThreeWhole
 pub mod OneOutcome
 pub mod WholeRound

@@ -5,8 +5,8 @@ use mathlib.Core.Bool.{Bool, true, false}
 use mathlib.Core.List.{List, [], _∷_, _++_}
 use Prim.Native.Nat.{ℕ, _+_, _-_, _*_, _<_, _≤_, min}
 use native.Mathlib.Omega.{arith}
-use borrow.Author.Tests.{eqb-false, ltb-true, ltb-false, leb-true, leb-false, lt-ltb, le-ltb}
-use lib.Dec.{eqb, ltb, leb}
+use borrow.Author.Tests.{eqb-false, ltb-true, ltb-false, leb-true, leb-false}
+use lib.Dec.{eqb, ltb}
 use lib.ListN.{length, take, length-append, length-take}
 use lib.Seq.{take-all, take-nil, take-take, take-append-le, take-append-add}
 use Rattle.frame.specs.Pick.{pick}
@@ -19,7 +19,7 @@ use Rattle.round.specs.declared.Round.{Round}
 use Rattle.round.specs.declared.Rounded.{Rounded}
 use Rattle.round.specs.declared.RoundedPage.{RoundedPage}
 use Rattle.round.specs.Replies.{entriesOf}
-use Rattle.round.specs.Saving.{Page, none, kept, replyFault, pageWith, Standing, standing, withStores, stoppedBy, tried, savedAll}
+use Rattle.round.specs.Saving.{Page, none, kept, replyFault, pageWith, Standing, standing, stoppedBy, savedAll}
 use Rattle.round.specs.Calls.{roundOf}
 use Rattle.round.proofs.Turns.{next-tried, refused-stays, used-stays, too-many, not-many}
 use Rattle.round.proofs.Trying.{tried-by}

@@ -3,13 +3,12 @@
 use mathlib.Core.Path.{_≡_, refl, sym, ap, subst, _∙_}
 use mathlib.Core.Logic.{_≢_, _↔_}
 use mathlib.Core.Bool.{Bool, true, false, not}
-use mathlib.Core.List.{List, [], _∷_, _++_, map, append-nil, append-assoc}
-use Prim.Native.Nat.{ℕ, suc, _+_, _-_, _*_, _/_, _%_, _<_, _≤_, min}
+use mathlib.Core.List.{List, [], _∷_, _++_, map}
+use Prim.Native.Nat.{ℕ, _+_, _-_, _*_, _/_, _%_, _<_, _≤_, min}
 use native.Mathlib.Omega.{arith}
-use borrow.Author.Tests.{eq-eqb, leb-true, leb-false, eqb-true}
+use borrow.Author.Tests.{leb-true, leb-false, eqb-true}
 use lib.Dec.{eqb, leb, ltb}
-use lib.ListN.{length, getD, take, drop, length-append}
-use lib.Seq.{take-append-add}
+use lib.ListN.{length, getD, take, drop}
 use Rattle.frame.specs.Pick.{pick}
 use Rattle.frame.specs.Line.{formed}
 use Rattle.frame.specs.Faults.{firstOf}
@@ -24,17 +23,17 @@ use Rattle.round.specs.declared.Rounded.{Rounded}
 use Rattle.round.specs.Replies.{entriesOf}
 use Rattle.round.specs.Saving.{none, Standing}
 use Rattle.round.proofs.Turns.{too-many}
-use Rattle.promises.specs.sheet.History.{Save, Takes, History, blankSheet, SheetAfter, isClosed, closedIn, brokenIn, recordsOf}
+use Rattle.promises.specs.sheet.History.{Save, Takes, History, blankSheet, closedIn, brokenIn}
 use Rattle.promises.specs.sheet.History as history
-use Rattle.promises.specs.sheet.ListAndFull.{Begins}
-use Rattle.promises.specs.round.Tries.{Try, trySave, closedOf, storesOf, repliesOf, Rules, WentSo}
+use Rattle.promises.specs.round.Tries.{trySave, storesOf, Rules, WentSo}
 use Rattle.promises.specs.round.Tries as tries
 use Rattle.promises.specs.round.OneByOne.{BySaves}
 use Rattle.promises.specs.round.Histories.{Called, Rounds, none-called, called, Flattened, nothing, tried, not-tried}
 use Rattle.promises.specs.round.DemandThree.{StoppedFull, OverRounds}
 use Rattle.promises.proofs.sheet.ListAndFull.{records, list-and-full}
 use Rattle.promises.proofs.round.OneByOne.{by-saves}
-use Rattle.promises.proofs.round.Closed.{AllReal, one-real, history-real, AllClosed, none-closed, one-closed, closed-before}
+use Rattle.promises.proofs.round.Closed.{history-real}
+use Rattle.promises.proofs.round.TriedRecords.{saves-records, first-ones}
 
 -- one history after another
 pub then : {from : List ℕ} {h : List Save} {s : List ℕ} {g : List Save} {t : List ℕ} → History from h s → History s g t → History from (g ++ h) t
@@ -58,37 +57,7 @@ of-saves nothing = history.begun
 of-saves (tried c flat one) = then (of-saves flat) (one .history)
 of-saves {from} {h = h} (not-tried c flat big same) = subst (λ (u : List ℕ). History from h u) (sym same) (of-saves flat)
 
--- the closed replies are the first ones
-closed-records : (saves : List Save) → AllClosed (map trySave saves)
-    → (recordsOf saves ≡ repliesOf (map trySave saves)) × (closedOf (map trySave saves) ≡ length (repliesOf (map trySave saves)))
-unfolding recordsOf repliesOf closedOf
-closed-records [] none-closed = (refl, refl)
-closed-records (x ∷ h) (one-closed all zero-number before) =
-    let rest = closed-records h before in
-    let is : isClosed x ≡ true = eq-eqb _ (lengthOf (x .entry) + 2) all in
-    let one : _≡_ {A = ℕ} (pick (isClosed x) 1 0) 1 = ap (λ (b : Bool). pick b 1 0) is in (
-      (λ i. rest .0 i ++ pick (is i) (x .entry ∷ []) []),
-      omega (arith, one, rest .1, length-append (repliesOf (map trySave h)) (x .entry ∷ [])),
-    )
-
-first-ones : (allowance : ℕ) (saves : List Save) (es : List Entry) → Rules allowance (map trySave saves) → AllReal (map trySave saves)
-    → Begins (repliesOf (map trySave saves)) es → recordsOf saves ≡ take (closedOf (map trySave saves)) es
-unfolding recordsOf repliesOf closedOf
-first-ones allowance [] es rules real b = refl
-first-ones allowance (x ∷ h) es (tries.next y rules before left given) (one-real real others) (more, is) =
-    let rest = closed-records h (closed-before allowance (map trySave h) rules others before left) in
-    let replies = repliesOf (map trySave h) in
-    let all : es ≡ replies ++ x .entry ∷ more = is ∙ append-assoc replies (x .entry ∷ []) more in
-    sym
-    (ap (take (closedOf (map trySave h) + pick (isClosed x) 1 0)) all
-    ∙ ap (λ (k : ℕ). take (k + pick (isClosed x) 1 0) (replies ++ x .entry ∷ more)) (rest .1)
-    ∙ take-append-add replies (x .entry ∷ more) (pick (isClosed x) 1 0)
-    ∙ (λ i. sym (rest .0) i ++ last (isClosed x) i))
-  where
-    last : (b : Bool) → take (pick b 1 0) (x .entry ∷ more) ≡ pick b (x .entry ∷ []) []
-    last true = refl
-    last false = refl
-
+-- the list grows by the closed replies
 list-of : (s : List ℕ) → sizeAllowed s ≡ true → (r : Round) (allowance : ℕ) (answer : Rounded) (t : List ℕ) → BySaves s r allowance answer t
     → listOf t ≡ listOf s ++ take (answer .closed) (entriesOf r)
 list-of s sized r allowance answer t one =
@@ -98,7 +67,8 @@ list-of s sized r allowance answer t one =
     let long : length s ≡ 32 * (length s / 32) = omega arith in
     records (length s / 32) few long (one .history)
     ∙ ap (λ (l : List Entry). listOf s ++ l)
-    (first-ones allowance (one .saves) (entriesOf r) (one .went .rules) (history-real (one .history)) (one .went .begins)
+    (saves-records (one .saves)
+    ∙ first-ones allowance (map trySave (one .saves)) (entriesOf r) (one .went .rules) (history-real (one .history)) (one .went .begins)
     ∙ ap (λ (k : ℕ). take k (entriesOf r)) (sym (one .went .closed-are)))
 
 -- 13 is said of good records alone
@@ -124,7 +94,7 @@ good-13 s x t m n = by (sizeAllowed s) (passes (x .entry)) (leb (slots s) (next 
     by false p f y q = absurd (omega arith)
 
 module _ (n : ℕ) (few : n ≤ 2048) (h : List Save) (s : List ℕ) (before-it : History (blankSheet n) h s) (allowance : ℕ) (es : List Entry) (closed stores number : ℕ) where
-  full-by : (saves : List Save) (t : List ℕ) → History s saves t → WentSo allowance es (map trySave saves) closed stores number
+  pub full-by : (saves : List Save) (t : List ℕ) → History s saves t → WentSo allowance es (map trySave saves) closed stores number
       → (number ≡ 13) ↔ StoppedFull n h allowance saves
   full-by [] t made went =
       (λ q. absurd (omega (arith, went .number-is, q)), λ f. absurd (omega (arith, ap length (f .latest))))

@@ -6,6 +6,7 @@ use Rattle.promises.proofs.round.Cut.{round-cut}
 use Rattle.promises.proofs.round.DemandThree.{over-rounds}
 use Rattle.promises.proofs.round.AtAnyMoment.{rounds-at-any-moment}
 use Rattle.promises.proofs.round.Stops.{round-stops}
+use Rattle.promises.proofs.round.DemandThreeWhole.{demand-three-whole}
 use Rattle.promises.proofs.round.OneOutcome.{round-outcome}
 
 pub whole-round : WholeRound
@@ -17,5 +18,6 @@ whole-round =
       over-rounds = over-rounds;
       at-any-moment = rounds-at-any-moment;
       stops = round-stops;
+      demand-three-whole = demand-three-whole;
       one-outcome = round-outcome;
     }

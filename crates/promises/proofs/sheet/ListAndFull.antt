@@ -122,7 +122,7 @@ module _ (s t : List ℕ) (x : Save) (sized : sizeAllowed s ≡ true) where
   closed-fate (closed c l a q) =
       listed-if c true (le-leb (allStores x) (x .allowance) l) ∙ sym (closed-is (allStores x) true a (eq-eqb (allStores x) (allStores x) refl))
 
-  listed-closed : Takes s x t → listed ≡ isClosed x
+  pub listed-closed : Takes s x t → listed ≡ isClosed x
   listed-closed m = closed-fate (fate s (x .entry) (x .allowance) (x .answer) t m)
 
   list-step : Takes s x t → listOf t ≡ listOf s ++ ending listed
@@ -169,7 +169,7 @@ next-zero s (suc m) h =
     ap (λ (b : Bool). pick b (nextUpTo s m) (suc m)) (h m (omega arith) (omega arith)) ∙ next-zero s m (λ k from below. h k from (omega arith))
 
 -- Sheets of one history are equally long.
-long : {from : List ℕ} {h : List Save} {s : List ℕ} → History from h s → length s ≡ length from
+pub long : {from : List ℕ} {h : List Save} {s : List ℕ} → History from h s → length s ≡ length from
 long begun = refl
 long (saved {s = s} {t = t} x hist m) = one-save .count s (x .entry) (x .allowance) (x .answer) t m .as-long ∙ long hist
 
@@ -216,7 +216,7 @@ module _ (n : ℕ) (few : n ≤ 2048) where
     pub sized : sizeAllowed s ≡ true
     sized = sized-as n s few long-so
 
-    used : next s ≡ closedIn h + brokenIn h
+    pub used : next s ≡ closedIn h + brokenIn h
     used = omega (arith, counts hist, next-first)
 
     list-of : (x : Save) (t : List ℕ) → Takes s x t → listOf t ≡ listOf s ++ pick (passes (x .entry) && slotLeft n h && covered x) (x .entry ∷ []) []

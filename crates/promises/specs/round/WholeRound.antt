@@ -5,6 +5,7 @@ use Rattle.promises.specs.round.Cut.{RoundCut}
 use Rattle.promises.specs.round.DemandThree.{OverRounds}
 use Rattle.promises.specs.round.AtAnyMoment.{RoundsAtAnyMoment}
 use Rattle.promises.specs.round.Stops.{Stops}
+use Rattle.promises.specs.round.DemandThreeWhole.{DemandThreeWhole}
 use Rattle.promises.specs.round.OneOutcome.{RoundOutcome}
 
 pub record WholeRound : Type 0 where
@@ -14,4 +15,5 @@ pub record WholeRound : Type 0 where
   pub over-rounds : OverRounds
   pub at-any-moment : RoundsAtAnyMoment
   pub stops : Stops
+  pub demand-three-whole : DemandThreeWhole
   pub one-outcome : RoundOutcome
