@@ -218,11 +218,11 @@ module _ (a b : Summary) (ha : Handed a) (hb : Handed b) (ca : Clean a) (cb : Cl
   clear : length (joinLines a b) ≤ 30 → AllFew most (joinLines a b) → joinFault a b ≡ 0
   clear few f = fault-clear a b ca cb few (few-page 0 (joinLines a b) few rises-join told-join f)
 
-  few-join : joinFault a b ≡ 0 → (length (joinLines a b) ≤ 30) × AllFew most (joinLines a b)
+  pub few-join : joinFault a b ≡ 0 → (length (joinLines a b) ≤ 30) × AllFew most (joinLines a b)
   few-join f = let few = passed a b f .few in (few, page-few 0 (joinLines a b) few rises-join told-join (not-over a b f))
 
   module _ (few : length (joinLines a b) ≤ 30) (small : AllFew most (joinLines a b)) where
-    clean-join : Clean (joinPage a b)
+    pub clean-join : Clean (joinPage a b)
     clean-join =
         record {
           shape = shaped-page 0 (joinLines a b) few rises-join told-join;
@@ -230,7 +230,7 @@ module _ (a b : Summary) (ha : Handed a) (hb : Handed b) (ca : Clean a) (cb : Cl
           counts = few-page 0 (joinLines a b) few rises-join told-join small;
         }
 
-    handed-join : Handed (joinPage a b)
+    pub handed-join : Handed (joinPage a b)
     handed-join = record { thirty = thirty; narrow = λ i l. go i l (ltb i (length (joinLines a b))) refl }
       where
         thirty : length (joinPage a b .lines) ≡ 30

@@ -39,7 +39,7 @@ module _ (s : Summary) (long : length (s .lines) ≡ 30) (right : misshapen s �
       up : risesAt s (suc i) ≡ true → pairOf (lineAt s i) < pairOf (lineAt s (suc i))
       up r = unfold risesAt in ltb-true (pairOf (lineAt s i)) (pairOf (lineAt s (suc i))) r
 
-  ordered : Ordered s
+  pub ordered : Ordered s
   ordered =
       record {
         few = few s long right;

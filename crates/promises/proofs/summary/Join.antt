@@ -1,5 +1,5 @@
 -- The promises of a join: its lines hold at each pair the two lines together, and rise; so two joins that hold the same are equal. Assumes nothing.
-use mathlib.Core.Path.{_≡_, refl, sym, ap, _∙_}
+use mathlib.Core.Path.{_≡_, refl, sym, ap, subst, _∙_}
 use mathlib.Core.Bool.{Bool, true, false, _||_}
 use mathlib.Core.List.{List, [], _∷_, _++_, map}
 use Prim.Native.Nat.{ℕ, zero, suc, _+_, _<_, _≤_}
@@ -32,12 +32,14 @@ use Rattle.summary.proofs.JoinTests.{fault-by, refused-join, made-join}
 use Rattle.promises_frame.specs.One.{One}
 use Rattle.promises_frame.specs.FirstFault.{FirstThatApplies}
 use Rattle.promises.specs.summary.OwnFigures.{lineIn}
+use Rattle.promises.specs.summary.InOrder.{Ordered}
 use Rattle.promises.specs.summary.Join.{Handed, Clean, bothLines, joinTable, Join}
 use Rattle.promises_frame.proofs.FirstFault.{asked, given}
 use Rattle.promises.proofs.summary.JoinLines.{held-all, AllNarrow, all-narrow, lines-turned}
 use Rattle.promises.proofs.summary.EndToEnd.{end-lines}
-use Rattle.promises.proofs.summary.JoinPassed.{number-is, Passed, passed, narrow-lines}
-use Rattle.promises.proofs.summary.Grouping.{grouping-of}
+use Rattle.promises.proofs.summary.JoinPassed.{number-is, Passed, passed, clean-sides, narrow-lines}
+use Rattle.promises.proofs.summary.Grouping.{few-join, clean-join, handed-join, grouping-of}
+use Rattle.promises.proofs.summary.InOrder.{ordered}
 
 fault-of : (a b : Summary) (r : Made) → JoinsSummaries a b r → r .number ≡ 0 → joinFault a b ≡ 0
 fault-of a b r j n = sym (number-is a b) ∙ sym (ap (λ (m : Made). m .number) (j .answers)) ∙ n
@@ -58,6 +60,18 @@ by-pair a b ha hb r j n =
       λ k. ap (heldAt pairOf k) lines ∙ held-all k (linesOf a) (linesOf b) (sa .rises) (sb .rises),
       (rw lines (rises-all (linesOf a) (linesOf b) (sa .rises)), ap (λ (t : Summary). t .others) s ∙ others),
     )
+
+-- the answer by itself
+again-of : (a b : Summary) → Handed a → Handed b → (r : Made) → JoinsSummaries a b r → r .number ≡ 0
+    → Handed (r .summary) × (Clean (r .summary) × Ordered (r .summary))
+again-of a b ha hb r j n =
+    let f = fault-of a b r j n in
+    let sides = clean-sides a b f in
+    let few = few-join a b ha hb (sides .0) (sides .1) f in
+    let handed = handed-join a b ha hb (sides .0) (sides .1) (few .0) (few .1) in
+    let clean = clean-join a b ha hb (sides .0) (sides .1) (few .0) (few .1) in
+    subst (λ (s : Summary). Handed s × (Clean s × Ordered s)) (sym (summary-of a b r j n))
+    (handed, (clean, ordered (joinPage a b) (handed .thirty) (clean .shape)))
 
 -- either order
 or-turned : (a b : Bool) → (a || b) ≡ (b || a)
@@ -169,6 +183,7 @@ pub join-promises : Join
 join-promises =
     record {
       pair-by-pair = by-pair;
+      again = again-of;
       either-order = λ a b ha hb r q j k. j .answers ∙ join-turned a b ha hb ∙ sym (k .answers);
       grouping = grouping-of;
       blank = λ a ha clean r q j k.

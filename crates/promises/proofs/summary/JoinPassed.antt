@@ -63,17 +63,28 @@ narrow-lines s h right =
     let near : i < s .count = omega (arith, count-of s so) in
     rw (getD-take (s .count) (s .lines) i blankLine near) (h .narrow i (omega (arith, so .few))))
 
--- no count of the join is over
-pub not-over : (a b : Summary) → joinFault a b ≡ 0 → linesOver (joinPage a b) ≡ false
-not-over a b f = go (misshapen a || misshapen b) (unkept a b) (joinOver a b) refl refl refl
+-- no count of a side or of the join is over
+pub none-over : (a b : Summary) → joinFault a b ≡ 0 → (linesOver a ≡ false) × ((linesOver b ≡ false) × (linesOver (joinPage a b) ≡ false))
+none-over a b f = go (misshapen a || misshapen b) (unkept a b) (joinOver a b) refl refl refl
   where
-    go : (m u o : Bool) → (misshapen a || misshapen b) ≡ m → unkept a b ≡ u → joinOver a b ≡ o → linesOver (joinPage a b) ≡ false
+    go : (m u o : Bool) → (misshapen a || misshapen b) ≡ m → unkept a b ≡ u → joinOver a b ≡ o
+        → (linesOver a ≡ false) × ((linesOver b ≡ false) × (linesOver (joinPage a b) ≡ false))
     go true u o x y z = absurd (omega (arith, sym f ∙ fault-by a b true u o x y z))
     go false true o x y z = absurd (omega (arith, sym f ∙ fault-by a b false true o x y z))
     go false false true x y z = absurd (omega (arith, sym f ∙ fault-by a b false false true x y z))
     go false false false x y z =
         let p = neither (linesOver a) (linesOver b || linesOver (joinPage a b)) z in
-        neither (linesOver b) (linesOver (joinPage a b)) (p .1) .1
+        (p .0, neither (linesOver b) (linesOver (joinPage a b)) (p .1))
+
+pub not-over : (a b : Summary) → joinFault a b ≡ 0 → linesOver (joinPage a b) ≡ false
+not-over a b f = none-over a b f .1 .1
+
+-- so both sides are clean
+pub clean-sides : (a b : Summary) → joinFault a b ≡ 0 → Clean a × Clean b
+clean-sides a b f =
+    let p = passed a b f in
+    let o = none-over a b f in
+    (record { shape = p .first; kept = omega (arith, p .kept-a); counts = o .0 }, record { shape = p .second; kept = omega (arith, p .kept-b); counts = o .1 .0 })
 
 -- of two clean summaries it is not refused where its lines are few and no count is over
 pub fault-clear : (a b : Summary) → Clean a → Clean b → length (joinLines a b) ≤ 30 → linesOver (joinPage a b) ≡ false → joinFault a b ≡ 0

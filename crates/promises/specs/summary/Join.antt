@@ -20,6 +20,7 @@ use Rattle.summary.specs.Joined.{unkept, joinOver, joinOf, JoinsSummaries}
 use Rattle.promises_frame.specs.One.{One}
 use Rattle.promises_frame.specs.FirstFault.{FirstThatApplies}
 use Rattle.promises.specs.summary.OwnFigures.{lineIn}
+use Rattle.promises.specs.summary.InOrder.{Ordered}
 
 -- A summary as a host hands it in: 30 lines, and settings of 16 bits.
 pub record Handed (s : Summary) : Type 0 where
@@ -53,6 +54,9 @@ pub record Join : Type 0 where
   -- Where not refused: at every pair the join's line is the two lines together, its lines rise, and no record is unkept.
   pub pair-by-pair : (a b : Summary) → Handed a → Handed b → (r : Made) → JoinsSummaries a b r → r .number ≡ 0
       → ((k : ℕ) → lineIn k (r .summary) ≡ bothLines (lineIn k a) (lineIn k b)) × (Rises pairOf (linesOf (r .summary)) × (r .summary .others ≡ 0))
+  -- Its answer is in turn in order, and none of the refusals names it by itself: so order and grouping carry on from join to join, up to twelve sheets and more.
+  pub again : (a b : Summary) → Handed a → Handed b → (r : Made) → JoinsSummaries a b r → r .number ≡ 0
+      → Handed (r .summary) × (Clean (r .summary) × Ordered (r .summary))
   -- Order does not matter, the number given included.
   pub either-order : (a b : Summary) → Handed a → Handed b → (r q : Made) → JoinsSummaries a b r → JoinsSummaries b a q → r ≡ q
   -- Nor does grouping: both are refused, or they are equal. One refused side equals another, whichever number it gives.
