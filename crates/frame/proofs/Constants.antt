@@ -65,8 +65,8 @@ module _ (m : Mode) (k : Constants) (f : Fits m k) where
 
   pub write-is : (v : ℕ) → writeBy k v ≡ putLevel m v
   write-is v =
-      placed-up v (k .charts) (k .digits) (k .first) (k .after) (k .largest) (f .values)
-      ∙ rw (same-codes v, f .wide, f .last, f .largest)
+      placed-up v (k .charts) (k .digits) (k .first) (k .after) (k .largest) (k .start) (f .values)
+      ∙ rw (f .straight, same-codes v, f .wide, f .last, f .largest)
 
 -- fill on both sides of the digits, or only after them
 both-sides : (n j : ℕ) → fillAt n 1 j ≡ (eqb (n / 2 ^ 48 % 2 ^ 1) 0 && (eqb (n / 2 ^ 27 % 2 ^ j) 0 && true))

@@ -7,13 +7,8 @@ pub mod Tables
 pub mod EachMode
 pub mod DecimalCode
 pub mod Digits
-pub mod SideBySide
 pub mod Upward
-pub mod Quotients
-pub mod Straight
-pub mod LevelCodes
 pub mod Constants
-pub mod LevelPlaces
 pub mod Keys
 pub mod PairsAreDigits
 pub mod PairTable

@@ -41,7 +41,7 @@ module _ (m : Mode) (k : Constants) (f : Fits m k) where
   placed v = go (leb v (k .largest)) refl
     where
       few : codesBy k v < 2 ^ (4 * k .digits)
-      few = rw (sixteen (k .digits)) (up-lt (k .charts) (k .digits) v)
+      few = rw (sixteen (k .digits)) (up-lt (k .charts) (k .digits) (k .start) v)
 
       go : (b : Bool) → leb v (k .largest) ≡ b → Middle (writeBy k v)
       go true e = rw e (shifted (codesBy k v) (4 * k .digits) (k .after) few (f .ends))

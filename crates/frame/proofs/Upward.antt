@@ -4,17 +4,19 @@ use mathlib.Core.Path.{_≡_, refl, sym, ap, _∙_}
 use mathlib.Core.Bool.{Bool, true, false}
 use mathlib.Core.List.{List, [], _∷_, _++_}
 use Prim.Native.Nat.{ℕ, zero, suc, _+_, _-_, _*_, _/_, _%_, _^_, _<_, _≤_}
-use native.Mathlib.Nat.{mul-pos, mul-one, add-zero, zero-mul, zero-add, div-one, div-eq-of-lt, div-div-eq-div-mul, div-add-mod', mod-eq-of-lt, mod-lt, mul-assoc, mul-comm, div-lt-iff-lt-mul, pow-suc}
+use native.Mathlib.Nat.{mul-pos, mul-one, add-zero, lt-of-lt-of-le, zero-mul, zero-add, div-one, div-eq-of-lt, div-div-eq-div-mul, div-add-mod', mod-eq-of-lt, mod-lt, mul-assoc, mul-comm, div-lt-iff-lt-mul, pow-suc}
 use native.Mathlib.Omega.{arith}
-use borrow.Author.Tests.{leb-true}
+use borrow.Author.Tests.{leb-true, ne-eqb}
 use lib.Arith.{mod-mul, digits-div, digits-mod}
 use lib.Dec.{eqb, leb, lit<}
-use lib.Pow.{pow-add, pow-mono}
+use lib.Pow.{pow-add, pow-mono, shl-lt}
+use Rattle.frame.specs.Pick.{pick}
+use Rattle.frame.specs.Line.{mark}
 use Rattle.frame.specs.Charts.{Chart, sizeOf, isOdd, turned, codeOf}
 use Rattle.frame.specs.Level.{widthOf, valuesOf, writeRow}
 use Rattle.frame.specs.inside.Packed.{chartOf, rowOf, writeUp}
 use Rattle.frame.specs.inside.Constants.{placedAt}
-use Rattle.frame.proofs.Digits.{turned-lt}
+use Rattle.frame.proofs.Digits.{down, turned-lt}
 use Rattle.frame.proofs.Tables.{size-low, size-high, size-even, code-small}
 
 -- a row's digit read in four bits
@@ -102,28 +104,44 @@ module _ (c : Chart) (some : 0 < sizeOf c) where
       rw (values-snoc c cs, width-snoc c cs, pow-add 2 (widthOf cs) (c .width), last-digit (row / 16) k (v / (w * s)) (v % (w * s)) rest, above v w s ws some, below-div v w s ws some, below-mod v w s ws some, div-add-mod' (v / s) w, odd)
       (regroup (codeOf (isOdd u) (inFour (row % 16)) (v / s / w)) (2 ^ widthOf cs) (2 ^ (c .width)) (writeRow cs (isOdd (v / s / w)) (v / s % w)) (codeOf (isOdd (v / s)) c (v % s)))
 
+  -- the same with a starting state above the first digit
+  pub last-from : (row k : ℕ) (start : Bool) (v : ℕ) → v < valuesOf (rowOf row k) * sizeOf c
+      → writeRow (rowOf row k ++ (c ∷ [])) start v
+      ≡ writeRow (rowOf row k) start (v / sizeOf c) * 2 ^ (c .width) + codeOf (isOdd (mark start * valuesOf (rowOf row k) + v / sizeOf c)) c (v % sizeOf c)
+  last-from row k true v h = last-digit row k 1 v h
+  last-from row k false v h = last-digit row k 0 v h
+
+not-zero : (k : ℕ) → suc k ≡ 0 → ⊥
+not-zero k e = omega arith
+
+-- what the digit above is odd by: the starting state above the first digit, else all that stands above
+odd-above : (row k : ℕ) (start : Bool) (q : ℕ) → q < valuesOf (rowOf row k) → isOdd (mark start * valuesOf (rowOf row k) + q) ≡ pick (eqb k 0) start (isOdd q)
+unfolding valuesOf rowOf
+odd-above row zero true q h = let none : q ≡ 0 = omega arith in rw none
+odd-above row zero false q h = let none : q ≡ 0 = omega arith in rw none
+odd-above row (suc k) start q h =
+    rw (ne-eqb (suc k) 0 (λ e. not-zero k e))
+    (odd-even (mark start) (sizeOf (inFour (row % 16)) * valuesOf (rowOf (row / 16) k)) q (even-mul (sizeOf (inFour (row % 16))) (valuesOf (rowOf (row / 16) k)) (size-even (row % 16))))
+
 -- from the ones digit up or from the top, the same codes
-pub upward : (row left v : ℕ) → v < valuesOf (rowOf row left) → writeUp row left v ≡ writeRow (rowOf row left) false v
+pub upward : (row left : ℕ) (start : Bool) (v : ℕ) → v < valuesOf (rowOf row left) → writeUp row left start v ≡ writeRow (rowOf row left) start v
 unfolding writeUp writeRow rowOf
-upward row zero v h = refl
-upward row (suc k) v h =
+upward row zero start v h = refl
+upward row (suc k) start v h =
     let c = inFour (row / 16 ^ k % 16) in
     let s = sizeOf c in
     let some : 0 < s = omega (arith, size-low (row / 16 ^ k % 16)) in
     let inside : v < valuesOf (rowOf row k) * s = rw (row-snoc row k, values-snoc c (rowOf row k)) at h in
     let fewer : v / s < valuesOf (rowOf row k) = div-lt-iff-lt-mul some .1 inside in
-    let low = codeOf (isOdd (v / s)) c (v % s) in
-    ap (λ (n : ℕ). low + 16 * n) (upward row k (v / s) fewer)
-    ∙ swap low (writeRow (rowOf row k) false (v / s))
+    let low = codeOf (pick (eqb k 0) start (isOdd (v / s))) c (v % s) in
+    ap (λ (n : ℕ). low + 16 * n) (upward row k start (v / s) fewer)
+    ∙ swap low (writeRow (rowOf row k) start (v / s))
     ∙ sym
-    (ap (λ (cs : List Chart). writeRow cs false v) (row-snoc row k) ∙ last-digit c some row k 0 v inside
-    ∙ ap (λ (n : ℕ). writeRow (rowOf row k) false (v / s) * 16 + codeOf (isOdd n) c (v % s)) (zero-above (valuesOf (rowOf row k)) (v / s)))
+    (ap (λ (cs : List Chart). writeRow cs start v) (row-snoc row k) ∙ last-from c some row k start v inside
+    ∙ ap (λ (odd : Bool). writeRow (rowOf row k) start (v / s) * 16 + codeOf odd c (v % s)) (odd-above row k start (v / s) fewer))
   where
     swap : (a b : ℕ) → a + 16 * b ≡ b * 16 + a
     swap a b = omega arith
-
-    zero-above : (w q : ℕ) → 0 * w + q ≡ q
-    zero-above w q = omega arith
 
 -- every code takes four bits
 pub code-lt : (k : ℕ) (odd : Bool) (d : ℕ) → d < sizeOf (chartOf k) → codeOf odd (chartOf k) d < 16
@@ -131,14 +149,14 @@ code-lt k odd d h =
     let at = turned-lt odd (sizeOf (chartOf k)) d h in
     code-small k (turned odd (sizeOf (chartOf k)) d) (omega (arith, size-high k))
 
-pub up-lt : (row left v : ℕ) → writeUp row left v < 16 ^ left
+pub up-lt : (row left : ℕ) (start : Bool) (v : ℕ) → writeUp row left start v < 16 ^ left
 unfolding writeUp
-up-lt row zero v = lit< tt
-up-lt row (suc k) v =
+up-lt row zero start v = lit< tt
+up-lt row (suc k) start v =
     let c = row / 16 ^ k % 16 in
     let s = sizeOf (chartOf c) in
-    let low = code-lt c (isOdd (v / s)) (v % s) (mod-lt v (omega (arith, size-low c))) in
-    let rest = up-lt row k (v / s) in
+    let low = code-lt c (pick (eqb k 0) start (isOdd (v / s))) (v % s) (mod-lt v (omega (arith, size-low c))) in
+    let rest = up-lt row k start (v / s) in
     rw (pow-suc 16 k) (omega (arith, low, rest))
 
 pub sixteen : (k : ℕ) → 2 ^ (4 * k) ≡ 16 ^ k
@@ -153,12 +171,48 @@ pub sixteen-le : (k : ℕ) → k ≤ 8 → 16 ^ k ≤ 2 ^ 32
 sixteen-le k h = rw (← sixteen k) (pow-mono {i = 4 * k} {j = 32} (omega arith))
 
 -- so a level within its mode is placed the same from either end
-pub placed-up : (v row left first fill largest : ℕ) → largest < valuesOf (rowOf row left)
-    → placedAt v (writeUp row left v) first fill largest ≡ placedAt v (writeRow (rowOf row left) false v) first fill largest
-placed-up v row left first fill largest h = by (leb v largest) refl
+pub placed-up : (v row left first fill largest : ℕ) (start : Bool) → largest < valuesOf (rowOf row left)
+    → placedAt v (writeUp row left start v) first fill largest ≡ placedAt v (writeRow (rowOf row left) start v) first fill largest
+placed-up v row left first fill largest start h = by (leb v largest) refl
   where
-    by : (b : Bool) → leb v largest ≡ b → placedAt v (writeUp row left v) first fill largest ≡ placedAt v (writeRow (rowOf row left) false v) first fill largest
+    by : (b : Bool) → leb v largest ≡ b → placedAt v (writeUp row left start v) first fill largest ≡ placedAt v (writeRow (rowOf row left) start v) first fill largest
     by true e =
         let within : v ≤ largest = leb-true v largest e in
-        ap (λ (n : ℕ). placedAt v n first fill largest) (upward row left v (omega arith))
+        ap (λ (n : ℕ). placedAt v n first fill largest) (upward row left start v (omega arith))
     by false e = rw e
+
+-- ---- one step of the writer: the ones digit in its place, and the rest four bits above it
+
+one-less : (k : ℕ) → eqb (suc k) 1 ≡ eqb k 0
+one-less zero = refl
+one-less (suc k) = rw (ne-eqb (suc (suc k)) 1 (λ e. more k e), ne-eqb (suc k) 0 (λ e. not-zero k e))
+  where
+    more : (k : ℕ) → suc (suc k) ≡ 1 → ⊥
+    more k e = omega arith
+
+module _ (row : ℕ) (start : Bool) (v place : ℕ) where
+  -- by the number of digits left and that number less one
+  abbrev Step : ℕ → ℕ → Type 0
+  Step n k =
+      let c = chartOf (row / 16 ^ k % 16) in
+      codeOf (pick (eqb n 1) start (isOdd (v / sizeOf c))) c (v % sizeOf c) * 2 ^ place + writeUp row k start (v / sizeOf c) * 2 ^ (place + 4)
+      ≡ writeUp row n start v * 2 ^ place
+
+  step : (k : ℕ) → Step (suc k) k
+  unfolding writeUp
+  step k =
+      let c = chartOf (row / 16 ^ k % 16) in
+      rw (one-less k, pow-add 2 place 4)
+      (regroup (codeOf (pick (eqb k 0) start (isOdd (v / sizeOf c))) c (v % sizeOf c)) (2 ^ place) (writeUp row k start (v / sizeOf c)))
+    where
+      regroup : (a p r : ℕ) → a * p + r * (p * 16) ≡ (a + 16 * r) * p
+      regroup a p r = omega arith
+
+  pub left-step : (left : ℕ) → 0 < left → Step left (left - 1)
+  left-step = down Step step
+
+  -- and the whole fits the word
+  pub up-fits : (left : ℕ) → 4 * left + place ≤ 53 → writeUp row left start v * 2 ^ place < 2 ^ 53
+  up-fits left h =
+      let few : writeUp row left start v < 2 ^ (4 * left) = rw (sixteen left) (up-lt row left start v) in
+      lt-of-lt-of-le (shl-lt (4 * left) place few) (pow-mono {i = 4 * left + place} {j = 53} h)

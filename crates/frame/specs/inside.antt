@@ -2,5 +2,4 @@
 pub mod Packed
 pub mod Constants
 pub mod PairWords
-pub mod Codes
 pub mod Written

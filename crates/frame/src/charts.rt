@@ -1,11 +1,10 @@
 // The charts of the digits: from code to place as words of sixteen codes, four bits each; from place to code worked out. A chart's number:
 // 0 one bit, 1 two bits, 2 feet tens, 3 decimal, 4 inches, 5 sixteenths.
 ghost use mathlib.Core.Path.{_≡_};
-ghost use Prim.Native.Nat.{_^_, _<_, _≤_};
-ghost use lib.Bits.{bitAnd, bitXor};
-ghost use Rattle.frame.specs.Charts.{sizeOf, placeIn};
+ghost use Prim.Native.Nat.{_/_, _<_, _≤_};
+ghost use lib.ListN.{getD};
+ghost use Rattle.frame.specs.Charts.{decimal, sizeOf, placeIn, codeOf};
 ghost use Rattle.frame.specs.inside.Packed.{chartOf, placesOf, digitOf};
-ghost use Rattle.frame.specs.inside.Codes.{belowOdd, turnedWord, codesWord};
 
 // How many values a digit has.
 pub(crate) fn size(chart: u64) -> u64
@@ -18,6 +17,20 @@ pub(crate) fn size(chart: u64) -> u64
         3 => 10,
         4 => 12,
         _ => 16,
+    }
+}
+
+// A number divided by the values of a digit, each divisor written out so that no division is left.
+pub(crate) fn over(chart: u64, v: u64) -> u64
+    ensures { λ r. ⌜ r ≡ v / sizeOf (chartOf chart) ⌝ }
+{
+    match chart {
+        0 => v / 2,
+        1 => v / 4,
+        2 => v / 8,
+        3 => v / 10,
+        4 => v / 12,
+        _ => v / 16,
     }
 }
 
@@ -59,24 +72,37 @@ pub(crate) fn digit(chart: u64, code: u64, odd: bool) -> u64
     at
 }
 
-// The places in their charts of a word's digits, four bits each, all at once: where the digit above is odd, the place is the largest digit
-// minus the digit. Combined by exclusive or with 1111 a digit gives 15 minus itself; `lacks` has at each digit how many places its chart
-// lacks of sixteen. The top one of five digits stays as it is.
-pub(crate) fn turn(digits: u64, lacks: u64) -> u64
-    requires { ⌜ bitAnd (belowOdd digits) lacks ≤ bitXor digits (belowOdd digits) ⌝ }
-    ensures { λ r. ⌜ r ≡ turnedWord digits lacks ⌝ }
+// The decimal code of a digit: the digit combined by exclusive or with half of it, rounded down, so that from each to the next just one bit
+// changes. 9 alone is 1000, which is one bit away from the code of 8 too.
+fn decimal_code(at: u64) -> u64
+    requires { ⌜ at ≤ 9 ⌝ }
+    ensures { λ r. ⌜ r ≡ getD (decimal .codes) at 0 ⌝ }
 {
-    let below_odd = 15 * ((digits >> 4) & 0x1111);
-    (digits ^ below_odd) - (below_odd & lacks)
+    if at == 9 {
+        return 0b1000;
+    }
+    at ^ (at / 2)
 }
 
-// The codes of a word's places, all at once: each place combined by exclusive or with half of it, rounded down, so that from each to the next
-// just one bit changes. In a decimal chart, which `decimal` marks by a 1, 9 alone is 1000, which is one bit away from the code of 8 too: the
-// rule gives 1101 for it, and 0101 turns that into 1000.
-pub(crate) fn codes(places: u64, decimal: u64) -> u64
-    requires { ⌜ places < 2 ^ 20 ⌝ }
-    ensures { λ r. ⌜ r ≡ codesWord places decimal ⌝ }
+// The code at a place of a chart. Every chart but the decimal one goes by the same rule to its end, with no exception.
+fn code_at(chart: u64, at: u64) -> u64
+    requires { ⌜ at < sizeOf (chartOf chart) ⌝ }
+    ensures { λ r. ⌜ r ≡ getD (chartOf chart .codes) at 0 ⌝ }
 {
-    let nines = (places >> 3) & decimal & places;
-    (places ^ ((places / 2) & 0x77777)) ^ (5 * nines)
+    if chart == 3 {
+        return decimal_code(at);
+    }
+    let half = at / 2;
+    at ^ half
+}
+
+// The code of a digit, from the chart's other end where the digit above is odd.
+pub(crate) fn code(chart: u64, d: u64, odd: bool) -> u64
+    requires { ⌜ d < sizeOf (chartOf chart) ⌝ }
+    ensures { λ r. ⌜ r ≡ codeOf odd (chartOf chart) d ⌝ }
+{
+    if odd {
+        return code_at(chart, size(chart) - 1 - d);
+    }
+    code_at(chart, d)
 }

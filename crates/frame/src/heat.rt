@@ -6,7 +6,7 @@ ghost use Prim.Native.Nat.{_+_, _%_, _<_, _≤_, _^_, min};
 ghost use Rattle.frame.specs.Pick.{pick};
 ghost use Rattle.frame.specs.Line.{bit};
 ghost use Rattle.frame.specs.Temperature.{limit, signed, isPlus, magnitude, degreesAt, hundreds1900, heat1800, heatOf, putDegrees, putHundreds1900, putDegrees1900, putDegrees1800};
-ghost use Rattle.frame.specs.inside.Packed.{heatFor, heatBy, threeOf};
+ghost use Rattle.frame.specs.inside.Packed.{heatFor, heatBy};
 ghost use Rattle.frame.specs.inside.Written.{isAbove, isBelow, tenthsFor, putTenths};
 use crate::Temperature;
 use crate::kinds;
@@ -136,21 +136,11 @@ pub(crate) fn read(is_1800: bool, n: u64) -> u64
     degrees_at(n, hundreds(is_1800, n))
 }
 
-// The last three digits of a number of tenths, four bits each: a ten is 16 there and a hundred 256, so that every ten adds 6 and every
-// hundred 96 more; 1000 would be 2560, which is taken off. Each quotient is that of the number itself, so that none waits for another.
-fn last_three(m: u64) -> u64
-    requires { ⌜ m < 2 ^ 13 ⌝ }
-    ensures { λ r. ⌜ r ≡ threeOf (m % 1000) ⌝ }
-{
-    m + 6 * (m / 10 + 16 * (m / 100)) - 2560 * (m / 1000)
-}
-
 // The sign and the last three digits of a number of tenths.
 fn put_degrees(plus: bool, m: u64) -> u64
-    requires { ⌜ m < 2 ^ 13 ⌝ }
     ensures { λ r. ⌜ r ≡ putDegrees plus m ⌝ }
 {
-    line::mark(plus) * line::BIT_41 + last_three(m) * line::BIT_55
+    line::mark(plus) * line::BIT_41 + line::three_of(m % 1000) * line::BIT_55
 }
 
 // The hundreds of a 1900 by their number: bits 0, 1, 2 in bits 40, 42, 43, each inverted.

@@ -1,12 +1,10 @@
-// Level: the digits of a row read one after another from the top, and the codes of a level's digits worked out side by side.
+// A level read: the digits of a row one after another from the top.
 ghost use mathlib.Core.Path.{_≡_};
 ghost use Prim.Native.Nat.{_+_, _-_, _*_, _/_, _%_, _^_, _<_, _≤_};
 ghost use Rattle.frame.specs.Charts.{sizeOf};
 ghost use Rattle.frame.specs.Level.{Level, readRow};
-ghost use Rattle.frame.specs.Pick.{pick};
 ghost use Rattle.frame.specs.inside.Packed.{chartOf, digitOf, rowOf, readCode, Below, levelNumber};
 ghost use Rattle.frame.specs.inside.Constants.{fillAt, digitBits, readBy};
-ghost use Rattle.frame.specs.inside.Codes.{aboveTwo, digitsWord, codesIn};
 use crate::charts;
 use crate::modes::Constants;
 
@@ -104,47 +102,4 @@ pub(crate) fn read_by(k: Constants, n: u64) -> u64
         k.largest,
         read_digits(k.charts, k.digits, bits, k.start, 0, 0),
     )
-}
-
-// One number or the other: where both are at hand, the compiler makes a choice of it and no branch.
-pub(crate) fn either(which: bool, yes: u64, no: u64) -> u64
-    ensures { λ r. ⌜ r ≡ pick which yes no ⌝ }
-{
-    if which { yes } else { no }
-}
-
-// 2 ^ 26 divided by the sixteenths of a foot, and by a hundred, rounded up: a level times one of them, shifted back, is the level divided.
-const BY_192: u64 = 349526;
-
-const BY_100: u64 = 671089;
-
-// What stands above the last two digits of a level: feet in the fractional mode, hundreds in any other.
-fn above_two(fractional: bool, v: u64) -> u64
-    requires { ⌜ v < 2 ^ 16 ⌝ }
-    ensures { λ r. ⌜ r ≡ aboveTwo fractional v ⌝ }
-{
-    (v * either(fractional, BY_192, BY_100)) >> 26
-}
-
-// The digits of a level side by side in a word, four bits each. A ten is 16 there, so that every ten adds 6, every hundred 16 times that, and
-// so on; a foot of 12 inches is 16 of them, so that every foot adds 4 inches, 64 sixteenths. Multiplied and shifted, what stands above two
-// digits gives its tenth and its hundredth part.
-fn digits(fractional: bool, v: u64) -> u64
-    requires { ⌜ v < 2 ^ 16 ⌝ }
-    ensures { λ r. ⌜ r ≡ digitsWord fractional v ⌝ }
-{
-    let above = above_two(fractional, v);
-    let two = either(fractional, 64 * above, 6 * (v / 10) + 96 * above);
-    v + two + 1536 * (((above * 205) >> 11) + 16 * ((above * 41) >> 12))
-}
-
-// The codes of a level's digits, worked out side by side. No mode has code of its own, so that none is guessed wrong where replies of several
-// modes come one after another: only the numbers differ that tell inches and sixteenths from decimal digits. A top digit of fewer bits has
-// the first codes of the decimal chart. What a level outside its mode gives is not used.
-pub(crate) fn codes(fractional: bool, v: u64) -> u64
-    requires { ⌜ v < 2 ^ 16 ⌝ }
-    ensures { λ r. ⌜ r ≡ codesIn fractional v ⌝ }
-{
-    let places = charts::turn(digits(fractional, v), either(fractional, 0x6640, 0x6666));
-    charts::codes(places, either(fractional, 0x1100, 0x1111))
 }

@@ -4,6 +4,7 @@ mod charts;
 mod heat;
 pub mod kinds;
 mod level;
+mod level_writing;
 mod line;
 mod modes;
 mod pair_table;

@@ -1,16 +1,15 @@
 // The four modes. Each mode's type carries its constants, and a level is read and written by those of its own mode.
 ghost use mathlib.Core.Path.{_≡_};
-ghost use Prim.Native.Nat.{_<_, _^_};
 ghost use Rattle.frame.specs.Level.{modeOf, putLevel};
 ghost use Rattle.frame.specs.inside.Packed.{levelCode, secondCode};
 ghost use Rattle.frame.specs.inside.Constants.{constantsBy};
-ghost use Rattle.frame.specs.inside.Codes.{placeBy};
 use crate::level;
+use crate::level_writing;
 use crate::pairs;
 
 // How many digits a mode has, the bit that they begin at, the fill bits before them (from bit 16) and after them (up to bit 37), its largest
-// level, the charts of its digits in a word (four bits a digit, the top digit lowest), and the state that the digit reader starts in: whether
-// a digit above the first is odd. None stands there, and the first is always read straight.
+// level, the charts of its digits in a word (four bits a digit, the top digit lowest), and the starting state: whether a digit above the
+// first is odd. None stands there, and the first is always read straight.
 pub(crate) struct Constants {
     pub(crate) digits: u64,
     pub(crate) first: u64,
@@ -34,11 +33,6 @@ impl Fractional {
         charts: 0x5432,
         start: false,
     };
-
-    const SHIFT: u64 = 27 + Self::CONSTANTS.after;
-
-    const OUTSIDE: u64 = ((1 << (38 - Self::CONSTANTS.first - Self::CONSTANTS.after)) - 1)
-        << Self::SHIFT;
 }
 
 // Feet and hundredths.
@@ -54,11 +48,6 @@ impl Decimal {
         charts: 0x3332,
         start: false,
     };
-
-    const SHIFT: u64 = 27 + Self::CONSTANTS.after;
-
-    const OUTSIDE: u64 = ((1 << (38 - Self::CONSTANTS.first - Self::CONSTANTS.after)) - 1)
-        << Self::SHIFT;
 }
 
 // 20 m, in millimetres.
@@ -74,11 +63,6 @@ impl Metres20 {
         charts: 0x33330,
         start: false,
     };
-
-    const SHIFT: u64 = 27 + Self::CONSTANTS.after;
-
-    const OUTSIDE: u64 = ((1 << (38 - Self::CONSTANTS.first - Self::CONSTANTS.after)) - 1)
-        << Self::SHIFT;
 }
 
 // 30 m, in millimetres.
@@ -94,11 +78,6 @@ impl Metres30 {
         charts: 0x33331,
         start: false,
     };
-
-    const SHIFT: u64 = 27 + Self::CONSTANTS.after;
-
-    const OUTSIDE: u64 = ((1 << (38 - Self::CONSTANTS.first - Self::CONSTANTS.after)) - 1)
-        << Self::SHIFT;
 }
 
 // The constants of the mode of this number: no mode has code of its own, it is read and written by these.
@@ -130,47 +109,9 @@ pub(crate) fn read_level_by_pairs(mode: u64, n: u64) -> u64
     pairs::read_by(constants_of(mode), n)
 }
 
-// What a level is written by in a mode, of its constants.
-struct Place {
-    largest: u64,
-    shift: u64,
-    outside: u64,
-}
-
-// They are picked by one choice: its three constants are then loaded, and no mode has code of its own.
-fn place_of(mode: u64) -> Place
-    ensures { λ r. ⌜ r ≡ placeBy mode ⌝ }
-{
-    match mode {
-        0 => Place {
-            largest: Fractional::CONSTANTS.largest,
-            shift: Fractional::SHIFT,
-            outside: Fractional::OUTSIDE,
-        },
-        1 => Place {
-            largest: Decimal::CONSTANTS.largest,
-            shift: Decimal::SHIFT,
-            outside: Decimal::OUTSIDE,
-        },
-        2 => Place {
-            largest: Metres20::CONSTANTS.largest,
-            shift: Metres20::SHIFT,
-            outside: Metres20::OUTSIDE,
-        },
-        _ => Place {
-            largest: Metres30::CONSTANTS.largest,
-            shift: Metres30::SHIFT,
-            outside: Metres30::OUTSIDE,
-        },
-    }
-}
-
 // The bits of a level in the mode of this number; the fill is 0.
 pub(crate) fn write_level(mode: u64, v: u64) -> u64
-    requires { ⌜ v < 2 ^ 16 ⌝ }
     ensures { λ r. ⌜ r ≡ putLevel (modeOf mode) v ⌝ }
 {
-    let place = place_of(mode);
-    let codes = level::codes(mode == 0, v);
-    level::either(v <= place.largest, codes << place.shift, place.outside)
+    level_writing::write_by(constants_of(mode), v)
 }

@@ -52,7 +52,7 @@ readPairsBy k n =
 
 -- The codes of a level's digits, written from the ones digit up.
 abbrev pub codesBy : Constants → ℕ → ℕ
-codesBy k v = writeUp (k .charts) (k .digits) v
+codesBy k v = writeUp (k .charts) (k .digits) (k .start) v
 
 -- Such codes in their place, or every digit bit 1 where the level is outside its mode.
 abbrev pub placedAt : ℕ → ℕ → ℕ → ℕ → ℕ → ℕ

@@ -58,17 +58,13 @@ abbrev pub Below : ℕ → Level → Type 0
 Below b (known v) = v < b
 Below b (lost k) = Unit {0}
 
--- The code of a level's ones digit by its chart. The digit above is odd exactly if all that stands above is odd, because every chart has
--- an even number of values.
-abbrev pub onesCode : Chart → ℕ → ℕ
-onesCode c v = codeOf (isOdd (v / sizeOf c)) c (v % sizeOf c)
-
--- The digits of a level written from the ones digit up, in four bits each.
-unfoldable pub writeUp : ℕ → ℕ → ℕ → ℕ
-writeUp row zero v = 0
-writeUp row (suc left) v =
+-- The digits of a level written from the ones digit up, in four bits each, by the word of their charts. The digit above is odd exactly if all
+-- that stands above is odd, because every chart has an even number of values; above the first digit stands the starting state.
+unfoldable pub writeUp : ℕ → ℕ → Bool → ℕ → ℕ
+writeUp row zero start v = 0
+writeUp row (suc left) start v =
     let c = chartOf (row / 16 ^ left % 16) in
-    onesCode c v + 16 * writeUp row left (v / sizeOf c)
+    codeOf (pick (eqb left 0) start (isOdd (v / sizeOf c))) c (v % sizeOf c) + 16 * writeUp row left start (v / sizeOf c)
 
 -- What reading a level gives: the level, or 2 ^ 16 times the fault, to which 7 adds the place of the digit.
 abbrev pub levelNumber : ℕ → Level → ℕ
