@@ -23,6 +23,5 @@ pub mod Parts
 pub mod Counted
 pub mod Sums
 pub mod Tenths
-pub mod Parity
 pub mod ToldBack
 pub mod Rising

@@ -1,14 +1,12 @@
 // A reply written: the word of its bits, its parity bit, and its bytes stored.
 ghost use mathlib.Core.Path.{_≡_};
 ghost use mathlib.Core.List.{_++_};
-ghost use Prim.Native.Nat.{_+_, _*_, _/_, _%_, _^_, _≤_};
-ghost use lib.Count.{ones};
+ghost use Prim.Native.Nat.{_/_, _%_, _^_, _≤_};
 ghost use lib.ListN.{length, drop};
 ghost use Rattle.frame.specs.Pick.{pick};
-ghost use Rattle.frame.specs.Charts.{isOdd};
-ghost use Rattle.frame.specs.Line.{put, firstBytes};
+ghost use Rattle.frame.specs.Line.{put, marks, firstBytes};
 ghost use Rattle.frame.specs.Temperature.{isAbsent};
-ghost use Rattle.frame.specs.Reply.{bodyOf, replyLine};
+ghost use Rattle.frame.specs.Reply.{bodyOf, parityFor, replyLine};
 ghost use Rattle.frame.specs.inside.Written.{frontOf};
 use crate::Reading;
 use crate::Temperature;
@@ -59,14 +57,34 @@ fn body(settings: u8, address: u16, reading: Reading) -> u64
     front + heat::write(settings / 4 % 2 == 1, heat::tenths(t))
 }
 
-// Whether the parity bit is to be 1: it makes the marks of the word even in number, or odd, by setting. The setting is counted with them, in
-// the word's lowest bit, which is 0.
-fn parity_wanted(settings: u8, n: u64) -> bool
-    requires { ⌜ n % 2 ≡ 0 ⌝ }
-    ensures { λ r. ⌜ r ≡ isOdd (ones n + settings / 8 % 2) ⌝ }
+// One byte of a line, by how many bits stand below it.
+fn byte(n: u64, below: u64) -> u8
+    requires { ⌜ below ≤ 56 ⌝ }
+    ensures { λ r. ⌜ r ≡ n / 2 ^ below % 256 ⌝ }
 {
-    let odd = (settings / 8 % 2) as u64;
-    u64::count_ones(n + odd) % 2 == 1
+    ((n >> below) % 256) as u8
+}
+
+// The marks of a reply, counted over its bytes, 5 of a short one and 7 of any other.
+fn marks(n: u64, short: bool) -> u32
+    ensures { λ r. ⌜ (r ≡ marks (firstBytes (pick short 5 7) n)) × (r ≤ 56) ⌝ }
+{
+    let five = u8::count_ones(byte(n, 56))
+        + u8::count_ones(byte(n, 48))
+        + u8::count_ones(byte(n, 40))
+        + u8::count_ones(byte(n, 32))
+        + u8::count_ones(byte(n, 24));
+    if short {
+        return five;
+    }
+    five + u8::count_ones(byte(n, 16)) + u8::count_ones(byte(n, 8))
+}
+
+// The parity bit makes the marks even in number, or odd, by setting.
+fn parity_bit(settings: u8, n: u64, short: bool) -> u64
+    ensures { λ r. ⌜ (r ≡ parityFor settings (firstBytes (pick short 5 7) n)) × (r ≤ 1) ⌝ }
+{
+    ((marks(n, short) + (settings / 8 % 2) as u32) % 2) as u64
 }
 
 // The last bit of a reply, 40 of a short one and 56 of any other.
@@ -83,44 +101,22 @@ pub(crate) fn whole_line(settings: u8, address: u16, reading: Reading) -> u64
 {
     let t = reading.temperature;
     let n = body(settings, address, reading);
-    let parity = last_bit(is_absent(t));
-    if parity_wanted(settings, n) {
-        return n + parity;
-    }
-    n
+    let short = is_absent(t);
+    n + parity_bit(settings, n, short) * last_bit(short)
 }
 
-// The two halves of a word in each other's place.
-fn halves_swapped(n: u64) -> u64
-    ensures { λ r. ⌜ r ≡ n % 2 ^ 32 * 2 ^ 32 + n / 2 ^ 32 ⌝ }
-{
-    (n << 32) + (n >> 32)
-}
-
-// One byte of a line, by how many bits stand below it.
-fn byte(n: u64, below: u64) -> u8
-    requires { ⌜ below ≤ 56 ⌝ }
-    ensures { λ r. ⌜ r ≡ n / 2 ^ below % 256 ⌝ }
-{
-    ((n >> below) % 256) as u8
-}
-
-// The first bytes of a line stored at the front of the output, 5 of a short reply and 7 of any other. The first four are the lowest four of
-// the word with its halves swapped, which the compiler knows to store at once.
+// The first bytes of a line stored at the front of the output, 5 of a short reply and 7 of any other.
 pub(crate) fn store(n: u64, short: bool, out: &mut [u8])
     requires { ⌜ pick short 5 7 ≤ length (now out) ⌝ }
     ensures { λ _. ⌜ now (out .exit) ≡ firstBytes (pick short 5 7) n ++ drop (pick short 5 7) (now (out .entry)) ⌝ }
 {
-    let swapped = halves_swapped(n);
-    out[0] = byte(swapped, 24);
-    out[1] = byte(swapped, 16);
-    out[2] = byte(swapped, 8);
-    out[3] = byte(swapped, 0);
-    if short {
-        out[4] = byte(swapped, 56);
-    } else {
-        out[4] = byte(swapped, 56);
-        out[5] = byte(swapped, 48);
-        out[6] = byte(swapped, 40);
+    out[0] = byte(n, 56);
+    out[1] = byte(n, 48);
+    out[2] = byte(n, 40);
+    out[3] = byte(n, 32);
+    out[4] = byte(n, 24);
+    if !short {
+        out[5] = byte(n, 16);
+        out[6] = byte(n, 8);
     }
 }

@@ -1,7 +1,7 @@
 -- `frame::writing::front` meets its contract: the parts are small enough to add up, and add up to the definition. Assumes nothing.
 use Prim.Native.Nat.{_%_, _^_, _<_}
 use native.Mathlib.Omega.{arith}
-use Rattle.frame.proofs.Sums.{level-middle, three-lt}
+use Rattle.frame.proofs.Sums.{level-small, three-lt}
 use borrow.Author.Needs.{needs}
 use Rattle.frame.proofs.writing.front.Statement.{statement}
 use Rattle.frame.proofs.writing.front.Tie as tie
@@ -13,7 +13,7 @@ head c = rw (c .three-of .ensures) (three-lt (c .before .args .address) (c .befo
 level : (c : tie.After-write-level) → c .write-level .result < 2 ^ 53
 level c =
     let a = c .before .before .before .args in
-    rw (c .write-level .ensures) (level-middle (a .settings % 4) (a .reading .level) .small)
+    rw (c .write-level .ensures) (level-small (a .settings % 4) (a .reading .level))
 
 three-of-requires : tie.Need-three-of-requires
 three-of-requires c κs = search needs
