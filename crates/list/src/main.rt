@@ -1,47 +1,8 @@
-// The program "list": a sheet on standard input, its listing on standard output. The library makes all that is printed there.
+// The program "list": a sheet on standard input, its listing on standard output. The library makes all that is printed there. Standard error has a word
+// where the input is no card to go by, and nothing otherwise.
 use frame::Written;
-use libc::STDERR_FILENO;
 use libc::STDIN_FILENO;
 use libc::STDOUT_FILENO;
-ghost use Prim.Native.Nat.{_-_, _≤_};
-ghost use lib.ListN.{length};
-ghost use Rattle.io.specs.Counts.{Counts};
-ghost use Rattle.libc.specs.Io.{Moved};
-
-// How many bytes were read, and whether a read failed.
-struct Input {
-    size: usize,
-    failed: bool,
-}
-
-// One read into the buffer after its first bytes.
-fn read_more(bytes: &mut [u8], size: usize) -> isize
-    requires { ⌜ size ≤ length (now bytes) ⌝ }
-    ensures { λ r. ⌜ Moved (length (now (bytes .entry)) - size) r ⌝ }
-{
-    libc::read(STDIN_FILENO, &mut bytes[size..])
-}
-
-// Reads until the input ends, a read fails or the buffer is full.
-fn read_input(bytes: &mut [u8]) -> Input
-    ensures { λ r. ⌜ Counts (r .size) (now (bytes .exit)) ⌝ }
-{
-    let mut size = 0;
-    while size < bytes.len() {
-        let got = read_more(bytes, size);
-        if got <= 0 {
-            return Input {
-                size,
-                failed: got < 0,
-            };
-        }
-        size += io::count(got, bytes);
-    }
-    Input {
-        size,
-        failed: false,
-    }
-}
 
 // The output is long enough for the listing of the largest sheet, so nothing is refused, and it is written at once.
 fn print_listing(sheet: &[u8]) {
@@ -52,14 +13,15 @@ fn print_listing(sheet: &[u8]) {
     }
 }
 
-// One byte more than the largest sheet is read, so that a larger input is known.
+// One byte more than the largest sheet is read, so that a larger input is known. Of an input that cannot be read to its end nothing is listed.
 fn main() {
     let mut bytes = [0u8; 65537];
-    let input = read_input(&mut bytes);
+    let input = cards::read_card(STDIN_FILENO, &mut bytes);
     let size = input.size;
-    if input.failed {
-        io::write_all(STDERR_FILENO, b"list: the input cannot be read\n");
-        return;
+    let failed = input.failed;
+    let tally = cards::count(&bytes[..size]);
+    cards::is_card(b"standard input", input, tally);
+    if !failed {
+        print_listing(&bytes[..size]);
     }
-    print_listing(&bytes[..size]);
 }

@@ -1,4 +1,4 @@
--- `list::read_more` meets its contract: a read moves at most as many bytes as the part that it was lent has. Assumes nothing.
+-- `cards::reading::read_more` meets its contract: a read moves at most as many bytes as the part that it was lent has. Assumes nothing.
 use mathlib.Core.Path.{_≡_}
 use Prim.Native.Nat.{_-_}
 use native.Mathlib.Omega.{arith}
@@ -7,8 +7,8 @@ use lib.Seq.{length-take-le}
 use mir.Syntax.{w64}
 use mir.Facts.{toZ-ofZ}
 use borrow.Author.Needs.{needs}
-use Rattle.list.proofs.read_more.Statement.{statement}
-use Rattle.list.proofs.read_more.Tie as tie
+use Rattle.cards.proofs.reading.read_more.Statement.{statement}
+use Rattle.cards.proofs.reading.read_more.Tie as tie
 
 sub-read : tie.Need-sub-read
 sub-read c = search needs
