@@ -1,68 +1,40 @@
-// The table of a summary: a heading, a line for each pair, and how many records are of other pairs.
-use libc::STDOUT_FILENO;
+// The table of a summary: a heading, a row for each pair, and how many records are of other pairs.
+use crate::columns::column;
+use crate::columns::number;
+use crate::columns::words;
+use crate::levels::level;
 use summary::Line;
 use summary::Summary;
 
-// Blanks up to a column's width, ten at most.
-fn blanks(used: usize, width: usize) {
-    let space = *b"          ";
-    if width <= used {
-        return;
-    }
-    let gap = width - used;
-    if gap <= 10 {
-        io::write_all(STDOUT_FILENO, &space[..gap]);
-    }
-}
-
-// A number at the right end of a column.
-fn column(n: u32, width: usize) {
-    let mut text = [0u8; 20];
-    let used = io::decimal(n as u64, &mut text);
-    blanks(used, width);
-    io::write_all(STDOUT_FILENO, &text[..used]);
-}
-
-// A level, or a dash where there is none.
-fn level(n: u16) {
-    if n == 0xffff {
-        io::write_all(STDOUT_FILENO, b"        -");
-        return;
-    }
-    column(n as u32, 9);
-}
-
-// Mode and unit in words, all equally long.
+// The mode, all equally long.
 fn mode(settings: u16) {
     match settings % 4 {
-        0 => io::write_all(STDOUT_FILENO, b"  fractional, 1/16 inch"),
-        1 => io::write_all(STDOUT_FILENO, b"  decimal, 1/100 foot  "),
-        2 => io::write_all(STDOUT_FILENO, b"  20 m, millimetres    "),
-        _ => io::write_all(STDOUT_FILENO, b"  30 m, millimetres    "),
+        0 => words(b"  fractional"),
+        1 => words(b"  decimal   "),
+        2 => words(b"  20 m      "),
+        _ => words(b"  30 m      "),
     }
-    ;
 }
 
 // The type of the transmitter and its parity.
 fn kind(settings: u16) {
     match (settings / 4) % 4 {
-        0 => io::write_all(STDOUT_FILENO, b"  1900 even"),
-        1 => io::write_all(STDOUT_FILENO, b"  1800 even"),
-        2 => io::write_all(STDOUT_FILENO, b"  1900 odd "),
-        _ => io::write_all(STDOUT_FILENO, b"  1800 odd "),
+        0 => words(b"  1900 even"),
+        1 => words(b"  1800 even"),
+        2 => words(b"  1900 odd "),
+        _ => words(b"  1800 odd "),
     }
-    ;
 }
 
 fn row(line: Line) {
     column(line.address as u32, 7);
     mode(line.settings);
     kind(line.settings);
-    level(line.lowest);
-    level(line.highest);
+    level(line.lowest, line.settings);
+    level(line.highest, line.settings);
     column(line.good, 8);
     column(line.faulty, 8);
-    io::write_all(STDOUT_FILENO, b"\n");
+    words(b"\n");
 }
 
 // A row for each line that is used.
@@ -78,13 +50,17 @@ fn rows(page: Summary) {
     }
 }
 
+// Records that have no row, and why.
+fn others(n: u32) {
+    words(b"\nothers ");
+    number(n as u64);
+    words(b": records on no row, whose address and settings came when all 30 rows were taken\n");
+}
+
 pub(crate) fn print(page: Summary) {
-    io::write_all(
-        STDOUT_FILENO,
-        b"address  mode and unit          type        lowest  highest    good  faulty\n",
+    words(
+        b"\naddress  mode        type                  lowest            highest    good  faulty\n",
     );
     rows(page);
-    io::write_all(STDOUT_FILENO, b"others ");
-    io::print_decimal(STDOUT_FILENO, page.others as u64);
-    io::write_all(STDOUT_FILENO, b"\n");
+    others(page.others);
 }

@@ -1,39 +1,37 @@
 // The cards that a page is made of, read from files or from standard input, and what is said where one of them gives no page.
+use crate::about;
 use libc::STDERR_FILENO;
 use libc::STDIN_FILENO;
 use summary::Made;
 use summary::Summary;
 
-// A summary to print. Where there is none to print, standard error has said why, and a blank one stands here.
+// A summary to print, and status 0. Where there is none to print, standard error has said why, and a blank one stands here: beside 1 a card gives
+// no page, beside 24 or 25 the cards cannot be joined.
 pub(crate) struct Page {
     pub(crate) summary: Summary,
-    pub(crate) made: bool,
+    pub(crate) status: u8,
 }
 
 // The summary of no bytes is blank.
-fn missing() -> Page {
+fn missing(status: u8) -> Page {
     let nothing = summary::sisal_summary_of(b"");
     let blank = nothing.summary;
     Page {
         summary: blank,
-        made: false,
+        status: status,
     }
 }
 
-// Why a number refuses, in words. 37 is left to the last arm: no summary that comes from a card is given it.
+// Why cards are not joined, in words. 37 is left to the last arm: no summary that comes from a card is given it.
 fn explain(number: u8) {
     match number {
-        12 => io::write_all(
-            STDERR_FILENO,
-            b"fault 12: its size is no multiple of 32 bytes, or above 65,536\n",
-        ),
         24 => io::write_all(
             STDERR_FILENO,
             b"fault 24: with it a pair's good or faulty replies are above 1,000,000\n",
         ),
         25 => io::write_all(
             STDERR_FILENO,
-            b"fault 25: with it there are more than 30 pairs, or it or a card before it has records of more than its 30\n",
+            b"fault 25: with it there are more than 30 pairs of address and settings, or it or a card before it has records of more than its 30\n",
         ),
         _ => io::write_all(STDERR_FILENO, b"fault 37: a summary is not in order\n"),
     }
@@ -46,34 +44,26 @@ fn page_of(made: Made, name: &[u8]) -> Page {
         let summary = made.summary;
         return Page {
             summary: summary,
-            made: true,
+            status: 0,
         };
     }
     io::write_all(STDERR_FILENO, name);
     io::write_all(STDERR_FILENO, b": ");
     explain(made.number);
-    missing()
+    missing(made.number)
 }
 
-// Nothing follows what was read. A full buffer is refused for its size whatever follows. Reading stops at the end of the input and at a read that
-// fails; one read more tells them apart, since a read that fails takes no byte: only at the end does it answer 0.
-fn at_end(fd: i32, size: usize) -> bool {
-    if size == 65537 {
-        return true;
-    }
-    let mut more = [0u8; 1];
-    libc::read(fd, &mut more) == 0
-}
-
-// The page of the card that is read from a descriptor. One byte more than the largest sheet is read, so that a larger input is known.
+// The page of the card that is read from a descriptor. What its slots hold is printed at once. One byte more than the largest sheet is read, so that a
+// larger input is known.
 fn card(fd: i32, name: &[u8]) -> Page {
     let mut bytes = [0u8; 65537];
-    let size = io::read_full(fd, &mut bytes);
-    if !at_end(fd, size) {
-        io::write_all(STDERR_FILENO, name);
-        io::write_all(STDERR_FILENO, b": cannot be read\n");
-        return missing();
+    let input = cards::read_card(fd, &mut bytes);
+    let size = input.size;
+    let tally = cards::count(&bytes[..size]);
+    if !cards::is_card(name, input, tally) {
+        return missing(1);
     }
+    about::card(name, tally);
     page_of(summary::sisal_summary_of(&bytes[..size]), name)
 }
 
@@ -82,7 +72,7 @@ fn file(name: &[u8]) -> Page {
     let fd = os::open_read(name);
     if fd < 0 {
         os::fail(name);
-        return missing();
+        return missing(1);
     }
     let page = card(fd, name);
     libc::close(fd);
@@ -92,7 +82,7 @@ fn file(name: &[u8]) -> Page {
 // A page with the card of one file more.
 fn with_file(page: Page, name: &[u8]) -> Page {
     let more = file(name);
-    if !more.made {
+    if more.status != 0 {
         return more;
     }
     let before = page.summary;
@@ -106,7 +96,7 @@ fn with_argument(page: Page, i: usize) -> Page {
     let size = os::arg(i, &mut name);
     if os::errno() != 0 {
         os::fail(b"a card's name");
-        return missing();
+        return missing(1);
     }
     if i == 1 {
         return file(&name[..size]);
@@ -116,11 +106,11 @@ fn with_argument(page: Page, i: usize) -> Page {
 
 // The cards of all arguments on one page, or none as soon as one of them gives none.
 fn all_files(n: usize) -> Page {
-    let mut page = missing();
+    let mut page = missing(1);
     let mut i: usize = 1;
     while i < n {
         page = with_argument(page, i);
-        if !page.made {
+        if page.status != 0 {
             return page;
         }
         i += 1;

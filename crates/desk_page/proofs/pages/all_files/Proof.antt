@@ -1,8 +1,8 @@
--- `desk_page::cards::all_files` is safe and ends: it counts the arguments. Assumes nothing.
+-- `desk_page::pages::all_files` is safe and ends: it counts the arguments. Assumes nothing.
 use Prim.Native.Nat.{_-_}
 use native.Mathlib.Omega.{arith}
-use Rattle.desk_page.proofs.cards.all_files.Statement.{statement}
-use Rattle.desk_page.proofs.cards.all_files.Tie as tie
+use Rattle.desk_page.proofs.pages.all_files.Statement.{statement}
+use Rattle.desk_page.proofs.pages.all_files.Tie as tie
 
 abbrev Inv-loop : tie.InvT-loop
 Inv-loop n page₀ i₀ page i = Unit {0}

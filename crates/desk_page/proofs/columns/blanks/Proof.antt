@@ -1,9 +1,9 @@
--- `desk_page::table::blanks` is safe: the part of the ten blanks that is written has as many of them as the gap. Assumes nothing.
+-- `desk_page::columns::blanks` is safe: the part of the twenty blanks that is written has as many of them as the gap. Assumes nothing.
 use mathlib.Core.Path.{sym}
 use lib.Seq.{length-take-le}
 use borrow.Author.Needs.{needs}
-use Rattle.desk_page.proofs.table.blanks.Statement.{statement}
-use Rattle.desk_page.proofs.table.blanks.Tie as tie
+use Rattle.desk_page.proofs.columns.blanks.Statement.{statement}
+use Rattle.desk_page.proofs.columns.blanks.Tie as tie
 
 returns : tie.Need-returns
 returns c = search needs
