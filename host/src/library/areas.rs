@@ -15,6 +15,11 @@ struct Plan {
 
 const _: () = assert!(size_of::<Plan>() == 10);
 
+#[cfg(test)]
+layout_of! {
+    "sisal_plan": Plan { sizes, areas, number }
+}
+
 extern "C" {
     fn sisal_plan_areas(site: *const u32, site_count: usize) -> Plan;
     fn sisal_check_areas(

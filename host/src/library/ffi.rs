@@ -1,7 +1,8 @@
 //! The calls of the archive as `include/sisalcove.h` declares them.
 //!
 //! Nothing checks these declarations against the proved sources, so they are few and plain, and
-//! the comparisons run every one of them. A slice is a pointer and a length.
+//! the comparisons run every one of them; `layout` compares their fields with the header's. A slice
+//! is a pointer and a length.
 
 use std::mem::{align_of, size_of};
 
@@ -99,6 +100,21 @@ const _: () = {
     assert!(size_of::<Standing>() == 24);
     assert!(size_of::<Heard>() == 2);
 };
+
+#[cfg(test)]
+layout_of! {
+    "sisal_poll": Poll { address, raise, reset, number }
+    "sisal_reply": Reply { level, tenths, kind, alarm1, alarm0, number, place }
+    "sisal_done": Done { count, number }
+    "sisal_slot": Slot { reply, minute, address, settings, count, state, number }
+    "sisal_row": Row {
+        minute, address, level, tenths, settings, fault, used, kind, alarm1, alarm0, heard, faulty, place, gauge
+    }
+    "sisal_heard": Heard { number, place }
+    "sisal_standing": Standing {
+        minute, address, level, tenths, settings, fault, number, kind, alarm1, alarm0, heard, faulty, place, gauge
+    }
+}
 
 extern "C" {
     pub fn sisal_version() -> u32;

@@ -21,6 +21,11 @@ struct Told {
 
 const _: () = assert!(size_of::<Told>() == 26 && align_of::<Told>() == 2);
 
+#[cfg(test)]
+layout_of! {
+    "sisal_item": Told { data, error, ciu, gauge, first, second, kind, length, number }
+}
+
 extern "C" {
     fn sisal_read_item(record: *const u8, record_bytes: usize) -> Told;
     fn sisal_write_item(

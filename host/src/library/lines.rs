@@ -19,6 +19,12 @@ const _: () = {
     assert!(size_of::<Told>() == 40);
 };
 
+#[cfg(test)]
+layout_of! {
+    "sisal_lines_so_far": SoFar { bits, run, count, line, fault }
+    "sisal_lines_told": Told { so_far, taken, message, count, number }
+}
+
 extern "C" {
     fn sisal_hear_lines(
         so_far: SoFar,

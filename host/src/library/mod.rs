@@ -4,6 +4,10 @@
 //! makes a call safe is that a Rust slice is never null and that what is lent for writing is lent
 //! to nobody else.
 
+#[cfg(test)]
+#[macro_use]
+mod layout;
+
 mod areas;
 mod bare;
 mod ffi;

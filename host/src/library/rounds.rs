@@ -30,6 +30,14 @@ const _: () = {
     assert!(size_of::<ToldPage>() == 512 && offset_of!(ToldPage, closed) == 488);
 };
 
+#[cfg(test)]
+layout_of! {
+    "sisal_polled": Polled { minute, count, bytes, address, settings, unused, reply }
+    "sisal_round": Round { replies, count }
+    "sisal_rounded": Told { closed, stores, number }
+    "sisal_rounded_page": ToldPage { summary, closed, stores, number }
+}
+
 extern "C" {
     fn sisal_save_round(sheet: *mut u8, sheet_bytes: usize, round: Round, allowance: usize)
         -> Told;

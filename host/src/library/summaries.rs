@@ -26,6 +26,14 @@ const _: () = {
     assert!(size_of::<KeptPage>() == 504);
 };
 
+#[cfg(test)]
+layout_of! {
+    "sisal_line": Line { address, settings, lowest, highest, good, faulty }
+    "sisal_summary": Summary { count, others, lines }
+    "sisal_made": Made { summary, number }
+    "sisal_kept": KeptPage { summary, count, number }
+}
+
 extern "C" {
     pub(super) fn sisal_summary_of(sheet: *const u8, sheet_bytes: usize) -> Made;
     pub(super) fn sisal_summary_save(
