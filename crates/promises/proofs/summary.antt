@@ -4,7 +4,9 @@ pub mod AtAnyMoment
 pub mod OwnFigures
 pub mod InOrder
 pub mod DemandThreeStands
+pub mod Shape
 pub mod FirstFault
+pub mod Refused
 pub mod OneOutcome
 pub mod Afresh
 pub mod DeskSummary

@@ -5,6 +5,7 @@ pub mod OwnFigures
 pub mod InOrder
 pub mod DemandThreeStands
 pub mod FirstFault
+pub mod Refused
 pub mod OneOutcome
 pub mod Afresh
 pub mod DeskSummary

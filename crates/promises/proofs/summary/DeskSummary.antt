@@ -5,6 +5,7 @@ use Rattle.promises.proofs.summary.OwnFigures.{own-figures}
 use Rattle.promises.proofs.summary.InOrder.{in-order}
 use Rattle.promises.proofs.summary.DemandThreeStands.{demand-three-stands}
 use Rattle.promises.proofs.summary.FirstFault.{summary-fault}
+use Rattle.promises.proofs.summary.Refused.{refused-exactly}
 use Rattle.promises.proofs.summary.OneOutcome.{summary-outcome}
 use Rattle.promises.proofs.summary.Afresh.{afresh-made}
 
@@ -16,6 +17,7 @@ desk-summary =
       in-order = in-order;
       demand-three-stands = demand-three-stands;
       first-fault = summary-fault;
+      refused-exactly = refused-exactly;
       one-outcome = summary-outcome;
       afresh = afresh-made;
     }

@@ -6,7 +6,7 @@ use Prim.Native.Nat.{ℕ}
 use borrow.Author.Tests.{eqb-true}
 use lib.Dec.{eqb}
 use Rattle.frame.specs.Pick.{pick}
-use Rattle.frame.specs.Faults.{Test, _gives_, firstOf}
+use Rattle.frame.specs.Faults.{_gives_, firstOf}
 use Rattle.sheet.specs.Record.{Entry}
 use Rattle.sheet.specs.Slots.{sizeAllowed, listOf}
 use Rattle.sheet.specs.Save.{saveFault}
@@ -19,6 +19,7 @@ use Rattle.summary.specs.Handed.{misshapen, over, handedFault}
 use Rattle.summary.specs.Calls.{madeOf, keptOf, afresh, keepFault}
 use Rattle.promises.specs.sheet.FirstFault.{saveTable, saveOrder}
 use Rattle.promises.specs.summary.FirstFault.{keepTable, keepOrder, SummaryFault}
+use Rattle.promises.proofs.summary.Shape.{same-shape, same-counts}
 use Rattle.promises_frame.proofs.FirstFault.{asked, given}
 
 save-asks : (s : List ℕ) (e : Entry) → saveFault s e ≡ firstOf (asked (saveTable s e) saveOrder)
@@ -26,7 +27,9 @@ unfolding saveFault
 save-asks s e = refl
 
 keep-asks : (sheet : List ℕ) (s : Summary) (e : Entry) → keepFault sheet s e ≡ firstOf (asked (keepTable sheet s e) keepOrder)
-keep-asks sheet s e = opened ∙ go (misshapen s) (over s) refl refl
+keep-asks sheet s e =
+    opened ∙ go (misshapen s) (over s) refl refl
+    ∙ (λ i. firstOf (sym (same-shape s) i gives 37 ∷ sym (same-counts s) i gives 24 ∷ asked (saveTable sheet e) saveOrder))
   where
     opened : keepFault sheet s e ≡ pick (eqb (firstOf (misshapen s gives 37 ∷ over s gives 24 ∷ [])) 0) (saveFault sheet e) (firstOf (misshapen s gives 37 ∷ over s gives 24 ∷ []))
     opened = unfold keepFault in unfold handedFault in refl
@@ -44,7 +47,7 @@ keep-asks sheet s e = opened ∙ go (misshapen s) (over s) refl refl
         own ∙ save-asks sheet e ∙ sym listed
 
 -- the number of an answer
-kept-number : (a : Kept) (s : Summary) (f : ℕ) → a .number ≡ 0 → pick (eqb f 0) a (keptOf s 0 f) .number ≡ f
+pub kept-number : (a : Kept) (s : Summary) (f : ℕ) → a .number ≡ 0 → pick (eqb f 0) a (keptOf s 0 f) .number ≡ f
 kept-number a s f z = go (eqb f 0) refl
   where
     go : (b : Bool) → eqb f 0 ≡ b → pick b a (keptOf s 0 f) .number ≡ f

@@ -1,45 +1,40 @@
 -- The promises of a join: its lines hold at each pair the two lines together, and rise; so two joins that hold the same are equal. Assumes nothing.
 use mathlib.Core.Path.{_≡_, refl, sym, ap, subst, _∙_}
 use mathlib.Core.Bool.{Bool, true, false, _||_}
-use mathlib.Core.List.{List, [], _∷_, _++_, map}
-use Prim.Native.Nat.{ℕ, zero, suc, _+_, _<_, _≤_}
+use mathlib.Core.List.{List, [], _∷_, _++_}
+use Prim.Native.Nat.{ℕ, zero, suc, _+_, _<_}
 use native.Mathlib.Omega.{arith}
-use borrow.Author.Tests.{eqb-true, eqb-false, ltb-false, le-ltb}
+use borrow.Author.Tests.{eqb-true, eqb-false, le-ltb}
 use lib.Dec.{eqb, ltb}
-use lib.ListN.{length, getD, take, replicate}
-use lib.Seq.{getD-take}
-use Rattle.frame.specs.Pick.{pick}
-use Rattle.frame.specs.Faults.{Test, _gives_, firstOf}
+use lib.ListN.{length, getD, replicate}
+use Rattle.frame.specs.Faults.{_gives_, firstOf}
 use Rattle.frame.specs.Rising.{Rises, rises-none, heldAt}
-use Rattle.frame.proofs.Rising.{same-rising}
 use Rattle.sheet.specs.Record.{Entry}
 use Rattle.summary.specs.declared.Line.{Line}
 use Rattle.summary.specs.declared.Summary.{Summary}
 use Rattle.summary.specs.declared.Made.{Made}
-use Rattle.summary.specs.Line.{pairOf, together, page, blankLine, blankSummary}
-use Rattle.summary.specs.Worked.{pairIn, ofPair, figures, lineFor, pairsOf, keptPairs, among, inOrder, outside, summaryOf}
+use Rattle.summary.specs.Line.{pairOf, page, blankLine, blankSummary}
+use Rattle.summary.specs.Worked.{summaryOf}
 use Rattle.summary.specs.Handed.{linesOf, lineAt, misshapen, countsOver, linesOver}
 use Rattle.summary.specs.Calls.{madeOf}
 use Rattle.summary.specs.Joined.{putAll, joinLines, joinPage, unkept, joinOver, joinFault, joinOf, JoinsSummaries}
-use Rattle.summary.specs.inside.Placed.{Sound}
-use Rattle.summary.proofs.Every.{neither, none-over}
+use Rattle.summary.proofs.Every.{none-over}
 use Rattle.summary.proofs.HandedIn.{sound-handed}
 use Rattle.summary.proofs.Pages.{lines-page}
 use Rattle.summary.proofs.PutAll.{rises-all}
 use Rattle.summary.proofs.Shaped.{shaped-page, told-none}
 use Rattle.summary.proofs.LinesAdded.{count-of}
 use Rattle.summary.proofs.JoinTests.{fault-by, refused-join, made-join}
-use Rattle.promises_frame.specs.One.{One}
-use Rattle.promises_frame.specs.FirstFault.{FirstThatApplies}
 use Rattle.promises.specs.summary.OwnFigures.{lineIn}
 use Rattle.promises.specs.summary.InOrder.{Ordered}
 use Rattle.promises.specs.summary.Join.{Handed, Clean, bothLines, joinTable, Join}
 use Rattle.promises_frame.proofs.FirstFault.{asked, given}
-use Rattle.promises.proofs.summary.JoinLines.{held-all, AllNarrow, all-narrow, lines-turned}
+use Rattle.promises.proofs.summary.JoinLines.{held-all, lines-turned}
 use Rattle.promises.proofs.summary.EndToEnd.{end-lines}
-use Rattle.promises.proofs.summary.JoinPassed.{number-is, Passed, passed, clean-sides, narrow-lines}
+use Rattle.promises.proofs.summary.JoinPassed.{number-is, passed, clean-sides, narrow-lines}
 use Rattle.promises.proofs.summary.Grouping.{few-join, clean-join, handed-join, grouping-of}
 use Rattle.promises.proofs.summary.InOrder.{ordered}
+use Rattle.promises.proofs.summary.Shape.{same-shape}
 
 fault-of : (a b : Summary) (r : Made) → JoinsSummaries a b r → r .number ≡ 0 → joinFault a b ≡ 0
 fault-of a b r j n = sym (number-is a b) ∙ sym (ap (λ (m : Made). m .number) (j .answers)) ∙ n
@@ -179,6 +174,12 @@ ends l m r j n =
     let p = passed (summaryOf l) (summaryOf m) (fault-of (summaryOf l) (summaryOf m) r j n) in
     summary-of (summaryOf l) (summaryOf m) r j n ∙ end-lines l m (p .few) (p .kept-a) (p .kept-b)
 
+-- the tests in the table's words
+asks : (a b : Summary) → joinFault a b ≡ firstOf (asked (joinTable a b) (37 ∷ 25 ∷ 24 ∷ []))
+asks a b =
+    let own : joinFault a b ≡ firstOf ((misshapen a || misshapen b) gives 37 ∷ unkept a b gives 25 ∷ joinOver a b gives 24 ∷ []) = unfold joinFault in refl in
+    own ∙ (λ i. firstOf ((sym (same-shape a) i || sym (same-shape b) i) gives 37 ∷ unkept a b gives 25 ∷ joinOver a b gives 24 ∷ []))
+
 pub join-promises : Join
 join-promises =
     record {
@@ -193,6 +194,6 @@ join-promises =
           ap (λ (x : Made). x .summary)
           (j .answers ∙ refused-join a b (joinFault a b) refl (λ z. n (ap (λ (x : Made). x .number) (j .answers) ∙ number-is a b ∙ z)));
       first-fault = λ a b r j. given (joinTable a b) (37 ∷ 25 ∷ 24 ∷ []) (r .number)
-          (ap (λ (x : Made). x .number) (j .answers) ∙ number-is a b ∙ (unfold joinFault in refl));
+          (ap (λ (x : Made). x .number) (j .answers) ∙ number-is a b ∙ asks a b);
       one-outcome = λ a b. record { same = λ r q j k. j .answers ∙ sym (k .answers); some = _; allowed = record { answers = refl } };
     }

@@ -4,6 +4,7 @@ use Rattle.promises.specs.summary.OwnFigures.{OwnFigures}
 use Rattle.promises.specs.summary.InOrder.{InOrder}
 use Rattle.promises.specs.summary.DemandThreeStands.{DemandThreeStands}
 use Rattle.promises.specs.summary.FirstFault.{SummaryFault}
+use Rattle.promises.specs.summary.Refused.{RefusedExactly}
 use Rattle.promises.specs.summary.OneOutcome.{SummaryOutcome}
 use Rattle.promises.specs.summary.Afresh.{Afresh}
 
@@ -13,5 +14,6 @@ pub record DeskSummary : Type 0 where
   pub in-order : InOrder
   pub demand-three-stands : DemandThreeStands
   pub first-fault : SummaryFault
+  pub refused-exactly : RefusedExactly
   pub one-outcome : SummaryOutcome
   pub afresh : Afresh

@@ -21,6 +21,7 @@ use Rattle.promises_frame.specs.One.{One}
 use Rattle.promises_frame.specs.FirstFault.{FirstThatApplies}
 use Rattle.promises.specs.summary.OwnFigures.{lineIn}
 use Rattle.promises.specs.summary.InOrder.{Ordered}
+use Rattle.promises.specs.summary.FirstFault.{outOfShape}
 
 -- A summary as a host hands it in: 30 lines, and settings of 16 bits.
 pub record Handed (s : Summary) : Type 0 where
@@ -41,7 +42,7 @@ bothLines (x ∷ xs) [] = x ∷ []
 bothLines (x ∷ xs) (y ∷ ys) = together x y ∷ []
 
 abbrev pub joinTable : Summary → Summary → List Test
-joinTable a b = joinOver a b gives 24 ∷ unkept a b gives 25 ∷ (misshapen a || misshapen b) gives 37 ∷ []
+joinTable a b = joinOver a b gives 24 ∷ unkept a b gives 25 ∷ (outOfShape a || outOfShape b) gives 37 ∷ []
 
 -- Three summaries joined from the left, and from the right: where the first join is refused, so is the whole.
 abbrev pub fromLeft : Summary → Summary → Summary → Made
