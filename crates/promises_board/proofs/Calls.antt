@@ -34,7 +34,9 @@ use Rattle.promises_board.specs.Calls.{IsRowOf, OnlyRow, HearPromise, Lo
 use Rattle.promises_board.specs.Profiles.{OutOfRange}
 use Rattle.promises_frame.specs.Calls.{PollLeft}
 use Rattle.promises_frame.proofs.OnlyItsBytes.{only-its-bytes}
-use Rattle.promises_frame.proofs.Polls.{poll-then-read}
+use Rattle.promises_frame.specs.Bits.{bitAt}
+use Rattle.promises_frame.proofs.BitsAreBits.{bits-are-bits}
+use Rattle.promises_frame.proofs.Polls.{left-first, unused-bit, poll-then-read}
 use Rattle.promises_board.proofs.Tests.{and-false}
 use Rattle.promises_board.proofs.Ranges.{is-out, is-in}
 use Rattle.promises_board.proofs.Places.{row-place, row-on, row-is, unknown-off, only-row, unchanged}
@@ -44,11 +46,27 @@ use Rattle.promises_board.proofs.Told.{tells}
 pub board-one-outcome : BoardOneOutcome
 board-one-outcome =
     record {
-      enrol = λ rows settings address gauge a b after later p q. (p .answers ∙ sym (q .answers), p .leaves ∙ sym (q .leaves));
-      hear = λ rows minute address count reply a b after later p q. (p .answers ∙ sym (q .answers), p .leaves ∙ sym (q .leaves));
-      remove = λ rows address a b after later p q. (p .answers ∙ sym (q .answers), p .leaves ∙ sym (q .leaves));
-      look-up = λ rows address a b p q. p .answers ∙ sym (q .answers);
-      poll = λ rows address raise reset out a b after later p q. (p .answers ∙ sym (q .answers), p .leaves ∙ sym (q .leaves));
+      enrol = λ rows settings address gauge. record {
+        same = λ a b p q i. ((p .answers ∙ sym (q .answers)) i, (p .leaves ∙ sym (q .leaves)) i);
+        some = (_, _);
+        allowed = record { answers = refl; leaves = refl };
+      };
+      hear = λ rows minute address count reply. record {
+        same = λ a b p q i. ((p .answers ∙ sym (q .answers)) i, (p .leaves ∙ sym (q .leaves)) i);
+        some = (_, _);
+        allowed = record { answers = refl; leaves = refl };
+      };
+      remove = λ rows address. record {
+        same = λ a b p q i. ((p .answers ∙ sym (q .answers)) i, (p .leaves ∙ sym (q .leaves)) i);
+        some = (_, _);
+        allowed = record { answers = refl; leaves = refl };
+      };
+      look-up = λ rows address. record { same = λ a b p q. p .answers ∙ sym (q .answers); some = _; allowed = record { answers = refl } };
+      poll = λ rows address raise reset out. record {
+        same = λ a b p q i. ((p .answers ∙ sym (q .answers)) i, (p .leaves ∙ sym (q .leaves)) i);
+        some = (_, _);
+        allowed = record { answers = refl; leaves = refl };
+      };
     }
 
 -- the rows at a place, where the place and the row that was put are known by other names
@@ -222,6 +240,12 @@ module _ (rows : List Row) (address raise reset : ℕ) (out : List ℕ) (answer 
         polled = λ a i p m l.
             let w = writes a i p m l in
             let left : PollLeft (record { address = address; raise = isSet raise; reset = isSet reset }) (take 2 after) = record { out = out; after = after; said = Bytes 2; long-enough = l; call = w .1; first = refl } in
-            let only = only-its-bytes .write-poll address (isSet raise) (isSet reset) out after (Bytes 2) (w .1) in
-            (w .0, record { answers = sym (poll-then-read (record { address = address; raise = isSet raise; reset = isSet reset }) a (take 2 after) left (pollOf (take 2 after)) (record { answers = refl }) .1) }, only .same-length, only .others);
+            let only = only-its-bytes .write-poll address (isSet raise) (isSet reset) out after (Bytes 2) (w .1) in (
+              w .0,
+              record { answers = sym (poll-then-read (record { address = address; raise = isSet raise; reset = isSet reset }) a (take 2 after) left (pollOf (take 2 after)) (record { answers = refl }) .1) },
+              only .same-length,
+              only .others,
+              ap (λ (s : List ℕ). bitAt s 2) (left-first (record { address = address; raise = isSet raise; reset = isSet reset }) a (take 2 after) left .1)
+                  ∙ bits-are-bits .written 2 (pollLine address (isSet raise) (isSet reset)) 2 (omega arith) (omega arith) (omega arith) ∙ unused-bit address (isSet raise) (isSet reset) a,
+            );
       }

@@ -20,6 +20,8 @@ use Rattle.board.specs.declared.Row.{Row}
 use Rattle.board.specs.Gauge.{is6500, profileMisplaced, gaugeTold}
 use Rattle.board.specs.Row.{isFree, inUse, lastOf, newRow, withReading, withFault, placeTold, heardAt, heardOf}
 use Rattle.board.specs.Calls.{Enrols, Hears, Removes, LooksUp, PollsRow, heardAs, refusedLook, lastTold, minuteTold}
+use Rattle.promises_frame.specs.One.{One}
+use Rattle.promises_frame.specs.Bits.{bitAt}
 use Rattle.promises_order.specs.Places.{rowAt, OnBoard}
 use Rattle.promises_order.specs.Order.{SoKept, Front, IsPlaceFor, Inserted, Closed}
 use Rattle.promises_board.specs.Profiles.{OutOfRange, Checked}
@@ -136,7 +138,7 @@ pub data MayAsk (row : Row) (raise reset : ℕ) : Type 0 where
   to-reset : is6500 (row .gauge) ≡ true → isSet raise ≡ false → MayAsk row raise reset
 
 -- Writing a row's poll: 11, 17, 28 for raise or reset to a row without the mark and for both at once, 15, and no byte changes; or 0, and the first 2 bytes
--- read back as a poll of this address with what was asked, and the rest stay.
+-- read back as a poll of this address with what was asked, bit 2, which a poll does not use, is 0, and the rest stay.
 pub record PollPromise (rows : List Row) (address raise reset : ℕ) (out : List ℕ) (answer : ℕ) (after : List ℕ) : Type 0 where
   pub bad-address : 999 < address → (answer ≡ 11) × (after ≡ out)
   pub unknown : address ≤ 999 → Unknown rows address → (answer ≡ 17) × (after ≡ out)
@@ -146,7 +148,7 @@ pub record PollPromise (rows : List Row) (address raise reset : ℕ) (out : List
   pub short : address ≤ 999 → (i : ℕ) → IsRowOf rows address i → MayAsk (rowAt rows i) raise reset → length out < 2 → (answer ≡ 15) × (after ≡ out)
   pub polled : address ≤ 999 → (i : ℕ) → IsRowOf rows address i → MayAsk (rowAt rows i) raise reset → 2 ≤ length out
       → (answer ≡ 0) × ReadsPoll (take 2 after) (Asked (record { address = address; raise = isSet raise; reset = isSet reset }))
-      × (length after ≡ length out) × ((k : ℕ) → 2 ≤ k → getD after k 0 ≡ getD out k 0)
+      × (length after ≡ length out) × ((k : ℕ) → 2 ≤ k → getD after k 0 ≡ getD out k 0) × (bitAt (take 2 after) 2 ≡ 0)
 
 -- Whatever a contract allows keeps these promises, and it allows one outcome.
 pub record BoardCalls : Type 0 where
@@ -160,13 +162,12 @@ pub record BoardCalls : Type 0 where
   pub poll : (rows : List Row) (address raise reset : ℕ) (out : List ℕ) (answer : ℕ) (after : List ℕ) → SoKept rows
       → PollsRow rows address raise reset out answer after → PollPromise rows address raise reset out answer after
 
+-- Of each call any two outcomes that its contract allows, answer and memory, are equal, and there is one.
 pub record BoardOneOutcome : Type 0 where
-  pub enrol : (rows : List Row) (settings address gauge a b : ℕ) (after later : List Row) → Enrols rows settings address gauge a after
-      → Enrols rows settings address gauge b later → (a ≡ b) × (after ≡ later)
-  pub hear : (rows : List Row) (minute address count : ℕ) (reply : List ℕ) (a b : Heard) (after later : List Row)
-      → Hears rows minute address count reply a after → Hears rows minute address count reply b later → (a ≡ b) × (after ≡ later)
-  pub remove : (rows : List Row) (address a b : ℕ) (after later : List Row) → Removes rows address a after → Removes rows address b later
-      → (a ≡ b) × (after ≡ later)
-  pub look-up : (rows : List Row) (address : ℕ) (a b : Looked) → LooksUp rows address a → LooksUp rows address b → a ≡ b
-  pub poll : (rows : List Row) (address raise reset : ℕ) (out : List ℕ) (a b : ℕ) (after later : List ℕ) → PollsRow rows address raise reset out a after
-      → PollsRow rows address raise reset out b later → (a ≡ b) × (after ≡ later)
+  pub enrol : (rows : List Row) (settings address gauge : ℕ) → One (ℕ × List Row) (λ o. Enrols rows settings address gauge (o .0) (o .1))
+  pub hear : (rows : List Row) (minute address count : ℕ) (reply : List ℕ)
+      → One (Heard × List Row) (λ o. Hears rows minute address count reply (o .0) (o .1))
+  pub remove : (rows : List Row) (address : ℕ) → One (ℕ × List Row) (λ o. Removes rows address (o .0) (o .1))
+  pub look-up : (rows : List Row) (address : ℕ) → One Looked (LooksUp rows address)
+  pub poll : (rows : List Row) (address raise reset : ℕ) (out : List ℕ)
+      → One (ℕ × List ℕ) (λ o. PollsRow rows address raise reset out (o .0) (o .1))

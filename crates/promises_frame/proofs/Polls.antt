@@ -47,12 +47,16 @@ poll-parts address raise reset h =
     let t = three address h in
     parts (pollLine address raise reset) (mark raise) (mark reset) (address / 100) (address / 10 % 10) (address % 10) refl (mark-lt raise) (mark-lt reset) (t .0) (t .1) (t .2)
 
+-- The bit that a poll does not use is written as 0.
+pub unused-bit : (address : ℕ) (raise reset : Bool) → address ≤ 999 → bit (pollLine address raise reset) 2 ≡ 0
+unused-bit address raise reset h = poll-parts address raise reset h .unused
+
 -- What a write leaves first in a long enough buffer.
 no-fault : (address : ℕ) (out : List ℕ) → address ≤ 999 → 2 ≤ length out → writePollFault address out ≡ 0
 unfolding writePollFault firstOf
 no-fault address out h k = rw (le-ltb 999 address h, le-ltb (length out) 2 k)
 
-left-first : (p : Poll) → p .address ≤ 999 → (bytes : List ℕ) (left : PollLeft p bytes)
+pub left-first : (p : Poll) → p .address ≤ 999 → (bytes : List ℕ) (left : PollLeft p bytes)
     → (left .said ≡ Bytes 2) × (bytes ≡ firstBytes 2 (pollLine (p .address) (p .raise) (p .reset)))
 left-first p h bytes left =
     let f = no-fault (p .address) (left .out) h (left .long-enough) in
