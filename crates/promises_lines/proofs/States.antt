@@ -34,7 +34,7 @@ begun-again =
     }
 
 -- What two states mean being the same, they are heard alike.
-alike : (s u : SoFar) (least most gap : ℕ) (xs : List ℕ) (a : LinesTold) → badTiming (timing least most gap) ≡ false → meant s ≡ meant u
+pub alike : (s u : SoFar) (least most gap : ℕ) (xs : List ℕ) (a : LinesTold) → badTiming (timing least most gap) ≡ false → meant s ≡ meant u
     → HearsLines s least most gap xs a → linesAnswer u (timing least most gap) xs ≡ answered (hear (timing least most gap) (meant u) xs) → HearsLines u least most gap xs a
 alike s u least most gap xs a e same c is =
     record { answers = heard-by s least most gap xs a e c ∙ ap (λ (n : SoFar). answered (hear (timing least most gap) n xs)) same ∙ sym is }
