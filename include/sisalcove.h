@@ -53,8 +53,8 @@ extern "C" {
 
 /* ---- the version ----------------------------------------------------------------------------------------------------------------- */
 
-/* It goes up with every change of a struct, of a call's arguments or of a number's meaning. */
-#define SISAL_VERSION 4u
+/* It goes up with every change of a struct, of a call's arguments or of a number's meaning, and from 5 on with calls that are added. */
+#define SISAL_VERSION 5u
 
 /* The version of the archive. Refuses nothing. */
 SISAL_ANSWER uint32_t sisal_version(void);
@@ -155,6 +155,7 @@ enum sisal_size {
     SISAL_REPLY_MOST_BYTES = 8, /* whatever came on the line, up to 64 bits */
     SISAL_SLOT_BYTES = 32,      /* a slot of the sheet */
     SISAL_SHEET_BYTES = 65536,  /* the largest sheet: 2,048 slots */
+    SISAL_MOST_STORES = 19,     /* the stores of a save of 64 bits, which has the most */
     SISAL_LINE_BYTES = 40,      /* enough for every line of a listing, its newline included */
     SISAL_ROWS = 30             /* rows of a board that are ever read or written */
 };
@@ -208,6 +209,18 @@ struct sisal_slot {
 };
 
 /*
+ * A save told as its stores: store i, for i below `count`, puts bytes[i] into byte SISAL_SLOT_BYTES * slot + places[i] of the sheet. Behind
+ * them both rows are 0. It has no padding.
+ */
+struct sisal_stores {
+    uint32_t slot; /* counted from 0 */
+    uint8_t places[SISAL_MOST_STORES]; /* within the slot: from byte 2 on, ascending; then byte 1, then byte 0 */
+    uint8_t bytes[SISAL_MOST_STORES];
+    uint8_t count; /* 11 to 19; 0 beside a refusal */
+    uint8_t number;
+};
+
+/*
  * A row of the board, lent by the host. All zeros is a free row, so a board begins as memset(rows, 0, sizeof rows). Every pattern of
  * bytes is a row; the host may read rows at any time between calls.
  */
@@ -256,6 +269,7 @@ static_assert(sizeof(struct sisal_poll) == 6, "struct sisal_poll");
 static_assert(sizeof(struct sisal_reply) == 10, "struct sisal_reply");
 static_assert(sizeof(struct sisal_done) == 16, "struct sisal_done");
 static_assert(sizeof(struct sisal_slot) == 20, "struct sisal_slot");
+static_assert(sizeof(struct sisal_stores) == 44, "struct sisal_stores");
 static_assert(sizeof(struct sisal_row) == 24, "struct sisal_row");
 static_assert(sizeof(struct sisal_standing) == 24, "struct sisal_standing");
 static_assert(sizeof(struct sisal_heard) == 2, "struct sisal_heard");
@@ -308,6 +322,16 @@ SISAL_ANSWER struct sisal_done sisal_write_reply(uint8_t settings, uint16_t addr
  */
 SISAL_ANSWER struct sisal_done sisal_save(uint8_t *sheet, size_t sheet_bytes, uint8_t settings, uint32_t minute, uint16_t address,
                                           size_t count, const uint8_t *reply, size_t reply_bytes, size_t allowance);
+
+/*
+ * Tells the stores that sisal_save would make, all of them, in order, and changes nothing: for a host that makes them itself, on a card
+ * that it cannot lend. Making the first k of them, a byte each and in order, leaves just what sisal_save with allowance k leaves. All but
+ * the last may be made in any order or at once, torn or not: the slot is then blank or spoiled; the last is made alone, after them. The
+ * stores are good for the sheet that was lent, which has to be the card's: after making them on the card, make the same save on the
+ * copy. Behind a store that failed none may follow: the card is read and asked anew. Refuses 12, 10, 11, 14, 13, with all else 0.
+ */
+SISAL_ANSWER struct sisal_stores sisal_save_stores(const uint8_t *sheet, size_t sheet_bytes, uint8_t settings, uint32_t minute,
+                                                   uint16_t address, size_t count, const uint8_t *reply, size_t reply_bytes);
 
 /* Looks at a slot, counted from 0. Refuses 12, with all else 0. */
 SISAL_ANSWER struct sisal_slot sisal_look(const uint8_t *sheet, size_t sheet_bytes, size_t slot);

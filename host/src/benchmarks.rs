@@ -11,6 +11,7 @@ mod joins;
 pub mod lines;
 mod modes;
 mod rounds;
+mod stores;
 mod summaries;
 
 use crate::calls::{Bare, Core};
@@ -390,6 +391,7 @@ mod tests {
         benchmarks.summaries(&mut tell);
         benchmarks.joins(&mut tell);
         benchmarks.rounds(&mut tell);
+        benchmarks.stores(&mut tell);
         assert_eq!(names.len(), 16, "{names:#?}");
     }
 }

@@ -10,6 +10,7 @@ mod items;
 mod joins;
 mod lines;
 mod rounds;
+mod stores;
 mod summaries;
 
 pub use areas::Areas;
@@ -18,6 +19,7 @@ pub use items::Items;
 pub use joins::Joins;
 pub use lines::Lines;
 pub use rounds::Rounds;
+pub use stores::Stores;
 pub use summaries::Summaries;
 
 use crate::types::{Answer, Entry, Poll, Reading, Row, Slot, Standing, LINE, SLOT};

@@ -5,6 +5,7 @@ pub mod areas;
 pub mod items;
 pub mod lines;
 pub mod rounds;
+pub mod stores;
 pub mod summaries;
 
 use std::fmt;

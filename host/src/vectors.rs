@@ -11,6 +11,7 @@ pub mod order;
 pub mod profiles;
 pub mod rounds;
 pub mod since;
+pub mod stores;
 pub mod summaries;
 
 use crate::calls::Core;
@@ -283,6 +284,12 @@ macro_rules! tests_on {
         #[test]
         fn replies_of_a_round_out_of_form() {
             $crate::vectors::rounds::forms(&$core);
+        }
+
+        #[test]
+        fn saves_told_as_their_stores() {
+            $crate::vectors::stores::the_table(&$core);
+            $crate::vectors::stores::the_order_of_refusals(&$core);
         }
     };
 }

@@ -7,6 +7,7 @@ use damaged::items::{Clerk, Mistold};
 use damaged::joins::{Joiner, Misjoined};
 use damaged::lines::{Listener, Misheard};
 use damaged::rounds::{Misrounded, Rounder};
+use damaged::stores::{Mismade, Teller};
 use damaged::summaries::{Desk, Miscounted};
 use damaged::Damage::{self, *};
 use damaged::Damaged;
@@ -480,6 +481,37 @@ fn rounds() {
             (PageAskedOnce, &[KINDS]),
             (PageBlankBesideRefusal, &[KINDS, CUT]),
             (PageCountsBroken, &[KINDS, CUT, MONTH]),
+        ],
+    }
+    .settle();
+}
+
+#[test]
+fn stores() {
+    use Mismade::*;
+    const SHEETS: &str = "stores told, of every sheet";
+    const ORDER: &str = "stores told, made in order, right";
+    const BUT_LAST: &str = "stores told, all but the last, right";
+    const HISTORIES: &str = "stores told, a host's histories, right";
+    Account {
+        checks: compare::stores::checks,
+        mirrored: compare::stores::checks,
+        core: Teller,
+        found_by: &[
+            (LowLengthByteLast, &[SHEETS, ORDER, BUT_LAST, HISTORIES]),
+            (LengthFirst, &[SHEETS, ORDER, BUT_LAST, HISTORIES]),
+            (OneStoreTooFew, &[SHEETS, ORDER, BUT_LAST, HISTORIES]),
+            (FirstBlankSlot, &[SHEETS, ORDER]),
+            (FullBeforeForm, &[SHEETS, ORDER, HISTORIES]),
+            (SettingsBeforeSheet, &[SHEETS, ORDER]),
+            (LargeSheetTold, &[SHEETS, ORDER]),
+            (SlotBesideRefusal, &[SHEETS]),
+            (RowsNotCleared, &[SHEETS]),
+            (PlaceInNextSlot, &[SHEETS, ORDER, BUT_LAST, HISTORIES]),
+            (PlacesOfTheSheet, &[SHEETS, ORDER, BUT_LAST, HISTORIES]),
+            (MinuteLowByteFirst, &[SHEETS, ORDER, BUT_LAST, HISTORIES]),
+            (LengthCountsItself, &[SHEETS, ORDER, BUT_LAST, HISTORIES]),
+            (SlotsCountedFromOne, &[SHEETS, ORDER, BUT_LAST]),
         ],
     }
     .settle();

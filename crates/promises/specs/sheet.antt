@@ -8,3 +8,9 @@ pub mod FirstFault
 pub mod OneOutcome
 pub mod DemandThree
 pub mod View
+-- A save told as its stores; `SaveTold` is the whole.
+pub mod ToldIsMade
+pub mod InSteps
+pub mod AllButTheLast
+pub mod HostStores
+pub mod SaveTold

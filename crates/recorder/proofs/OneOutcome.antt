@@ -10,13 +10,14 @@ use Rattle.sheet.specs.Record.{entryOf}
 use Rattle.sheet.specs.Save.{Saves}
 use Rattle.sheet.specs.Look.{Looks}
 use Rattle.sheet.specs.View.{Counts}
+use Rattle.sheet.specs.declared.tell.SaveStores.{SaveStores}
 use Rattle.frame.specs.Kinds.{isSet, readingBy}
 use Rattle.recorder.specs.declared.PollTold.{PollTold}
 use Rattle.recorder.specs.declared.ReplyTold.{ReplyTold}
 use Rattle.recorder.specs.declared.Done.{Done}
 use Rattle.recorder.specs.declared.SlotTold.{SlotTold}
 use Rattle.recorder.specs.Told.{pollTold, replyTold, writtenTold, savedTold, countedTold, slotTold}
-use Rattle.recorder.specs.Calls.{Tells, SisalForm, SisalReadPoll, SisalWritePoll, SisalReadReply, SisalWriteReply, SisalSave, SisalLook, SisalSlots}
+use Rattle.recorder.specs.Calls.{Tells, SisalForm, SisalReadPoll, SisalWritePoll, SisalReadReply, SisalWriteReply, SisalSave, SisalSaveStores, SisalLook, SisalSlots}
 
 -- Two answers that tell of the same one are equal.
 pub one : {A T : Type 0} (told : A → T) (allowed other : A → Type 0) {a b : T} → ((x y : A) → allowed x → other y → x ≡ y) → Tells told allowed a → Tells told other b → a ≡ b
@@ -32,6 +33,9 @@ pub read-reply-one : (settings address count : ℕ) (reply : List ℕ) (a b : Re
 read-reply-one settings address count reply a b =
     let reads = ReadsReply settings address count reply in
     one replyTold reads reads (λ x y p q. p .answers ∙ sym (q .answers))
+
+pub save-stores-one : (sheet : List ℕ) (settings minute address count : ℕ) (reply : List ℕ) (a b : SaveStores) → SisalSaveStores sheet settings minute address count reply a → SisalSaveStores sheet settings minute address count reply b → a ≡ b
+save-stores-one sheet settings minute address count reply a b x y = x .answers ∙ sym (y .answers)
 
 pub look-one : (sheet : List ℕ) (slot : ℕ) (a b : SlotTold) → SisalLook sheet slot a → SisalLook sheet slot b → a ≡ b
 look-one sheet slot a b = one slotTold (Looks sheet slot) (Looks sheet slot) (λ x y p q. p .answers ∙ sym (q .answers))

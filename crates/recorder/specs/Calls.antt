@@ -12,6 +12,8 @@ use Rattle.sheet.specs.Record.{entryOf}
 use Rattle.sheet.specs.Save.{Saves}
 use Rattle.sheet.specs.Look.{Looks}
 use Rattle.sheet.specs.View.{Counts}
+use Rattle.sheet.specs.declared.tell.SaveStores.{SaveStores}
+use Rattle.sheet.specs.StoresTold.{TellsStores}
 use Rattle.frame.specs.Kinds.{isSet, readingBy}
 use Rattle.recorder.specs.declared.PollTold.{PollTold}
 use Rattle.recorder.specs.declared.ReplyTold.{ReplyTold}
@@ -47,6 +49,10 @@ SisalWriteReply settings address level kind tenths alarm1 alarm0 out answer afte
 abbrev pub SisalSave : (sheet : List ℕ) (settings minute address count : ℕ) (reply : List ℕ) (allowance : ℕ) (answer : Done) (after : List ℕ) → Type 0
 SisalSave sheet settings minute address count reply allowance answer after =
     Tells savedTold (λ below. Saves sheet (entryOf settings minute address count reply) allowance below after) answer
+
+-- The stores of a save are told in integers by the sheet itself.
+abbrev pub SisalSaveStores : (sheet : List ℕ) (settings minute address count : ℕ) (reply : List ℕ) (answer : SaveStores) → Type 0
+SisalSaveStores sheet settings minute address count reply = TellsStores sheet (entryOf settings minute address count reply)
 
 abbrev pub SisalLook : (sheet : List ℕ) (slot : ℕ) (answer : SlotTold) → Type 0
 SisalLook sheet slot = Tells slotTold (Looks sheet slot)

@@ -5,7 +5,8 @@ pub mod told;
 pub mod version;
 
 use frame::Reading;
-ghost use Rattle.recorder.specs.Calls.{SisalForm, SisalReadPoll, SisalWritePoll, SisalReadReply, SisalWriteReply, SisalSave, SisalLook, SisalSlots};
+use sheet::tell::SaveStores;
+ghost use Rattle.recorder.specs.Calls.{SisalForm, SisalReadPoll, SisalWritePoll, SisalReadReply, SisalWriteReply, SisalSave, SisalSaveStores, SisalLook, SisalSlots};
 
 // What reading a poll answers: raise and reset are 0 or 1; beside a refusal all else is 0.
 #[repr(C)]
@@ -140,6 +141,21 @@ pub extern "C" fn sisal_save(
     ensures { λ r. ⌜ SisalSave (now (sheet .entry)) settings minute address count (now (reply .entry)) allowance r (now (sheet .exit)) ⌝ }
 {
     told::saved(sheet::save(sheet, settings, minute, address, count, reply, allowance))
+}
+
+// Tells the stores that `sisal_save` would make, all of them, in order, and changes nothing. Refuses 12, 10, 11, 14, 13.
+#[no_mangle]
+pub extern "C" fn sisal_save_stores(
+    sheet: &[u8],
+    settings: u8,
+    minute: u32,
+    address: u16,
+    count: usize,
+    reply: &[u8],
+) -> SaveStores
+    ensures { λ r. ⌜ SisalSaveStores (now (sheet .entry)) settings minute address count (now (reply .entry)) r ⌝ }
+{
+    sheet::tell::save_stores(sheet, settings, minute, address, count, reply)
 }
 
 // Looks at a slot. Refuses 12.

@@ -1,8 +1,9 @@
 // Which header the archive was made with.
 ghost use Rattle.recorder.specs.Version.{SisalVersion};
 
-// The number that the header calls SISAL_VERSION. It goes up with every change that a host compiled before it would not survive.
-const VERSION: u32 = 4;
+// The number that the header calls SISAL_VERSION. It goes up with every change that a host compiled before it would not survive, and
+// with calls that are added.
+const VERSION: u32 = 5;
 
 // Answers the version of the archive; refuses nothing.
 #[no_mangle]

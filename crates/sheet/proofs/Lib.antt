@@ -16,3 +16,6 @@ pub mod StorePlaces
 pub mod TakenSlot
 pub mod LastUsedSlot
 pub mod SaveMade
+-- The rows of an answer that tells a save's stores.
+pub mod Rows
+pub mod Telling

@@ -6,5 +6,6 @@ pub mod Stores
 pub mod Save
 pub mod Look
 pub mod View
+pub mod StoresTold
 -- What only the code needs.
 pub mod inside

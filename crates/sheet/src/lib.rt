@@ -1,10 +1,12 @@
-// The month sheet: records of polls kept in slots of 32 bytes, on a sheet that the caller lends. Its public calls are `save` and `look`.
+// The month sheet: records of polls kept in slots of 32 bytes, on a sheet that the caller lends. Its public calls are `save`, `tell::save_stores` and
+// `look`.
 mod bytes;
 pub mod into;
 mod next;
 mod record;
 mod slot;
 mod stores;
+pub mod tell;
 pub mod view;
 mod words;
 

@@ -53,6 +53,7 @@ fn main() -> ExitCode {
     benchmarks.summaries(|timing| println!("{timing}"));
     benchmarks.joins(|timing| println!("{timing}"));
     benchmarks.rounds(|timing| println!("{timing}"));
+    benchmarks.stores(|timing| println!("{timing}"));
     ExitCode::SUCCESS
 }
 
@@ -79,6 +80,7 @@ fn print_table(
     benchmarks.summaries(&mut tell);
     benchmarks.joins(&mut tell);
     benchmarks.rounds(&mut tell);
+    benchmarks.stores(&mut tell);
     benchmarks.lines(&mut tell);
     benchmarks.items(&mut tell);
     benchmarks.areas(&mut tell);

@@ -32,6 +32,7 @@ fn main() -> ExitCode {
         run(compare::joins::checks(), left, right, &plan, &only),
         run(compare::way::checks(), left, right, &plan, &only),
         run(compare::rounds::checks(), left, right, &plan, &only),
+        run(compare::stores::checks(), left, right, &plan, &only),
     ];
     let passed: usize = verdicts.iter().map(|(passed, _)| passed).sum();
     let failed: usize = verdicts.iter().map(|(_, failed)| failed).sum();

@@ -23,7 +23,7 @@ fn list<C: Core>(core: &C, sheet: &[u8]) -> Vec<Record> {
 }
 
 /// The record that a save puts down, or the number it is refused with before any slot is sought.
-fn record_of(case: &SaveCase) -> Answer<Record> {
+pub(super) fn record_of(case: &SaveCase) -> Answer<Record> {
     let entry = case.entry();
     if entry.settings > LARGEST_SETTINGS {
         return Err(Fault::Settings);
@@ -54,7 +54,7 @@ fn record_of(case: &SaveCase) -> Answer<Record> {
 }
 
 /// Stores of a whole save: two of the length, nine fixed bytes, the reply.
-fn stores_of(case: &SaveCase) -> usize {
+pub(super) fn stores_of(case: &SaveCase) -> usize {
     11 + case.entry().reply.len()
 }
 

@@ -14,6 +14,7 @@ pub mod joins;
 pub mod lines;
 pub mod rounds;
 pub mod sheets;
+pub mod stores;
 pub mod summaries;
 pub mod way;
 
@@ -67,6 +68,8 @@ pub struct Plan {
     pub cut_rounds: usize,
     /// Months of replies, from the lines to the listing.
     pub months: usize,
+    /// Saves told as their stores, each on a sheet of its own.
+    pub told_saves: usize,
 }
 
 impl Plan {
@@ -93,6 +96,7 @@ impl Plan {
             rounds: 100_000,
             cut_rounds: 10_000,
             months: 20_000,
+            told_saves: 100_000,
         }
     }
 
@@ -119,6 +123,7 @@ impl Plan {
             rounds: 10_000,
             cut_rounds: 2_000,
             months: 200,
+            told_saves: 8_000,
         }
     }
 }

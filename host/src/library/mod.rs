@@ -15,6 +15,7 @@ mod items;
 mod joins;
 mod lines;
 mod rounds;
+mod stores;
 mod summaries;
 #[cfg(test)]
 mod tests;

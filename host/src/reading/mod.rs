@@ -20,6 +20,7 @@ pub mod listing;
 mod modes;
 pub mod rounds;
 pub mod sheet;
+pub mod stores;
 pub mod summaries;
 mod word;
 

@@ -5,6 +5,7 @@ pub mod items;
 pub mod joins;
 pub mod lines;
 pub mod rounds;
+pub mod stores;
 pub mod summaries;
 
 use lines::{Listener, Misheard};

@@ -13,6 +13,7 @@ use Rattle.sheet.specs.Record.{Entry}
 use Rattle.sheet.specs.Slots.{Slot, blank, spoiled, foreign, holds, sizeAllowed, slots, slotAt, slotOf}
 use Rattle.sheet.specs.Save.{saveFault, savedNumber}
 use Rattle.sheet.specs.Look.{bare, told, lookOf, foundNumber}
+use Rattle.promises.proofs.sheet.Telling.{told-number-is}
 use Rattle.promises.specs.sheet.FirstFault.{saveTable, saveOrder, lookTable, SheetFault}
 use Rattle.promises_frame.proofs.FirstFault.{asked, given}
 
@@ -41,4 +42,5 @@ sheet-fault =
           (ap savedNumber (h .answers) ∙ number-is _ Refused savedNumber refl (λ f. refl) (saveFault s e) ∙ save-asks s e);
       look = λ s k answer h. given (lookTable s k) (12 ∷ []) (foundNumber (answer .found))
           (ap (λ a. foundNumber (a .found)) (h .answers) ∙ look-asks s k);
+      tell = λ s e answer h. given (saveTable s e) saveOrder (answer .number) (told-number-is s e answer h ∙ save-asks s e);
     }

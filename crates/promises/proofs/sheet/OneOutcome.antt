@@ -18,4 +18,5 @@ sheet-outcome =
             allowed = record { answers = refl; leaves = refl };
           };
       look = λ s slot. record { same = λ a b p q. p .answers ∙ sym (q .answers); some = _; allowed = record { answers = refl } };
+      tell = λ s e. record { same = λ a b p q. p .answers ∙ sym (q .answers); some = _; allowed = record { answers = refl } };
     }

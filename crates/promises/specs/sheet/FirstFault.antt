@@ -7,10 +7,12 @@ use Rattle.frame.specs.Line.{formed}
 use Rattle.frame.specs.Faults.{Test, _gives_}
 use Rattle.sheet.specs.declared.Looked.{Looked}
 use Rattle.sheet.specs.declared.Saved.{Saved}
+use Rattle.sheet.specs.declared.tell.SaveStores.{SaveStores}
 use Rattle.sheet.specs.Record.{Entry}
 use Rattle.sheet.specs.Slots.{sizeAllowed, slots, next}
 use Rattle.sheet.specs.Save.{Saves, savedNumber}
 use Rattle.sheet.specs.Look.{Looks, foundNumber}
+use Rattle.sheet.specs.StoresTold.{TellsStores}
 use Rattle.promises_frame.specs.FirstFault.{FirstThatApplies}
 
 abbrev pub saveTable : List ℕ → Entry → List Test
@@ -33,3 +35,5 @@ pub record SheetFault : Type 0 where
       → FirstThatApplies (saveTable s e) saveOrder (savedNumber answer)
   pub look : (s : List ℕ) (slot : ℕ) (answer : Looked) → Looks s slot answer
       → FirstThatApplies (lookTable s slot) (12 ∷ []) (foundNumber (answer .found))
+  -- A save told as its stores is refused as the save is.
+  pub tell : (s : List ℕ) (e : Entry) (answer : SaveStores) → TellsStores s e answer → FirstThatApplies (saveTable s e) saveOrder (answer .number)
