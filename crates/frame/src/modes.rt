@@ -109,9 +109,15 @@ pub(crate) fn read_level_by_pairs(mode: u64, n: u64) -> u64
     pairs::read_by(constants_of(mode), n)
 }
 
-// The bits of a level in the mode of this number; the fill is 0.
+// The bits of a level in the mode of this number; the fill is 0. Each arm hands over its mode's constants, so that the compiler knows every
+// digit's chart.
 pub(crate) fn write_level(mode: u64, v: u64) -> u64
     ensures { λ r. ⌜ r ≡ putLevel (modeOf mode) v ⌝ }
 {
-    level_writing::write_by(constants_of(mode), v)
+    match mode {
+        0 => level_writing::write_by(Fractional::CONSTANTS, v),
+        1 => level_writing::write_by(Decimal::CONSTANTS, v),
+        2 => level_writing::write_by(Metres20::CONSTANTS, v),
+        _ => level_writing::write_by(Metres30::CONSTANTS, v),
+    }
 }

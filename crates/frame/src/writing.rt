@@ -1,13 +1,13 @@
 // A reply written: the word of its bits, its parity bit, and its bytes stored.
 ghost use mathlib.Core.Path.{_≡_};
 ghost use mathlib.Core.List.{_++_};
-ghost use Prim.Native.Nat.{_/_, _%_, _^_, _≤_};
+ghost use Prim.Native.Nat.{_*_, _/_, _%_, _^_, _≤_};
 ghost use lib.ListN.{length, drop};
 ghost use Rattle.frame.specs.Pick.{pick};
 ghost use Rattle.frame.specs.Line.{put, marks, firstBytes};
 ghost use Rattle.frame.specs.Temperature.{isAbsent};
 ghost use Rattle.frame.specs.Reply.{bodyOf, parityFor, replyLine};
-ghost use Rattle.frame.specs.inside.Written.{frontOf};
+ghost use Rattle.frame.specs.inside.Written.{frontOf, marksUp};
 use crate::Reading;
 use crate::Temperature;
 use crate::heat;
@@ -65,19 +65,25 @@ fn byte(n: u64, below: u64) -> u8
     ((n >> below) % 256) as u8
 }
 
+// The marks of the last `left` bytes of a number, counted byte by byte from the last one up, fewer left each time.
+fn marks_up(n: u64, left: u64) -> u32
+    requires { ⌜ left ≤ 8 ⌝ }
+    ensures { λ r. ⌜ (r ≡ marksUp left n) × (r ≤ 8 * left) ⌝ }
+{
+    if left == 0 {
+        return 0;
+    }
+    u8::count_ones((n % 256) as u8) + marks_up(n / 256, left - 1)
+}
+
 // The marks of a reply, counted over its bytes, 5 of a short one and 7 of any other.
 fn marks(n: u64, short: bool) -> u32
     ensures { λ r. ⌜ (r ≡ marks (firstBytes (pick short 5 7) n)) × (r ≤ 56) ⌝ }
 {
-    let five = u8::count_ones(byte(n, 56))
-        + u8::count_ones(byte(n, 48))
-        + u8::count_ones(byte(n, 40))
-        + u8::count_ones(byte(n, 32))
-        + u8::count_ones(byte(n, 24));
     if short {
-        return five;
+        return marks_up(n >> 24, 5);
     }
-    five + u8::count_ones(byte(n, 16)) + u8::count_ones(byte(n, 8))
+    marks_up(n >> 8, 7)
 }
 
 // The parity bit makes the marks even in number, or odd, by setting.

@@ -1,6 +1,7 @@
 -- What the inner functions of the writer answer. A reader of document 01 need not believe this file.
 use mathlib.Core.Bool.{Bool, true, false}
-use Prim.Native.Nat.{ℕ, _+_, min}
+use Prim.Native.Nat.{ℕ, zero, suc, _+_, _/_, _%_, min}
+use lib.Count.{ones}
 use lib.IntN.{ℤ, pos, negsuc}
 use Rattle.frame.specs.declared.Reading.{Reading}
 use Rattle.frame.specs.declared.Temperature.{Temperature}
@@ -40,3 +41,8 @@ tenthsFor Absent = pos 0
 abbrev pub putTenths : Bool → ℤ → ℕ
 putTenths is1800 d =
     pick is1800 (putDegrees1800 (isPlus d) (magnitude d)) (putDegrees1900 (isPlus d) (min (magnitude d) (limit false)))
+
+-- The marks of the last bytes of a number, from the last one up.
+unfoldable pub marksUp : ℕ → ℕ → ℕ
+marksUp zero n = 0
+marksUp (suc left) n = ones (n % 256) + marksUp left (n / 256)

@@ -1,27 +1,66 @@
--- `frame::modes::write_level` meets its contract: the constants of a number fit the mode of that number. Assumes nothing.
-use mathlib.Core.Path.{_≡_, ap, _∙_}
+-- `frame::modes::write_level` meets its contract: each arm's constants are those of its number, and they fit the mode of that number. Assumes
+-- nothing.
+use mathlib.Core.Path.{_≡_, sym, ap, _∙_}
 use Prim.Native.Nat.{ℕ}
-use Rattle.frame.specs.Level.{modeOf}
-use Rattle.frame.specs.inside.Constants.{Constants, constantsBy, writeBy}
-use Rattle.frame.proofs.Constants.{write-is, constants-fit, allowed}
+use borrow.Author.Tests.{ne-eqb}
+use Rattle.frame.specs.Level.{modeOf, putLevel}
+use Rattle.frame.specs.inside.Constants.{Constants, fractional, decimalFeet, metres20, metres30, constantsBy, writeBy}
+use Rattle.frame.proofs.Constants.{write-is, constants-fit}
 use borrow.Author.Needs.{needs}
 use Rattle.frame.proofs.modes.write_level.Statement.{statement}
 use Rattle.frame.proofs.modes.write_level.Tie as tie
 
-constants-of-requires : tie.Need-constants-of-requires
-constants-of-requires c κs = search needs
+-- a level written by the constants of a number
+by-number : (mode v : ℕ) {k : Constants} → constantsBy mode ≡ k → writeBy k v ≡ putLevel (modeOf mode) v
+by-number mode v e =
+    ap (λ (k : Constants). writeBy k v) (sym e) ∙ write-is (modeOf mode) (constantsBy mode) (constants-fit mode) v
 
 write-by-requires : tie.Need-write-by-requires
-write-by-requires c κs =
-    let h = allowed (c .before .args .mode) in
-    rw (c .constants-of .ensures) (h .0, (h .1 .0, (h .1 .1 .0, h .1 .1 .1 .1)))
+write-by-requires c κs = search needs
+
+write-by-requires-2 : tie.Need-write-by-requires-2
+write-by-requires-2 c κs = search needs
+
+write-by-requires-3 : tie.Need-write-by-requires-3
+write-by-requires-3 c κs = search needs
+
+write-by-requires-4 : tie.Need-write-by-requires-4
+write-by-requires-4 c κs = search needs
 
 returns : tie.Need-returns
 returns c =
-    let p = c .before in
-    let a = p .before .args in
-    c .write-by .ensures ∙ ap (λ (k : Constants). writeBy k (a .v)) (p .constants-of .ensures)
-    ∙ write-is (modeOf (a .mode)) (constantsBy (a .mode)) (constants-fit (a .mode)) (a .v)
+    let a = c .before .before .args in
+    let e : constantsBy (a .mode) ≡ fractional = rw (c .before .match .keys1) in
+    c .write-by .ensures ∙ by-number (a .mode) (a .v) e
+
+returns-2 : tie.Need-returns-2
+returns-2 c =
+    let a = c .before .before .args in
+    let e : constantsBy (a .mode) ≡ decimalFeet = rw (c .before .match .keys2) in
+    c .write-by2 .ensures ∙ by-number (a .mode) (a .v) e
+
+returns-3 : tie.Need-returns-3
+returns-3 c =
+    let a = c .before .before .args in
+    let e : constantsBy (a .mode) ≡ metres20 = rw (c .before .match .keys3) in
+    c .write-by3 .ensures ∙ by-number (a .mode) (a .v) e
+
+returns-4 : tie.Need-returns-4
+returns-4 c =
+    let a = c .before .before .args in
+    let r = c .before .match .rest in
+    let e : constantsBy (a .mode) ≡ metres30 = simp (ne-eqb _ _ (r .0 .0 .1), ne-eqb _ _ (r .0 .1), ne-eqb _ _ (r .1)) in
+    c .write-by4 .ensures ∙ by-number (a .mode) (a .v) e
 
 pub write-level-spec : {M : Type 1} → statement M
-write-level-spec = tie.close (tie.spec constants-of-requires write-by-requires returns)
+write-level-spec =
+    tie.close
+    (tie.spec
+    write-by-requires
+    write-by-requires-2
+    write-by-requires-3
+    write-by-requires-4
+    returns
+    returns-2
+    returns-3
+    returns-4)
