@@ -15,3 +15,4 @@ pub mod EndToEnd
 pub mod JoinPassed
 pub mod Grouping
 pub mod Join
+pub mod AllCounted

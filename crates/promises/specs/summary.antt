@@ -10,3 +10,4 @@ pub mod OneOutcome
 pub mod Afresh
 pub mod DeskSummary
 pub mod Join
+pub mod AllCounted

@@ -8,6 +8,7 @@ use Rattle.promises.proofs.summary.FirstFault.{summary-fault}
 use Rattle.promises.proofs.summary.Refused.{refused-exactly}
 use Rattle.promises.proofs.summary.OneOutcome.{summary-outcome}
 use Rattle.promises.proofs.summary.Afresh.{afresh-made}
+use Rattle.promises.proofs.summary.AllCounted.{all-counted}
 
 pub desk-summary : DeskSummary
 desk-summary =
@@ -20,4 +21,5 @@ desk-summary =
       refused-exactly = refused-exactly;
       one-outcome = summary-outcome;
       afresh = afresh-made;
+      all-counted = all-counted;
     }

@@ -36,10 +36,10 @@ use Rattle.promises.proofs.summary.Grouping.{few-join, clean-join, hand
 use Rattle.promises.proofs.summary.InOrder.{ordered}
 use Rattle.promises.proofs.summary.Shape.{same-shape}
 
-fault-of : (a b : Summary) (r : Made) → JoinsSummaries a b r → r .number ≡ 0 → joinFault a b ≡ 0
+pub fault-of : (a b : Summary) (r : Made) → JoinsSummaries a b r → r .number ≡ 0 → joinFault a b ≡ 0
 fault-of a b r j n = sym (number-is a b) ∙ sym (ap (λ (m : Made). m .number) (j .answers)) ∙ n
 
-summary-of : (a b : Summary) (r : Made) → JoinsSummaries a b r → r .number ≡ 0 → r .summary ≡ joinPage a b
+pub summary-of : (a b : Summary) (r : Made) → JoinsSummaries a b r → r .number ≡ 0 → r .summary ≡ joinPage a b
 summary-of a b r j n = ap (λ (m : Made). m .summary) (j .answers ∙ made-join a b (fault-of a b r j n))
 
 -- pair by pair

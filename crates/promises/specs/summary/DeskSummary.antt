@@ -7,6 +7,7 @@ use Rattle.promises.specs.summary.FirstFault.{SummaryFault}
 use Rattle.promises.specs.summary.Refused.{RefusedExactly}
 use Rattle.promises.specs.summary.OneOutcome.{SummaryOutcome}
 use Rattle.promises.specs.summary.Afresh.{Afresh}
+use Rattle.promises.specs.summary.AllCounted.{AllCounted}
 
 pub record DeskSummary : Type 0 where
   pub at-any-moment : AtAnyMoment
@@ -17,3 +18,4 @@ pub record DeskSummary : Type 0 where
   pub refused-exactly : RefusedExactly
   pub one-outcome : SummaryOutcome
   pub afresh : Afresh
+  pub all-counted : AllCounted
