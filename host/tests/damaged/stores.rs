@@ -91,7 +91,7 @@ impl Stores for Teller {
             Some(RowsNotCleared) if n < 19 => told.bytes[18] = BLANK,
             Some(PlaceInNextSlot) => told.places[n - 3] += SLOT as u8,
             Some(PlacesOfTheSheet) => {
-                let start = told.slot as u8 * SLOT as u8;
+                let start = (told.slot as usize * SLOT) as u8;
                 let places = told.places[..n].iter_mut();
                 places.for_each(|place| *place = place.wrapping_add(start));
             }
