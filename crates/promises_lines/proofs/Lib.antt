@@ -8,6 +8,7 @@ pub mod Streams
 -- The promises that follow from these.
 pub mod Batches
 pub mod Takes
+pub mod Reached
 pub mod States
 pub mod Outcome
 pub mod Form

@@ -15,6 +15,7 @@ use Rattle.promises_lines.specs.States.{BegunAgain, EveryState}
 use Rattle.promises_lines.proofs.Legal.{rest, spoilt, is-legal}
 use Rattle.promises_lines.proofs.Ends.{Ends, still-open, closed-at, good, split, meant-legal, meant-itself, heard-by}
 use Rattle.promises_lines.proofs.Takes.{told-nothing}
+use Rattle.promises_lines.proofs.Reached.{reached-from}
 
 module _ (t : Timing) (s : SoFar) (xs : List ℕ) (h : Heard) (a : LinesTold) (is : a ≡ answered h) where
   at-rest-again : Ends t s xs h → (tellings a ≡ [] → ⊥) → a .«so_far» ≡ atRest
@@ -54,4 +55,5 @@ every-state =
           let u : SoFar = spoiltBy 21 0 in
           alike s u least most gap xs a e (strange-meant s l) c
           (heard-by u least most gap xs (linesAnswer u (timing least most gap) xs) e (record { answers = refl }));
+      reached = reached-from;
     }

@@ -69,7 +69,7 @@ pub told-once : {n : SoFar} → Closing n → (taken : ℕ) → tellings (answer
 told-once (message bits run count p c) taken = rw (ne-eqb count 0 (omega arith))
 told-once (report number run p q) taken = simp (ne-eqb number 0 (omega arith))
 
-map-append : (xs ys : List ℕ) → map sampleOf (xs ++ ys) ≡ map sampleOf xs ++ map sampleOf ys
+pub map-append : (xs ys : List ℕ) → map sampleOf (xs ++ ys) ≡ map sampleOf xs ++ map sampleOf ys
 map-append [] ys = refl
 map-append (x ∷ xs) ys = ap (λ (ks : List Sample). sampleOf x ∷ ks) (map-append xs ys)
 
