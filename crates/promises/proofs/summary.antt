@@ -15,4 +15,5 @@ pub mod EndToEnd
 pub mod JoinPassed
 pub mod Grouping
 pub mod Join
+pub mod JoinRefused
 pub mod AllCounted

@@ -10,4 +10,5 @@ pub mod OneOutcome
 pub mod Afresh
 pub mod DeskSummary
 pub mod Join
+pub mod JoinRefused
 pub mod AllCounted

@@ -63,7 +63,7 @@ lines-grouped ls bs cs ra rb rc =
     ∙ sym (held-all k ls (putAll bs cs) ra (rises-all bs cs rb) ∙ ap (bothLines (heldAt pairOf k ls)) (held-all k bs cs rb rc)))
 
 -- what stands in a row that rises is held at its pair
-held-at : (ls : List Line) → Rises pairOf ls → (i : ℕ) → i < length ls → heldAt pairOf (pairOf (getD ls i blankLine)) ls ≡ getD ls i blankLine ∷ []
+pub held-at : (ls : List Line) → Rises pairOf ls → (i : ℕ) → i < length ls → heldAt pairOf (pairOf (getD ls i blankLine)) ls ≡ getD ls i blankLine ∷ []
 held-at [] r i l = absurd (omega arith)
 held-at (x ∷ ls) (rises-more a r) zero l = held-first pairOf x ls (pairOf x) refl
 held-at (x ∷ ls) (rises-more a r) (suc i) l =
@@ -77,7 +77,7 @@ held-at (x ∷ ls) (rises-more a r) (suc i) l =
     apart : pairOf x < pairOf (getD ls i blankLine) → pairOf x ≡ pairOf (getD ls i blankLine) → ⊥
     apart h q = omega arith
 
-held-few : {n : ℕ} (k : ℕ) (ls : List Line) (z : Line) (zs : List Line) → AllFew n ls → heldAt pairOf k ls ≡ z ∷ zs → (z .good ≤ n) × (z .faulty ≤ n)
+pub held-few : {n : ℕ} (k : ℕ) (ls : List Line) (z : Line) (zs : List Line) → AllFew n ls → heldAt pairOf k ls ≡ z ∷ zs → (z .good ≤ n) × (z .faulty ≤ n)
 held-few k [] z zs f e = absurd (no e)
   where
     no : heldAt pairOf k [] ≡ z ∷ zs → ⊥
@@ -100,7 +100,7 @@ more-right : (x : Line) (hs : List Line) → (z : Line) × (zs : List Line) × (
 more-right x [] = (x, [], (refl, (omega arith, omega arith)))
 more-right x (h ∷ hs) = (together h x, [], (refl, (unfold together in omega arith, unfold together in omega arith)))
 
-few-left : (n : ℕ) (ls xs : List Line) → Rises pairOf ls → Rises pairOf xs → AllFew n (putAll ls xs) → AllFew n ls
+pub few-left : (n : ℕ) (ls xs : List Line) → Rises pairOf ls → Rises pairOf xs → AllFew n (putAll ls xs) → AllFew n ls
 few-left n ls xs rl rx f =
     at-few n ls
     (λ i l.
@@ -111,7 +111,7 @@ few-left n ls xs rl rx f =
     let p = held-few k (putAll ls xs) (m .0) (m .1) f e in
     (omega (arith, p .0, m .2 .1 .0), omega (arith, p .1, m .2 .1 .1)))
 
-few-right : (n : ℕ) (ls xs : List Line) → Rises pairOf ls → Rises pairOf xs → AllFew n (putAll ls xs) → AllFew n xs
+pub few-right : (n : ℕ) (ls xs : List Line) → Rises pairOf ls → Rises pairOf xs → AllFew n (putAll ls xs) → AllFew n xs
 few-right n ls xs rl rx f =
     at-few n xs
     (λ i l.
@@ -123,7 +123,7 @@ few-right n ls xs rl rx f =
     (omega (arith, p .0, m .2 .1 .0), omega (arith, p .1, m .2 .1 .1)))
 
 -- behind the lines of a page stand blank ones
-blank-behind : (o : ℕ) (ls : List Line) (i : ℕ) → length ls ≤ i → i < 30 → lineAt (page o ls) i ≡ blankLine
+pub blank-behind : (o : ℕ) (ls : List Line) (i : ℕ) → length ls ≤ i → i < 30 → lineAt (page o ls) i ≡ blankLine
 unfolding page
 blank-behind o ls i low high =
     let e : i ≡ length ls + (i - length ls) = omega arith in
@@ -133,7 +133,7 @@ blank-behind o ls i low high =
 
 -- counts of a page, by its lines
 module _ (o : ℕ) (ls : List Line) (few : length ls ≤ 30) (rises : Rises pairOf ls) (told : AllTold ls) where
-  page-few : linesOver (page o ls) ≡ false → AllFew most ls
+  pub page-few : linesOver (page o ls) ≡ false → AllFew most ls
   page-few h =
       at-few most ls
       (λ i l.
@@ -147,7 +147,7 @@ module _ (o : ℕ) (ls : List Line) (few : length ls ≤ 30) (rises : Rises pair
       opened : (x : Line) → countsOver x ≡ false → (ltb most (x .good) || ltb most (x .faulty)) ≡ false
       opened x q = unfold countsOver in q
 
-  few-page : AllFew most ls → linesOver (page o ls) ≡ false
+  pub few-page : AllFew most ls → linesOver (page o ls) ≡ false
   few-page f = none-over (page o ls) (λ i l. go i l (ltb i (length ls)) refl)
     where
       small : (x : Line) → x .good ≤ most → x .faulty ≤ most → countsOver x ≡ false
@@ -183,14 +183,14 @@ narrow-all ls (x ∷ xs) n (narrow-more h m) = opened (narrow-all (put x ls) xs 
     opened : AllNarrow (putAll (put x ls) xs) → AllNarrow (putAll ls (x ∷ xs))
     opened q = unfold putAll in q
 
-told-all : (ls xs : List Line) → AllTold ls → AllTold xs → AllTold (putAll ls xs)
+pub told-all : (ls xs : List Line) → AllTold ls → AllTold xs → AllTold (putAll ls xs)
 told-all ls [] t u = unfold putAll in t
 told-all ls (x ∷ xs) t (told-more h u) = opened (told-all (put x ls) xs (told-put x ls h t) u)
   where
     opened : AllTold (putAll (put x ls) xs) → AllTold (putAll ls (x ∷ xs))
     opened q = unfold putAll in q
 
-told-lines : (s : Summary) (h : Handed s) → misshapen s ≡ false → AllTold (linesOf s)
+pub told-lines : (s : Summary) (h : Handed s) → misshapen s ≡ false → AllTold (linesOf s)
 told-lines s h right =
     let so = sound-handed s (h .thirty) right in
     all-told (linesOf s)
