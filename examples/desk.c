@@ -15,31 +15,12 @@ static struct sisal_row rows[ROWS];
 
 /* ---- in words -------------------------------------------------------------------------------------------------------------------- */
 
-/* The name of a number of document 01, and of the board's numbers of document 02. */
-static const char *name_of(uint8_t number)
-{
-    static const char *const names[] = {
-        "none",   "silent", "length",      "start",    "address",       "parity", "fill",
-        "code",   "range",  "temperature", "settings", "asked address", "sheet",  "full",
-        "form",   "short",  "poll",        "unknown",  "twice",         "no row",
-    };
-    if (number < sizeof names / sizeof names[0])
-        return names[number];
-    switch (number) {
-    case SISAL_FAULT_PROFILE: return "temperature outside its profile";
-    case SISAL_FAULT_PROFILE_TYPE: return "profile on an 1800";
-    case SISAL_FAULT_RAISE_RESET: return "raise or reset";
-    case SISAL_FAULT_ORDER: return "order";
-    default: return "of no name";
-    }
-}
-
 static void say_answer(const char *call, uint16_t address, uint8_t number)
 {
     if (number == SISAL_OK)
         printf("%s %u: done\n", call, address);
     else
-        printf("%s %u: fault %u %s\n", call, address, number, name_of(number));
+        printf("%s %u: %u, %s\n", call, address, number, sisal_number_text(number));
 }
 
 static void say_temperature(uint8_t kind, int16_t tenths)
@@ -66,9 +47,9 @@ static void say_standing(const struct sisal_standing *s)
         printf(", at minute %u", s->minute);
     }
     printf("%s%s", s->alarm1 ? ", alarm 1" : "", s->alarm0 ? ", alarm 0" : "");
-    printf(", fault %u %s", s->fault, name_of(s->fault));
-    if (s->gauge & (SISAL_PROFILE_COPPER | SISAL_PROFILE_PLATINUM))
-        printf(", %s", s->gauge & SISAL_PROFILE_COPPER ? "copper" : "platinum");
+    printf(", fault %u, %s", s->fault, sisal_number_text(s->fault));
+    if (s->gauge & SISAL_PROFILE_MASK)
+        printf(", %s", (s->gauge & SISAL_PROFILE_MASK) == SISAL_PROFILE_COPPER ? "copper" : "platinum");
     printf("%s\n", s->gauge & SISAL_GAUGE_6500 ? ", 6500" : "");
 }
 
@@ -93,16 +74,16 @@ static void say_row(const struct sisal_row *row)
 
 static void enrol_with(uint8_t settings, uint16_t address, uint8_t gauge)
 {
-    say_answer("enrol", address, sisal_board_enrol(rows, ROWS, settings, address, gauge));
+    say_answer("enrol", address, sisal_board_enrol(SISAL_ROWS_OF(rows), settings, address, gauge));
 }
 
 static void enrol(uint8_t settings, uint16_t address) { enrol_with(settings, address, 0); }
 
-static void take_off(uint16_t address) { say_answer("remove", address, sisal_board_remove(rows, ROWS, address)); }
+static void take_off(uint16_t address) { say_answer("remove", address, sisal_board_remove(SISAL_ROWS_OF(rows), address)); }
 
 static void look(uint16_t address)
 {
-    struct sisal_standing s = sisal_board_look_up(rows, ROWS, address);
+    struct sisal_standing s = sisal_board_look_up(SISAL_ROWS_OF(rows), address);
     if (s.number != SISAL_OK) {
         say_answer("look", address, s.number);
         return;
@@ -114,7 +95,7 @@ static void look(uint16_t address)
 /* A reply, its bytes in quotes, is heard, and its row is looked at. */
 static void hear(uint16_t address, uint32_t minute, size_t count, const char *reply, size_t bytes)
 {
-    struct sisal_heard heard = sisal_board_hear(rows, ROWS, minute, address, count, (const uint8_t *)reply, bytes);
+    struct sisal_heard heard = sisal_board_hear(SISAL_ROWS_OF(rows), minute, address, count, (const uint8_t *)reply, bytes);
     say_answer("hear", address, heard.number);
     look(address);
 }
@@ -130,7 +111,7 @@ static void hear_warm(uint16_t address, uint32_t minute, int16_t tenths)
 static void ask(uint16_t address, uint8_t raise, uint8_t reset)
 {
     uint8_t out[2];
-    uint8_t number = sisal_board_poll(rows, ROWS, address, raise, reset, out, sizeof out);
+    uint8_t number = sisal_board_poll(SISAL_ROWS_OF(rows), address, raise, reset, out, sizeof out);
     if (number != SISAL_OK)
         say_answer("poll", address, number);
     else

@@ -59,9 +59,8 @@ static struct sisal_round rest(struct sisal_round round, size_t closed)
 
 static size_t save(struct sisal_round round, size_t allowance)
 {
-    struct sisal_rounded_page rounded = sisal_summary_save_round(card, sizeof card, page, round, allowance);
-    page = rounded.summary;
-    printf("%zu replies: closed %zu, stores %zu, number %u\n", round.count, rounded.closed, rounded.stores, (unsigned)rounded.number);
+    struct sisal_rounded rounded = sisal_page_save_round(&page, card, sizeof card, &round, allowance);
+    printf("%zu replies: closed %zu, stores %zu, %s\n", round.count, rounded.closed, rounded.stores, sisal_number_text(rounded.number));
     return rounded.closed;
 }
 
@@ -69,7 +68,7 @@ int main(void)
 {
     want(sisal_version() == SISAL_VERSION, "another archive");
     memset(card, 0xff, sizeof card);
-    page = sisal_summary_of(card, sizeof card).summary;
+    want(sisal_page_of(&page, card, sizeof card) == SISAL_OK, "no page");
 
     printf("the first morning: ");
     save(morning(0), SISAL_ALL_STORES);
@@ -77,7 +76,7 @@ int main(void)
     printf("the second, cut after 40 stores: ");
     size_t closed = save(morning(1), 40);
     printf("the power comes back, and the rest is saved: ");
-    page = sisal_summary_of(card, sizeof card).summary;
+    want(sisal_page_of(&page, card, sizeof card) == SISAL_OK, "no page");
     save(rest(morning(1), closed), SISAL_ALL_STORES);
 
     printf("the third finds the card full: ");

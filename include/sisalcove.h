@@ -13,8 +13,10 @@
  * call; there it also stands what else is in the answer then, and what becomes of what was lent. A compiler that can warns where an
  * answer is dropped.
  *
- * Lent bytes and rows are a pointer and a length. A pointer is never null, also where the length is 0, and what it points to is not
- * written by anybody else while the call runs. Buffers lent to one call for writing overlap nothing else that is lent to it.
+ * Lent bytes and rows are a pointer and a length: the bytes of a buffer, but the ROWS of a board, never its bytes (SISAL_ROWS_OF). Where
+ * the length is 0 the pointer may be null, as for a reply that did not come: the archive then looks at nothing behind it, which
+ * examples/misuse.c tries of every call. Anywhere else it points to that many bytes or rows, which nobody else writes while the call
+ * runs. Buffers lent to one call for writing overlap nothing else that is lent to it.
  *
  * Some answers have padding (struct sisal_poll, sisal_reply and sisal_item one byte, sisal_slot two, sisal_made three, sisal_lines_told
  * six, sisal_done, sisal_kept, sisal_rounded and sisal_rounded_page seven). It holds anything: compare answers field by field. Rows,
@@ -34,9 +36,15 @@
 #error "libsisalcove.a is for x86-64 with the System V calling convention"
 #endif
 
-#include <assert.h>
 #include <stddef.h>
 #include <stdint.h>
+
+/* Holds at compile time, or the compiler stops with these words. <assert.h> is not asked for: a freestanding compiler may have none. */
+#ifdef __cplusplus
+#define SISAL_HOLDS(claim, words) static_assert(claim, words)
+#else
+#define SISAL_HOLDS(claim, words) _Static_assert(claim, words)
+#endif
 
 /* Stands before each call: a compiler that knows how warns where the answer is dropped. */
 #if defined(__GNUC__)
@@ -103,6 +111,62 @@ enum sisal_number {
     SISAL_FAULT_ORDER = 38          /* a board whose rows in use are not first, in strictly rising address order */
 };
 
+/*
+ * Each number with its words for a person, for a host to expand: SISAL_NUMBERS(X) is X(SISAL_OK, "good") X(SISAL_FAULT_SILENT, "no
+ * reply") and so on. The desk's pages say the same words.
+ */
+#define SISAL_NUMBERS(X) \
+    X(SISAL_OK, "good") \
+    X(SISAL_FAULT_SILENT, "no reply") \
+    X(SISAL_FAULT_LENGTH, "wrong length") \
+    X(SISAL_FAULT_START, "no start bit") \
+    X(SISAL_FAULT_ADDRESS, "wrong address") \
+    X(SISAL_FAULT_PARITY, "wrong parity") \
+    X(SISAL_FAULT_FILL, "fill bit set") \
+    X(SISAL_FAULT_CODE, "unreadable digit") \
+    X(SISAL_FAULT_RANGE, "level out of range") \
+    X(SISAL_FAULT_TEMPERATURE, "unreadable temperature") \
+    X(SISAL_FAULT_SETTINGS, "bad settings") \
+    X(SISAL_FAULT_ASKED_ADDRESS, "address above 999") \
+    X(SISAL_FAULT_SHEET, "no sheet of slots") \
+    X(SISAL_FAULT_FULL, "sheet full") \
+    X(SISAL_FAULT_FORM, "reply out of form") \
+    X(SISAL_FAULT_SHORT, "output too short") \
+    X(SISAL_FAULT_POLL, "no poll") \
+    X(SISAL_FAULT_UNKNOWN, "address not on the board") \
+    X(SISAL_FAULT_TWICE, "address already on the board") \
+    X(SISAL_FAULT_NO_ROW, "no free row") \
+    X(SISAL_FAULT_TIMING, "bad timing numbers") \
+    X(SISAL_FAULT_SPOILED, "spoiled on the lines") \
+    X(SISAL_FAULT_FOREIGN_SAMPLE, "foreign sample on the lines") \
+    X(SISAL_FAULT_ROUND, "more than 30 replies") \
+    X(SISAL_FAULT_COUNT, "count above 1,000,000") \
+    X(SISAL_FAULT_PAIRS, "more than 30 pairs") \
+    X(SISAL_FAULT_PROFILE, "temperature outside its profile") \
+    X(SISAL_FAULT_PROFILE_TYPE, "profile on an 1800") \
+    X(SISAL_FAULT_RAISE_RESET, "raise or reset not allowed") \
+    X(SISAL_FAULT_FRAMING, "item record out of frame") \
+    X(SISAL_FAULT_BLOCK_CHECK, "wrong block check") \
+    X(SISAL_FAULT_ADDRESSES, "bad addresses") \
+    X(SISAL_FAULT_ITEM_TEXT, "no item text") \
+    X(SISAL_FAULT_OUTPUT_SHORT, "output too short for the record") \
+    X(SISAL_FAULT_SITE, "more than 120 transmitters") \
+    X(SISAL_FAULT_NO_PLAN, "no plan of areas") \
+    X(SISAL_FAULT_PLAN, "plan not accepted") \
+    X(SISAL_FAULT_SUMMARY, "summary not well formed") \
+    X(SISAL_FAULT_ORDER, "rows out of order")
+
+/* The words of a number, never null; "unknown number" of one that no call gives. */
+static inline const char *sisal_number_text(unsigned number)
+{
+    switch (number) {
+#define SISAL_NUMBER_CASE(name, words) case name: return words;
+        SISAL_NUMBERS(SISAL_NUMBER_CASE)
+#undef SISAL_NUMBER_CASE
+    default: return "unknown number";
+    }
+}
+
 /* ---- settings: one mode, with the two bits added where they apply ---------------------------------------------------------------- */
 
 enum sisal_settings {
@@ -111,7 +175,8 @@ enum sisal_settings {
     SISAL_MODE_20_M = 2,       /* level in mm, up to 19,999 */
     SISAL_MODE_30_M = 3,       /* level in mm, up to 32,699 */
     SISAL_TYPE_1800 = 4,       /* temperature as the Model 1800 sends it; without this bit, the Model 1900 */
-    SISAL_ODD_PARITY = 8       /* odd parity; without this bit, even */
+    SISAL_ODD_PARITY = 8,      /* odd parity; without this bit, even */
+    SISAL_MODE_MASK = 3        /* settings & SISAL_MODE_MASK is the mode */
 };
 
 /* ---- gauge: a sensor profile, or none, with the mark added where it applies ------------------------------------------------------- */
@@ -123,7 +188,8 @@ enum sisal_settings {
 enum sisal_gauge {
     SISAL_PROFILE_COPPER = 1,   /* 100 ohm copper: -100 to +400 degrees, ends allowed */
     SISAL_PROFILE_PLATINUM = 2, /* DIN platinum: -234 to +502 degrees, ends allowed */
-    SISAL_GAUGE_6500 = 4        /* a 6500 servo gauge: it may be polled with raise or with reset */
+    SISAL_GAUGE_6500 = 4,       /* a 6500 servo gauge: it may be polled with raise or with reset */
+    SISAL_PROFILE_MASK = 3      /* gauge & SISAL_PROFILE_MASK is the profile; 0 and 3 are none */
 };
 
 /* ---- kinds of temperature -------------------------------------------------------------------------------------------------------- */
@@ -157,14 +223,24 @@ enum sisal_size {
     SISAL_SHEET_BYTES = 65536,  /* the largest sheet: 2,048 slots */
     SISAL_MOST_STORES = 19,     /* the stores of a save of 64 bits, which has the most */
     SISAL_LINE_BYTES = 40,      /* enough for every line of a listing, its newline included */
-    SISAL_ROWS = 30             /* rows of a board that are ever read or written */
+    SISAL_ROWS = 30,            /* rows of a board that are ever read or written */
+    SISAL_ADDRESS_MAX = 999     /* the largest address that can be polled */
 };
+
+/* Bytes of so many bits: what a reply or a message is lent in. */
+#define SISAL_REPLY_BYTES(bits) (((size_t)(bits) + 7) / 8)
+
+/* An array of rows as the two arguments that it is lent by, the array and how many rows it has. It wants the array itself, no pointer to it. */
+#define SISAL_ROWS_OF(rows) (rows), (sizeof(rows) / sizeof((rows)[0]))
+
+/* Whether a row in use, or a transmitter that was looked up, was never heard since it was enrolled: then `heard` means nothing. */
+#define SISAL_NEVER_HEARD(row) ((row).kind == SISAL_KIND_NONE && (row).fault == SISAL_OK)
 
 /* Bytes that are enough for the whole listing of a sheet. */
 #define SISAL_LISTING_BYTES(sheet_bytes) (SISAL_LINE_BYTES * ((sheet_bytes) / SISAL_SLOT_BYTES + 2))
 
 /* The stores of a whole save; one that answers fewer was cut short. */
-#define SISAL_STORES(reply_bytes) (11 + (reply_bytes))
+#define SISAL_STORES(reply_bytes) ((size_t)11 + (size_t)(reply_bytes))
 
 /* The allowance of a save whose power holds. */
 #define SISAL_ALL_STORES SIZE_MAX
@@ -238,7 +314,7 @@ struct sisal_row {
     uint32_t heard;   /* minute of the latest hearing, good or faulty; it means nothing while kind and fault are both 0 */
     uint16_t faulty;  /* faulty replies since the last good one or since enrolment; it stays at 65,535 */
     uint8_t place;    /* beside fault 7 the first digit in no chart, counted from 0 at the top; not read beside another fault */
-    uint8_t gauge;    /* enum sisal_gauge, as enrolling was given it, kept by a hearing; enrolling and removing set it, and of a free row it is not read */
+    uint8_t gauge;    /* enum sisal_gauge, as enrolling was given it, kept by a hearing; of a free row it is not read */
 };
 
 /* A reply that was heard on the board. */
@@ -265,15 +341,15 @@ struct sisal_standing {
     uint8_t gauge;  /* the profile, 0 to 2, and 4 more with the mark of a 6500, whatever else stands in the row */
 };
 
-static_assert(sizeof(struct sisal_poll) == 6, "struct sisal_poll");
-static_assert(sizeof(struct sisal_reply) == 10, "struct sisal_reply");
-static_assert(sizeof(struct sisal_done) == 16, "struct sisal_done");
-static_assert(sizeof(struct sisal_slot) == 20, "struct sisal_slot");
-static_assert(sizeof(struct sisal_stores) == 44, "struct sisal_stores");
-static_assert(sizeof(struct sisal_row) == 24, "struct sisal_row");
-static_assert(sizeof(struct sisal_standing) == 24, "struct sisal_standing");
-static_assert(sizeof(struct sisal_heard) == 2, "struct sisal_heard");
-static_assert(sizeof(size_t) == 8, "size_t");
+SISAL_HOLDS(sizeof(struct sisal_poll) == 6, "struct sisal_poll");
+SISAL_HOLDS(sizeof(struct sisal_reply) == 10, "struct sisal_reply");
+SISAL_HOLDS(sizeof(struct sisal_done) == 16, "struct sisal_done");
+SISAL_HOLDS(sizeof(struct sisal_slot) == 20, "struct sisal_slot");
+SISAL_HOLDS(sizeof(struct sisal_stores) == 44, "struct sisal_stores");
+SISAL_HOLDS(sizeof(struct sisal_row) == 24, "struct sisal_row");
+SISAL_HOLDS(sizeof(struct sisal_standing) == 24, "struct sisal_standing");
+SISAL_HOLDS(sizeof(struct sisal_heard) == 2, "struct sisal_heard");
+SISAL_HOLDS(sizeof(size_t) == 8, "size_t");
 
 /* ---- polls and replies ----------------------------------------------------------------------------------------------------------- */
 
@@ -395,8 +471,8 @@ struct sisal_lines_told {
     uint8_t count;                    /* bits of the message, 1 to 64; 0 where there is none */
     uint8_t number;
 };
-static_assert(sizeof(struct sisal_lines_so_far) == 16, "struct sisal_lines_so_far");
-static_assert(sizeof(struct sisal_lines_told) == 40, "struct sisal_lines_told");
+SISAL_HOLDS(sizeof(struct sisal_lines_so_far) == 16, "struct sisal_lines_so_far");
+SISAL_HOLDS(sizeof(struct sisal_lines_told) == 40, "struct sisal_lines_told");
 
 /*
  * Hears samples of the two lines, in whatever batches the host has. A pulse is `least` to `most` samples long, 1 to 1,000; `gap` idle
@@ -416,6 +492,9 @@ SISAL_ANSWER struct sisal_lines_told sisal_hear_lines(struct sisal_lines_so_far 
  * The rows in use stand first, in strictly rising address order, and the free ones behind them; rows that are all free are so kept,
  * whatever stands in them. Every call asks first that the rows that count are so kept, and refuses others by 38, with all else 0 and
  * nothing changed. The calls below keep them so: enrolling and removing move rows, hearing changes one row, looking and polling none.
+ *
+ * A board is lent by its rows and how MANY there are. sizeof rows is bytes, 24 times too many, and the calls would read and write past the
+ * array. For an array write sisal_board_enrol(SISAL_ROWS_OF(rows), ...).
  */
 
 /*
@@ -492,10 +571,10 @@ struct sisal_kept {
     uint8_t number;
 };
 
-static_assert(sizeof(struct sisal_line) == 16, "struct sisal_line");
-static_assert(sizeof(struct sisal_summary) == 488, "struct sisal_summary");
-static_assert(sizeof(struct sisal_made) == 492, "struct sisal_made");
-static_assert(sizeof(struct sisal_kept) == 504, "struct sisal_kept");
+SISAL_HOLDS(sizeof(struct sisal_line) == 16, "struct sisal_line");
+SISAL_HOLDS(sizeof(struct sisal_summary) == 488, "struct sisal_summary");
+SISAL_HOLDS(sizeof(struct sisal_made) == 492, "struct sisal_made");
+SISAL_HOLDS(sizeof(struct sisal_kept) == 504, "struct sisal_kept");
 
 /*
  * The summary worked out from the sheet's list: for a beginning, and after a power cut. The first 30 pairs that appear in the list are
@@ -557,10 +636,10 @@ struct sisal_rounded_page {
     uint8_t number;
 };
 
-static_assert(sizeof(struct sisal_polled) == 24, "struct sisal_polled");
-static_assert(sizeof(struct sisal_round) == 728, "struct sisal_round");
-static_assert(sizeof(struct sisal_rounded) == 24, "struct sisal_rounded");
-static_assert(sizeof(struct sisal_rounded_page) == 512, "struct sisal_rounded_page");
+SISAL_HOLDS(sizeof(struct sisal_polled) == 24, "struct sisal_polled");
+SISAL_HOLDS(sizeof(struct sisal_round) == 728, "struct sisal_round");
+SISAL_HOLDS(sizeof(struct sisal_rounded) == 24, "struct sisal_rounded");
+SISAL_HOLDS(sizeof(struct sisal_rounded_page) == 512, "struct sisal_rounded_page");
 
 /*
  * Saves the replies one by one as sisal_save does, each with what is left of the allowance, up to the first refused one or until no
@@ -578,6 +657,69 @@ SISAL_ANSWER struct sisal_rounded sisal_save_round(uint8_t *sheet, size_t sheet_
  */
 SISAL_ANSWER struct sisal_rounded_page sisal_summary_save_round(uint8_t *sheet, size_t sheet_bytes, struct sisal_summary summary,
                                                                 struct sisal_round round, size_t allowance);
+
+/* ---- the same by pointer: a page or a round is written once in a host's line ------------------------------------------------------ */
+
+/*
+ * These are no calls of the archive: each hands over what the pointer points to, and puts back what was answered. A pointer here is never
+ * null. Refusals and their order are those of the call that each goes by.
+ */
+
+/* sisal_summary_of into a page. Beside a refusal the page stays as it was. */
+SISAL_ANSWER static inline uint8_t sisal_page_of(struct sisal_summary *page, const uint8_t *sheet, size_t sheet_bytes)
+{
+    struct sisal_made made = sisal_summary_of(sheet, sheet_bytes);
+    if (made.number == SISAL_OK)
+        *page = made.summary;
+    return made.number;
+}
+
+/* sisal_summary_save beside a page: the page is always right after it. */
+SISAL_ANSWER static inline struct sisal_done sisal_page_save(struct sisal_summary *page, uint8_t *sheet, size_t sheet_bytes,
+                                                             uint8_t settings, uint32_t minute, uint16_t address, size_t count,
+                                                             const uint8_t *reply, size_t reply_bytes, size_t allowance)
+{
+    struct sisal_kept kept =
+        sisal_summary_save(sheet, sheet_bytes, *page, settings, minute, address, count, reply, reply_bytes, allowance);
+    struct sisal_done done = {kept.count, kept.number};
+    *page = kept.summary;
+    return done;
+}
+
+/* sisal_summary_join of a page and another one, into the first. Beside a refusal both stay as they were. */
+SISAL_ANSWER static inline uint8_t sisal_page_join(struct sisal_summary *page, const struct sisal_summary *more)
+{
+    struct sisal_made made = sisal_summary_join(*page, *more);
+    if (made.number == SISAL_OK)
+        *page = made.summary;
+    return made.number;
+}
+
+/* sisal_save_round of a round that stands somewhere. */
+SISAL_ANSWER static inline struct sisal_rounded sisal_round_save(uint8_t *sheet, size_t sheet_bytes, const struct sisal_round *round,
+                                                                 size_t allowance)
+{
+    return sisal_save_round(sheet, sheet_bytes, *round, allowance);
+}
+
+/* sisal_summary_save_round beside a page: the page is always right after it. */
+SISAL_ANSWER static inline struct sisal_rounded sisal_page_save_round(struct sisal_summary *page, uint8_t *sheet, size_t sheet_bytes,
+                                                                      const struct sisal_round *round, size_t allowance)
+{
+    struct sisal_rounded_page kept = sisal_summary_save_round(sheet, sheet_bytes, *page, *round, allowance);
+    struct sisal_rounded rounded = {kept.closed, kept.stores, kept.number};
+    *page = kept.summary;
+    return rounded;
+}
+
+/* sisal_hear_lines with what was heard so far, which is then what to hand over with the next samples. */
+SISAL_ANSWER static inline struct sisal_lines_told sisal_lines_hear(struct sisal_lines_so_far *so_far, size_t least, size_t most,
+                                                                    size_t gap, const uint8_t *samples, size_t sample_count)
+{
+    struct sisal_lines_told told = sisal_hear_lines(*so_far, least, most, gap, samples, sample_count);
+    *so_far = told.so_far;
+    return told;
+}
 
 /* ---- item records of the 854 gauge on a CIU -------------------------------------------------------------------------------------- */
 
@@ -609,7 +751,7 @@ struct sisal_item {
     uint8_t number;
 };
 
-static_assert(sizeof(struct sisal_item) == 26, "struct sisal_item");
+SISAL_HOLDS(sizeof(struct sisal_item) == 26, "struct sisal_item");
 
 /* Reads an item record. Refuses 29, 30, 31, 32, with all else 0. */
 SISAL_ANSWER struct sisal_item sisal_read_item(const uint8_t *record, size_t record_bytes);
@@ -626,9 +768,23 @@ SISAL_ANSWER struct sisal_done sisal_write_item(uint16_t ciu, uint16_t gauge, ui
 
 /*
  * A transmitter as one number: the feet and the tenths of an ohm that it adds to its area. Each is stopped at 65,535, which is above
- * every area's limit, so that a number too wide, or below 0, becomes no good one. The arguments are evaluated more than once.
+ * every area's limit, so that a number too wide, or below 0, becomes no good one. Each argument is evaluated once, and numbers give a
+ * constant, so that a site may be a static array.
  */
-#define SISAL_UP_TO_65535(n) ((unsigned long long)(n) > 65535 ? UINT32_C(65535) : (uint32_t)(n))
+#ifdef __cplusplus
+#define SISAL_CONSTANT constexpr
+#else
+#define SISAL_CONSTANT static inline
+#endif
+SISAL_CONSTANT uint32_t sisal_up_to_65535(unsigned long long n) { return n > 65535 ? UINT32_C(65535) : (uint32_t)n; }
+#if defined(__cplusplus) || !defined(__GNUC__)
+#define SISAL_UP_TO_65535(n) sisal_up_to_65535((unsigned long long)(n))
+#else
+/* C has no constant functions: a constant is worked out where it stands, which evaluates nothing, and anything else by the function. */
+#define SISAL_UP_TO_65535(n) \
+    __builtin_choose_expr(__builtin_constant_p(n), ((unsigned long long)(n) > 65535 ? UINT32_C(65535) : (uint32_t)(n)), \
+                          sisal_up_to_65535((unsigned long long)(n)))
+#endif
 #define SISAL_TRANSMITTER(feet, tenths) (SISAL_UP_TO_65535(feet) << 16 | SISAL_UP_TO_65535(tenths))
 
 enum sisal_area_limit {
@@ -646,7 +802,7 @@ struct sisal_plan {
     uint8_t number;
 };
 
-static_assert(sizeof(struct sisal_plan) == 10, "struct sisal_plan");
+SISAL_HOLDS(sizeof(struct sisal_plan) == 10, "struct sisal_plan");
 
 /*
  * Proposes areas for a site, its transmitters in cable order: each area takes as many as it may, which is also the fewest areas.

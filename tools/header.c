@@ -100,6 +100,21 @@ static void saves(void)
     WANT(done.count == 2 && done.number == 0);
 }
 
+/* The stores of the bench's record, as request 19 lists them. */
+static void told(void)
+{
+    static const uint8_t places[BENCH_STORES] = {2, 3, 4, 5, 6, 7, 8, 9, 10, 11, 12, 13, 14, 15, 1, 0};
+    uint8_t card[2 * SISAL_SLOT_BYTES];
+    memset(card, 0xff, sizeof card);
+    memcpy(card, bench_slot, sizeof bench_slot);
+    struct sisal_stores told = sisal_save_stores(card, sizeof card, DECIMAL, BENCH_MINUTE, 7, BENCH_BITS, bench_reply, BENCH_BYTES);
+    WANT(told.slot == 1 && told.count == BENCH_STORES && told.number == 0 && memcmp(told.places, places, sizeof places) == 0);
+    for (size_t i = 0; i < SISAL_MOST_STORES; i++)
+        WANT(told.bytes[i] == (i < BENCH_STORES ? bench_slot[places[i]] : 0));
+    told = sisal_save_stores(card, 31, DECIMAL, BENCH_MINUTE, 7, BENCH_BITS, bench_reply, BENCH_BYTES);
+    WANT(told.slot == 0 && told.count == 0 && told.number == SISAL_FAULT_SHEET && told.places[0] == 0 && told.bytes[0] == 0);
+}
+
 static int says(struct sisal_done done, const uint8_t *out, const char *words)
 {
     return done.number == 0 && done.count == strlen(words) && memcmp(out, words, done.count) == 0;
@@ -274,6 +289,42 @@ static void areas(void)
     WANT(plan.areas == 0 && plan.number == SISAL_FAULT_NO_PLAN);
 }
 
+/* What the header has itself: the words of the numbers, and calls by pointer. */
+static void header_alone(void)
+{
+    static const uint8_t begun[] = {1, 1, 1, 0, 0, 0, 2, 2};
+    uint8_t card[4 * SISAL_SLOT_BYTES];
+    struct sisal_summary page, more;
+    struct sisal_round round;
+    struct sisal_lines_so_far so_far = {0, 0, 0, 0, 0};
+    WANT(strcmp(sisal_number_text(SISAL_OK), "good") == 0 && strcmp(sisal_number_text(SISAL_FAULT_ORDER), "rows out of order") == 0);
+    WANT(strcmp(sisal_number_text(39), "unknown number") == 0);
+    WANT(sisal_up_to_65535(65536) == 65535 && sisal_up_to_65535(7) == 7 && SISAL_TRANSMITTER(-1, 3) == 0xffff0003);
+    memset(card, 0xff, sizeof card);
+    memset(&page, 0, sizeof page);
+    memset(&round, 0, sizeof round);
+    struct sisal_done done =
+        sisal_page_save(&page, card, sizeof card, DECIMAL, BENCH_MINUTE, 7, BENCH_BITS, bench_reply, BENCH_BYTES, SISAL_ALL_STORES);
+    WANT(done.count == BENCH_STORES && done.number == 0 && page.count == 1 && is_line(&page.lines[0], 7, 3000, 3000, 1, 0));
+    WANT(sisal_page_of(&more, card, sizeof card) == 0 && memcmp(&more, &page, sizeof page) == 0);
+    WANT(sisal_page_join(&page, &more) == 0 && is_line(&page.lines[0], 7, 3000, 3000, 2, 0));
+    WANT(sisal_page_of(&page, card, 31) == SISAL_FAULT_SHEET && page.lines[0].good == 2);
+    page.others = 1;
+    WANT(sisal_page_join(&page, &more) == SISAL_FAULT_PAIRS && page.lines[0].good == 2);
+    round.count = 1;
+    round.replies[0].address = 7;
+    round.replies[0].settings = DECIMAL;
+    struct sisal_rounded rounded = sisal_page_save_round(&page, card, sizeof card, &round, SISAL_ALL_STORES);
+    WANT(rounded.closed == 1 && rounded.stores == SISAL_STORES(0) && rounded.number == 0 && page.lines[0].faulty == 1);
+    rounded = sisal_round_save(card, sizeof card, &round, 3);
+    WANT(rounded.closed == 0 && rounded.stores == 3 && rounded.number == 0);
+    struct sisal_lines_told told = sisal_lines_hear(&so_far, 2, 4, 10, begun, sizeof begun);
+    WANT(told.taken == sizeof begun && so_far.count == 1 && so_far.line == 2 && so_far.run == 2);
+    struct sisal_row row;
+    memset(&row, 0, sizeof row);
+    WANT(SISAL_NEVER_HEARD(row) && SISAL_REPLY_BYTES(41) == 6 && SISAL_STORES(5) == 16);
+}
+
 /* The places and sizes: a line for each struct, and one for each of its fields. */
 #define STRUCT(s) printf("%s %zu\n", #s, sizeof(struct s))
 #define FIELD(s, f) printf("%s.%s %zu %zu\n", #s, #f, offsetof(struct s, f), sizeof(((struct s *)0)->f))
@@ -304,6 +355,12 @@ static void layout(void)
     FIELD(sisal_slot, count);
     FIELD(sisal_slot, state);
     FIELD(sisal_slot, number);
+    STRUCT(sisal_stores);
+    FIELD(sisal_stores, slot);
+    FIELD(sisal_stores, places);
+    FIELD(sisal_stores, bytes);
+    FIELD(sisal_stores, count);
+    FIELD(sisal_stores, number);
     STRUCT(sisal_row);
     FIELD(sisal_row, minute);
     FIELD(sisal_row, address);
@@ -409,6 +466,7 @@ int main(void)
     polls();
     replies();
     saves();
+    told();
     listing();
     lines();
     board();
@@ -416,6 +474,7 @@ int main(void)
     rounds();
     items();
     areas();
+    header_alone();
     layout();
     return wrong;
 }

@@ -12,6 +12,11 @@ const _: () = {
     assert!(offset_of!(SaveStores, count) == 42 && offset_of!(SaveStores, number) == 43);
 };
 
+#[cfg(test)]
+layout_of! {
+    "sisal_stores": SaveStores { slot, places, bytes, count, number }
+}
+
 extern "C" {
     fn sisal_save_stores(
         sheet: *const u8,
