@@ -1,0 +1,2 @@
+-- What the desk's programs count of a card.
+pub mod Tally
