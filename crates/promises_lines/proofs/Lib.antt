@@ -19,4 +19,7 @@ pub mod Segments
 pub mod SegmentSteps
 pub mod Runs
 pub mod Drawn
+-- Bits and the bytes that hold them; what a call tells, and idle after it.
+pub mod Messages
+pub mod Tellings
 pub mod Promises

@@ -1,5 +1,4 @@
--- The proofs of the whole way: bits and the bytes that hold them; what the lines tell; a recording taken apart; records on a sheet; the listing by slots.
-pub mod Messages
+-- The proofs of the whole way: what the lines tell; a recording taken apart; records on a sheet; the listing by slots.
 pub mod Told
 pub mod Parts
 pub mod Rows

@@ -26,8 +26,8 @@ use Rattle.promises_lines.proofs.Form.{form}
 use Rattle.promises.specs.sheet.History.{blankSheet}
 use Rattle.promises_way.specs.Recording.{Polled, entryFor, Recording, begun, silence, lost, kept}
 use Rattle.promises_way.specs.Wire.{Message, Answer, message, report, polledFor, saidBy}
-use Rattle.promises_way.proofs.Messages.{bits-long, same-bytes, handed-bytes, handed-bits, no-bits, no-number}
-use Rattle.promises_way.proofs.Told.{reported, tells-number, tells-bits, tells-nothing}
+use Rattle.promises_lines.proofs.Messages.{bits-long, same-bytes, handed-bytes, handed-bits, no-bits, no-number}
+use Rattle.promises_lines.proofs.Tellings.{reported, tells-number, tells-bits, tells-nothing}
 
 -- A record to be saved.
 pub record Order : Type 0 where

@@ -1,57 +1,30 @@
 -- What the lines tell of what came: one call for each poll's answer tells it and leaves the lines at rest, so a history of such calls tells them in order;
 -- and by the promise of batches every other history of the same samples tells the same.
-use mathlib.Core.Path.{_≡_, refl, sym, ap, ap₂, subst, _∙_}
-use mathlib.Core.Bool.{false, _&&_}
+use mathlib.Core.Path.{_≡_, refl, sym, ap, subst, _∙_}
+use mathlib.Core.Bool.{false}
 use mathlib.Core.List.{List, [], _∷_, _++_, map, append-nil, append-assoc}
-use Prim.Native.Nat.{ℕ, zero, suc, _+_, _≤_}
+use Prim.Native.Nat.{ℕ, _+_, _≤_}
 use native.Mathlib.Omega.{arith}
-use borrow.Author.Tests.{ne-eqb}
-use lib.Dec.{eqb}
-use lib.ListN.{length, take, replicate, length-append, length-replicate, length-map}
+use lib.ListN.{length, replicate, length-append, length-replicate, length-map}
 use lib.Seq.{take-all}
-use Rattle.frame.specs.Pick.{pick}
 use Rattle.frame.specs.Line.{mark}
 use Rattle.lines.specs.declared.SoFar.{SoFar}
 use Rattle.lines.specs.declared.LinesTold.{LinesTold}
-use Rattle.lines.specs.Sample.{Sample, idle, sampleOf}
-use Rattle.lines.specs.Timing.{Timing, timing, badTiming}
+use Rattle.lines.specs.Timing.{Timing, badTiming}
 use Rattle.lines.specs.SoFar.{atRest}
-use Rattle.lines.specs.Hearing.{nothing, heard, hear}
-use Rattle.lines.specs.Calls.{answered, linesAnswer, HearsLines}
+use Rattle.lines.specs.Calls.{HearsLines}
 use Rattle.promises_frame.proofs.BitsAreBits.{bits-are-bits}
 use Rattle.promises_lines.specs.History.{Said, bitsOf, said, tellings, History, begun, called}
 use Rattle.promises_lines.specs.Drawn.{Pulse, drawn}
-use Rattle.promises_lines.proofs.Legal.{rest, is-legal}
-use Rattle.promises_lines.proofs.Quiet.{quiet-hear}
-use Rattle.promises_lines.proofs.Ends.{good, meant-itself, heard-by}
-use Rattle.promises_lines.proofs.Runs.{rest-idle}
 use Rattle.promises_lines.proofs.States.{begun-again, every-state}
 use Rattle.promises_lines.proofs.Batches.{batches}
 use Rattle.promises_lines.proofs.Drawn.{drawn-then-heard}
+use Rattle.promises_lines.proofs.Messages.{bits-long, no-bits}
+use Rattle.promises_lines.proofs.Tellings.{tells-number, tells-bits, reported, one-not-none, answerTo, answers, moved, idle-after}
 use Rattle.promises_way.specs.Wire.{Drawing, samplesOf, saidBy, Bits, Spoilt, Came, bits, spoilt, answerOf, carried, wireOf}
-use Rattle.promises_way.proofs.Messages.{bits-long, no-bits}
 
 abbrev saidFor : {t : Timing} → Came t → Said
 saidFor x = saidBy (answerOf x)
-
--- A call that tells a number or bits tells them once.
-pub tells-number : (a : LinesTold) → (a .number ≡ 0 → ⊥) → tellings a ≡ said a ∷ []
-tells-number a h = rw (ne-eqb (a .number) 0 h)
-
-pub tells-bits : (a : LinesTold) → a .number ≡ 0 → (a .count ≡ 0 → ⊥) → tellings a ≡ said a ∷ []
-tells-bits a e h =
-    ap (λ (m : ℕ). pick (eqb m 0 && eqb (a .count) 0) [] (said a ∷ [])) e ∙ rw (ne-eqb (a .count) 0 h)
-
-pub tells-nothing : (a : LinesTold) → a .number ≡ 0 → a .count ≡ 0 → tellings a ≡ []
-tells-nothing a e h = ap₂ (λ (m k : ℕ). pick (eqb m 0 && eqb k 0) [] (said a ∷ [])) e h
-
--- A report has no bits.
-pub reported : (a : LinesTold) → a .count ≡ 0 → said a ≡ record { number = a .number; bits = [] }
-unfolding bitsOf
-reported a e = ap (λ (k : ℕ). record { number = a .number; bits = bitsOf k (a .message) }) e
-
-one-not-none : {x : Said} {ys : List Said} → ys ≡ x ∷ [] → ys ≡ [] → ⊥
-one-not-none p q = let z : _≡_ {A = ℕ} 0 1 = cc in omega arith
 
 -- One call for one answer.
 pub record OneCall {t : Timing} (x : Came t) : Type 0 where
@@ -76,24 +49,18 @@ few-pulses x =
     omega arith
 
 module _ (t : Timing) (fine : badTiming t ≡ false) where
-  abbrev answerTo : List ℕ → LinesTold
-  answerTo xs = linesAnswer atRest (timing (t .least) (t .most) (t .gap)) xs
-
-  answers : (xs : List ℕ) → HearsLines atRest (t .least) (t .most) (t .gap) xs (answerTo xs)
-  answers xs = record { answers = refl }
-
   -- bits
   module _ (x : Bits t) where
     abbrev d : Drawing
     d = x .drawing
 
     abbrev a : LinesTold
-    a = answerTo (samplesOf d)
+    a = answerTo t (samplesOf d)
 
     is-heard : (a .number ≡ 0) × (said a .bits ≡ map (λ q. mark (q .isMark)) (d .first ∷ d .rest)) × (a .taken ≡ d .quiet + length (drawn (d .first ∷ d .rest)))
     is-heard =
         drawn-then-heard .heard t fine (d .first) (d .rest) (x .draws .timed) (few-pulses x) (d .quiet) [] a
-        (subst (λ (xs : List ℕ). HearsLines atRest (t .least) (t .most) (t .gap) xs a) (sym (append-nil (samplesOf d))) (answers (samplesOf d)))
+        (subst (λ (xs : List ℕ). HearsLines atRest (t .least) (t .most) (t .gap) xs a) (sym (append-nil (samplesOf d))) (answers t (samplesOf d)))
 
     told-so : said a ≡ record { number = 0; bits = bitsOf (x .message .count) (x .message .bytes) }
     told-so =
@@ -114,11 +81,11 @@ module _ (t : Timing) (fine : badTiming t ≡ false) where
     call-bits =
         record {
           answer = a;
-          hears = answers (samplesOf d);
+          hears = answers t (samplesOf d);
           took = is-heard .2
               ∙ sym (length-append (replicate (d .quiet) 0) (drawn (d .first ∷ d .rest)) ∙ ap (λ (k : ℕ). k + length (drawn (d .first ∷ d .rest))) (length-replicate (d .quiet) 0));
           tells = told-once;
-          at-rest = begun-again .at-rest atRest (t .least) (t .most) (t .gap) (samplesOf d) a fine (answers (samplesOf d)) (one-not-none told-once);
+          at-rest = begun-again .at-rest atRest (t .least) (t .most) (t .gap) (samplesOf d) a fine (answers t (samplesOf d)) (one-not-none told-once);
         }
 
     pub some-told : call-bits .answer .count ≡ 0 → ⊥
@@ -142,27 +109,6 @@ module _ (t : Timing) (fine : badTiming t ≡ false) where
   call (bits x) = call-bits x
   call (spoilt x) = call-spoilt x
 
-  -- Idle at the end.
-  idle-kinds : (k : ℕ) → map sampleOf (replicate k 0) ≡ replicate k idle
-  idle-kinds zero = refl
-  idle-kinds (suc k) = ap (λ (ks : List Sample). idle ∷ ks) (idle-kinds k)
-
-  idle-heard : (k : ℕ) → answerTo (replicate k 0) ≡ answered (heard nothing atRest k)
-  unfolding hear
-  idle-heard k =
-      heard-by atRest (t .least) (t .most) (t .gap) (replicate k 0) (answerTo (replicate k 0)) fine (answers (replicate k 0))
-      ∙ ap (λ (n : SoFar). answered (hear t n (replicate k 0))) (meant-itself atRest (is-legal rest))
-      ∙ ap (λ (xs : List ℕ). answered (hear t atRest xs)) (sym (append-nil (replicate k 0)))
-      ∙ ap answered
-      (quiet-hear t atRest atRest (replicate k 0) [] (rw (idle-kinds k) (rest-idle t (good t fine) k))
-      ∙ (let size : length (replicate {A = ℕ} k 0) + 0 ≡ k = omega (arith, length-replicate {A = ℕ} k 0) in ap (heard nothing atRest) size))
-
-  -- A history moved along what its parts equal.
-  moved : {xs ys : List ℕ} {ts us : List Said} {s r : SoFar} → xs ≡ ys → ts ≡ us → s ≡ r → History t atRest xs ts s → History t atRest ys us r
-  moved {xs} {ys} {ts} {us} {s} {r} p q e h =
-      subst (λ (z : SoFar). History t atRest ys us z) e
-      (subst (λ (z : List Said). History t atRest ys z s) q (subst (λ (z : List ℕ). History t atRest z ts s) p h))
-
   chain : (xs : List (Came t)) {pre : List ℕ} {told : List Said} → History t atRest pre told atRest → History t atRest (pre ++ wireOf xs) (told ++ map saidBy (map answerOf xs)) atRest
   unfolding wireOf
   chain [] {pre} {told} h = moved (sym (append-nil pre)) (sym (append-nil told)) refl h
@@ -174,13 +120,7 @@ module _ (t : Timing) (fine : badTiming t ≡ false) where
       moved (append-assoc pre (carried x) (wireOf xs)) (append-assoc told (saidFor x ∷ []) (map saidBy (map answerOf xs))) refl (chain xs one)
 
   whole : (xs : List (Came t)) (still : ℕ) → History t atRest (wireOf xs ++ replicate still 0) (map saidBy (map answerOf xs)) atRest
-  whole xs still =
-      let e = idle-heard still in
-      moved
-      (ap (λ (l : List ℕ). wireOf xs ++ l)
-      (ap (λ (a : LinesTold). take (a .taken) (replicate still 0)) e ∙ take-all still (replicate still 0) (omega (arith, length-replicate {A = ℕ} still 0))))
-      (ap (λ (a : LinesTold). map saidBy (map answerOf xs) ++ tellings a) e ∙ append-nil (map saidBy (map answerOf xs))) (ap (λ (a : LinesTold). a .«so_far») e)
-      (called (replicate still 0) (answerTo (replicate still 0)) (chain xs begun) (answers (replicate still 0)))
+  whole xs still = idle-after t fine (chain xs begun) still
 
   pub told-by-wire : (xs : List (Came t)) (still : ℕ) (told : List Said) (end : SoFar) → History t atRest (wireOf xs ++ replicate still 0) told end → told ≡ map saidBy (map answerOf xs)
   told-by-wire xs still told end h =

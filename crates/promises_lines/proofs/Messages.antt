@@ -31,7 +31,7 @@ unfolding bitsOf
 bits-long zero s = refl
 bits-long (suc k) s = omega (arith, length-append (bitsOf k s) (bitAt s (suc k) ∷ []), bits-long k s)
 
-bit-in : (k : ℕ) (s : List ℕ) (j : ℕ) → j < k → getD (bitsOf k s) j 0 ≡ bitAt s (suc j)
+pub bit-in : (k : ℕ) (s : List ℕ) (j : ℕ) → j < k → getD (bitsOf k s) j 0 ≡ bitAt s (suc j)
 unfolding bitsOf
 bit-in zero s j h = absurd (omega arith)
 bit-in (suc k) s j h =
