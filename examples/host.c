@@ -1,6 +1,6 @@
 /*
- * A small host over libsisalcove.a: a month at a depot with two made-up transmitters. Twice a day it polls both, hears each reply from
- * samples of the two lines, saves it on the card and lets the board hear it. One reply is damaged on the line, one does not come, one is
+ * A small host over libsisalcove.a: a month at a depot with two made-up transmitters. Twice a day it draws a poll of each on the two
+ * lines, hears the reply from samples of them, saves it on the card and lets the board hear it. One reply is damaged on the line, one does not come, one is
  * spoiled by a spike and asked for again, once the power fails in the middle of a save, and once right after its last store. At the end
  * it prints the listing of the card and how the transmitters stand on the board.
  *
@@ -26,13 +26,15 @@ struct transmitter {
     uint16_t a_day;  /* what is drawn each day, */
     int16_t tenths;  /* the temperature at dawn, */
     int16_t by_dusk; /* and how much warmer it is at dusk */
+    size_t low;      /* samples of its pulses, */
+    size_t still;    /* and of the idle after each */
 };
 
 static const struct transmitter site[] = {
     /* a Model 1900 that tells hundredths of a foot */
-    {7, SISAL_MODE_DECIMAL, 3000, 61, -123, 188},
+    {7, SISAL_MODE_DECIMAL, 3000, 61, -123, 188, 4, 5},
     /* a Model 1800 that tells millimetres, with odd parity; at dusk it is beyond its range */
-    {310, SISAL_MODE_20_M | SISAL_TYPE_1800 | SISAL_ODD_PARITY, 9999, 217, 1905, 120},
+    {310, SISAL_MODE_20_M | SISAL_TYPE_1800 | SISAL_ODD_PARITY, 9999, 217, 1905, 120, 7, 9},
 };
 
 enum { TRANSMITTERS = sizeof site / sizeof site[0], DAYS = 31 };
@@ -56,10 +58,10 @@ static void want(int holds, const char *what)
 }
 
 /* A transmitter answers a poll of its own address, and no other. An 1800 says "above" where it is warmer than it can tell. */
-static struct line answer(const struct transmitter *t, const uint8_t poll[SISAL_POLL_BYTES], int day, int dusk)
+static struct line answer(const struct transmitter *t, const struct line *poll, int day, int dusk)
 {
     struct line line = {{0}, 0, "fault 1"};
-    struct sisal_poll asked = sisal_read_poll(poll, SISAL_POLL_BYTES);
+    struct sisal_poll asked = sisal_read_poll(poll->bytes, bytes_of(poll));
     if (asked.number == SISAL_OK && asked.address == t->address) {
         uint16_t level = (uint16_t)(t->level - day * t->a_day);
         int16_t tenths = (int16_t)(t->tenths + (dusk ? t->by_dusk : 0));
@@ -79,31 +81,43 @@ static struct line answer(const struct transmitter *t, const uint8_t poll[SISAL_
 
 /* ---- the two lines --------------------------------------------------------------------------------------------------------------- */
 
-/* In samples: a pulse is drawn 4 to 7 long, the idle after it 5 to 9, and a message ends in GAP of idle. */
-enum { LEAST = 3, MOST = 8, GAP = 40, SAMPLES = 2048 };
+/* In samples: a poll's pulses and the idle after each, what is taken for a pulse, and the GAP of idle that a message ends in. */
+enum { LOW = 5, STILL = 6, LEAST = 3, MOST = 8, GAP = 40, PORT = 100, SAMPLES = 2048 };
 
 struct sampled {
     uint8_t samples[SAMPLES];
     size_t count;
 };
 
-static void draw(struct sampled *lines, uint8_t sample, size_t times)
+static void idle(struct sampled *lines, size_t times)
 {
-    for (size_t i = 0; i < times && lines->count < SAMPLES; i++)
-        lines->samples[lines->count++] = sample;
+    want(times <= SAMPLES - lines->count, "no room");
+    memset(lines->samples + lines->count, SISAL_SAMPLE_IDLE, times);
+    lines->count += times;
 }
 
-/* What a sampler sees of a reply: each bit a pulse on its line, none as long as the last. Where nothing comes there is idle alone. */
-static struct sampled sample(const struct line *line, int spike)
+/* Draws a message in batches, as a port might take them: each goes on where the last one ended. */
+static void draw(struct sampled *lines, size_t low, size_t still, const struct line *line)
+{
+    for (size_t from = 0;;) {
+        want(PORT <= SAMPLES - lines->count, "no room");
+        struct sisal_done drawn =
+            sisal_draw(low, still, line->count, line->bytes, bytes_of(line), from, lines->samples + lines->count, PORT);
+        want(drawn.number == SISAL_OK, "not drawn");
+        if (drawn.count == 0)
+            return;
+        from += drawn.count;
+        lines->count += drawn.count;
+    }
+}
+
+/* What a sampler sees of a message, a spike in it or none. Where nothing comes there is idle alone. */
+static struct sampled sample(const struct line *line, size_t low, size_t still, int spike)
 {
     struct sampled lines = {{0}, 0};
-    draw(&lines, SISAL_SAMPLE_IDLE, 25);
-    for (size_t i = 0; i < line->count; i++) {
-        int mark = line->bytes[i / 8] >> (7 - i % 8) & 1;
-        draw(&lines, mark ? SISAL_SAMPLE_MARK : SISAL_SAMPLE_SPACE, 4 + i % 4);
-        draw(&lines, SISAL_SAMPLE_IDLE, 5 + i % 5);
-    }
-    draw(&lines, SISAL_SAMPLE_IDLE, GAP);
+    idle(&lines, 25);
+    draw(&lines, low, still, line);
+    idle(&lines, GAP);
     if (spike)
         lines.samples[90] = SISAL_SAMPLE_BOTH;
     return lines;
@@ -144,12 +158,21 @@ static void power_on(void)
         want(sisal_board_enrol(board, SISAL_ROWS, site[i].settings, site[i].address, 0) == SISAL_OK, "not enrolled");
 }
 
+/* Draws a transmitter's poll. The transmitter hears it as we hear its reply. */
+static struct line poll_heard(const struct transmitter *t)
+{
+    struct line poll = {{0}, 8 * SISAL_POLL_BYTES, ""}, heard = {{0}, 0, ""};
+    want(sisal_write_poll(t->address, 0, 0, poll.bytes, sizeof poll.bytes).number == SISAL_OK, "no poll");
+    struct sampled lines = sample(&poll, LOW, STILL, 0);
+    want(hear(&lines, &heard) == SISAL_OK, "a poll was spoiled");
+    return heard;
+}
+
 /* Polls one transmitter and hears its reply; a reply that was spoiled on the lines is asked for once more. */
 static struct line ask(const struct transmitter *t, uint32_t minute, int day, int dusk)
 {
-    uint8_t poll[SISAL_POLL_BYTES];
-    want(sisal_write_poll(t->address, 0, 0, poll, sizeof poll).number == SISAL_OK, "no poll");
-    struct line sent = answer(t, poll, day, dusk);
+    struct line poll = poll_heard(t);
+    struct line sent = answer(t, &poll, day, dusk);
     if (t->address == 310 && day == 4 && dusk) {
         sent.bytes[2] ^= 0x10; /* a bit turned over by the transmitter: no reading any more */
         strcpy(sent.says, "fault 5");
@@ -161,11 +184,11 @@ static struct line ask(const struct transmitter *t, uint32_t minute, int day, in
 
     struct line line = {{0}, 0, ""};
     memcpy(line.says, sent.says, sizeof line.says);
-    struct sampled lines = sample(&sent, t->address == 310 && day == 20 && !dusk);
+    struct sampled lines = sample(&sent, t->low, t->still, t->address == 310 && day == 20 && !dusk);
     uint8_t number = hear(&lines, &line);
     if (number != SISAL_OK) {
         printf("minute %u: spoiled on the lines, number %u; asked again\n", minute, number);
-        lines = sample(&sent, 0);
+        lines = sample(&sent, t->low, t->still, 0);
         want(hear(&lines, &line) == SISAL_OK, "spoiled again");
     }
     return line;

@@ -1,7 +1,7 @@
 /*
  * The core of a tank gauge recorder: polls and replies of the Mark/Space line (Model 1900 and Model 1800), the month sheet, the board
- * of last good readings, the listing of a sheet, the lines heard sample by sample, the desk summary, whole rounds saved, item records of
- * the 854 gauge, and areas.
+ * of last good readings, the listing of a sheet, the lines heard sample by sample and spoken on, the desk summary, whole rounds saved,
+ * item records of the 854 gauge, and areas.
  *
  * Link target/libsisalcove.a, which `./build-library` makes. This header wants C11 or C++11, and x86-64 with the System V calling
  * convention, which is all that the archive is compiled for. The archive keeps no state, allocates nothing, never fails otherwise than
@@ -62,7 +62,7 @@ extern "C" {
 /* ---- the version ----------------------------------------------------------------------------------------------------------------- */
 
 /* It goes up with every change of a struct, of a call's arguments or of a number's meaning, and from 5 on with calls that are added. */
-#define SISAL_VERSION 5u
+#define SISAL_VERSION 6u
 
 /* The version of the archive. Refuses nothing. */
 SISAL_ANSWER uint32_t sisal_version(void);
@@ -269,7 +269,7 @@ struct sisal_reply {
 
 /* A write, a save or a count that was made. */
 struct sisal_done {
-    size_t count; /* bytes written, stores made, or slots there are */
+    size_t count; /* bytes written, samples drawn, stores made, or slots there are */
     uint8_t number;
 };
 
@@ -485,6 +485,16 @@ SISAL_HOLDS(sizeof(struct sisal_lines_told) == 40, "struct sisal_lines_told");
  */
 SISAL_ANSWER struct sisal_lines_told sisal_hear_lines(struct sisal_lines_so_far so_far, size_t least, size_t most, size_t gap,
                                                       const uint8_t *samples, size_t sample_count);
+
+/*
+ * Draws a message on the two lines: for each bit, from the first on, `low` samples of its line, 1 to 1,000, and then `still` samples of
+ * idle, 1 to 10,000. The whole drawing has count * (low + still) samples. The call fills `out` with those from sample `from` on, as many
+ * as there are or fit, and answers how many; beyond the end it draws none. It keeps no state: a host that hands back as `from` what it
+ * has drawn so far may draw in any batches. A gap after the message is the host's to add.
+ * Refuses 20 where low or still is out of range, then 14 of the message; then the count is 0 and nothing is changed.
+ */
+SISAL_ANSWER struct sisal_done sisal_draw(size_t low, size_t still, size_t count, const uint8_t *message, size_t message_bytes,
+                                          size_t from, uint8_t *out, size_t out_bytes);
 
 /* ---- the board: the first 30 of the rows lent count ------------------------------------------------------------------------------ */
 

@@ -6,6 +6,7 @@
 //! are never put in place. An answer that is a struct is left as each side gives it.
 
 mod areas;
+mod drawings;
 mod items;
 mod joins;
 pub mod lines;
@@ -386,12 +387,13 @@ mod tests {
             names.push(timing.name.clone());
         };
         benchmarks.lines(&mut tell);
+        benchmarks.drawings(&mut tell);
         benchmarks.items(&mut tell);
         benchmarks.areas(&mut tell);
         benchmarks.summaries(&mut tell);
         benchmarks.joins(&mut tell);
         benchmarks.rounds(&mut tell);
         benchmarks.stores(&mut tell);
-        assert_eq!(names.len(), 16, "{names:#?}");
+        assert_eq!(names.len(), 21, "{names:#?}");
     }
 }

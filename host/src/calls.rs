@@ -6,6 +6,7 @@
 
 mod areas;
 mod bare;
+mod drawings;
 mod items;
 mod joins;
 mod lines;
@@ -15,6 +16,7 @@ mod summaries;
 
 pub use areas::Areas;
 pub use bare::Bare;
+pub use drawings::Drawings;
 pub use items::Items;
 pub use joins::Joins;
 pub use lines::Lines;

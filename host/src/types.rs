@@ -2,6 +2,7 @@
 //! document 02's requests stand in files of their own.
 
 pub mod areas;
+pub mod drawings;
 pub mod items;
 pub mod lines;
 pub mod rounds;

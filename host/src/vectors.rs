@@ -4,6 +4,7 @@
 
 pub mod areas;
 pub mod digits;
+pub mod drawings;
 pub mod items;
 pub mod joins;
 pub mod lines;
@@ -238,6 +239,16 @@ macro_rules! tests_on {
         #[test]
         fn the_bench_reply_drawn() {
             $crate::vectors::lines::bench_reply(&$core);
+        }
+
+        #[test]
+        fn messages_drawn() {
+            $crate::vectors::drawings::drawn(&$core);
+        }
+
+        #[test]
+        fn messages_not_drawn() {
+            $crate::vectors::drawings::refused(&$core);
         }
 
         #[test]

@@ -3,6 +3,7 @@
 mod damaged;
 
 use damaged::areas::{Fitter, Miswired};
+use damaged::drawings::{Misdrawn, Pen};
 use damaged::items::{Clerk, Mistold};
 use damaged::joins::{Joiner, Misjoined};
 use damaged::lines::{Listener, Misheard};
@@ -243,6 +244,46 @@ fn lines() {
 }
 
 #[test]
+fn drawings() {
+    use Misdrawn::*;
+    const SHORT: &str = "drawings, all short messages";
+    const FORMS: &str = "drawings, lengths and forms";
+    const ANYWHERE: &str = "drawings, from anywhere";
+    const SAMPLES: &str = "drawings, each sample, right";
+    const HEARD: &str = "drawings, drawn then heard, right";
+    Account {
+        checks: compare::drawings::checks,
+        mirrored: compare::drawings::checks,
+        core: Pen,
+        found_by: &[
+            (
+                MarkAndSpaceExchanged,
+                &[SHORT, FORMS, ANYWHERE, SAMPLES, HEARD],
+            ),
+            (BitsFromTheLowest, &[SHORT, FORMS, ANYWHERE, SAMPLES, HEARD]),
+            (BatchBeginsABit, &[SHORT, ANYWHERE, SAMPLES, HEARD]),
+            (IdleFirst, &[SHORT, FORMS, ANYWHERE, SAMPLES, HEARD]),
+            (NoIdleAfterTheLast, &[SHORT, ANYWHERE, SAMPLES, HEARD]),
+            (PulseOneLonger, &[SHORT, FORMS, ANYWHERE, SAMPLES, HEARD]),
+            (LastSampleDropped, &[SHORT, ANYWHERE, SAMPLES, HEARD]),
+            (WritesOneMore, &[SHORT, FORMS, ANYWHERE, SAMPLES, HEARD]),
+            (FromCutToFourBytes, &[ANYWHERE]),
+            (LengthsCutToTwoBytes, &[FORMS, ANYWHERE]),
+            (LongestLowRefused, &[FORMS, ANYWHERE]),
+            (LongestStillRefused, &[FORMS, ANYWHERE]),
+            (NoStillTaken, &[FORMS, ANYWHERE]),
+            (FormBeforeLengths, &[FORMS, ANYWHERE]),
+            (PadBitsIgnored, &[FORMS, ANYWHERE]),
+            (CountTakenAsByte, &[FORMS]),
+            (ByteOfNoBitsTaken, &[FORMS, ANYWHERE]),
+            (RefusalChanges, &[FORMS, ANYWHERE]),
+            (EndIsRefused, &[SHORT, FORMS, ANYWHERE, SAMPLES, HEARD]),
+        ],
+    }
+    .settle();
+}
+
+#[test]
 fn way() {
     use Misheard::*;
     const WAY: &[&str] = &["way, wire to listing, right"];
@@ -269,6 +310,9 @@ fn way() {
             (Mishears(OneBothLowForgiven), WAY),
             (Mishears(ChangeOfLineEndsPulse), WAY),
             (Mishears(LongestPulseRefused), WAY),
+            (Misdraws(Misdrawn::MarkAndSpaceExchanged), WAY),
+            (Misdraws(Misdrawn::BatchBeginsABit), WAY),
+            (Misdraws(Misdrawn::PulseOneLonger), WAY),
         ],
     }
     .settle();

@@ -60,6 +60,17 @@ pub(crate) fn taken(n: usize) {
     print::words(b" samples\n");
 }
 
+// What a poll that was heard asks for.
+pub(crate) fn poll(address: u16) {
+    after(b", a poll of address ", address as u64);
+    print::words(b"\n");
+}
+
+pub(crate) fn refused(number: u8) {
+    after(b", number ", number as u64);
+    print::words(b"\n");
+}
+
 pub(crate) fn taken_of(n: usize, all: usize) {
     after(b"; ", n as u64);
     after(b" of ", all as u64);

@@ -48,6 +48,7 @@ fn main() -> ExitCode {
         let (proved, independent) = lines::millions(timing);
         println!("{timing}  {proved:.1} and {independent:.1} million samples a second");
     });
+    benchmarks.drawings(|timing| println!("{timing}"));
     benchmarks.items(|timing| println!("{timing}"));
     benchmarks.areas(|timing| println!("{timing}"));
     benchmarks.summaries(|timing| println!("{timing}"));
@@ -82,6 +83,7 @@ fn print_table(
     benchmarks.rounds(&mut tell);
     benchmarks.stores(&mut tell);
     benchmarks.lines(&mut tell);
+    benchmarks.drawings(&mut tell);
     benchmarks.items(&mut tell);
     benchmarks.areas(&mut tell);
 }

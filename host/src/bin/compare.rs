@@ -26,6 +26,7 @@ fn main() -> ExitCode {
     let verdicts = [
         run(compare::checks(), left, right, &plan, &only),
         run(compare::lines::checks(), left, right, &plan, &only),
+        run(compare::drawings::checks(), left, right, &plan, &only),
         run(compare::items::checks(), left, right, &plan, &only),
         run(compare::areas::checks(), left, right, &plan, &only),
         run(compare::summaries::checks(), left, right, &plan, &only),

@@ -8,6 +8,7 @@
 pub mod areas;
 pub mod boards;
 pub mod cuts;
+pub mod drawings;
 pub mod frames;
 pub mod items;
 pub mod joins;
@@ -49,6 +50,8 @@ pub struct Plan {
     pub line_states: usize,
     /// Streams of samples, heard in several batchings.
     pub streams: usize,
+    /// Messages drawn from anywhere, and a tenth as many followed to their end.
+    pub drawings: usize,
     /// Enraf records, of which every byte is changed to every value.
     pub changed_items: usize,
     /// Random and damaged records to be read, with as many items to be written.
@@ -86,6 +89,7 @@ impl Plan {
             cut_sequences: 15_000,
             line_states: 1_000_000,
             streams: 4_000,
+            drawings: 200_000,
             changed_items: 400,
             items: 1_000_000,
             sites: 10_000,
@@ -113,6 +117,7 @@ impl Plan {
             cut_sequences: 400,
             line_states: 100_000,
             streams: 1_000,
+            drawings: 20_000,
             changed_items: 40,
             items: 100_000,
             sites: 4_000,

@@ -4,10 +4,11 @@
 
 use super::lines::{in_batches, in_runs};
 use super::{check, in_parts, same, Check, Difference, Verdict};
-use crate::calls::{Core, Lines};
+use crate::calls::{Core, Drawings, Lines};
 use crate::generate::{self, Came, Drawn, Sent};
 use crate::random::Random;
 use crate::reading::frame;
+use crate::types::drawings::Drawing;
 use crate::types::lines::{PulseTimes, SoFar};
 use crate::types::{Answer, Entry, Fault, Reading, Temperature, BLANK, LINE, SLOT};
 
@@ -15,7 +16,7 @@ use crate::types::{Answer, Entry, Fault, Reading, Temperature, BLANK, LINE, SLOT
 const ENOUGH: usize = 30_000;
 
 /// The comparisons of cores that hear, save and list.
-pub fn checks<L: Core + Lines, R: Core + Lines>() -> Vec<Check<L, R>> {
+pub fn checks<L: Core + Drawings + Lines, R: Core + Drawings + Lines>() -> Vec<Check<L, R>> {
     vec![
         check("way, wire to listing, left", |l, _, plan| {
             months(l, plan.seed, plan.months)
@@ -82,7 +83,7 @@ struct Month {
 }
 
 /// Writes and draws replies, and lists them as their readings say: no sheet is looked at.
-fn month<C: Core>(
+fn month<C: Core + Drawings>(
     core: &C,
     random: &mut Random,
     times: PulseTimes,
@@ -103,6 +104,10 @@ fn month<C: Core>(
         let asked = || format!("writing {sent:?}");
         let written = &out[..same_size(&sent.reading, size, asked)?];
         match &sent.came {
+            Came::Whole if random.coin() => {
+                let samples = draw(core, random, times, written)?;
+                drawn.message_as(random, times, bits(written), &samples);
+            }
             Came::Whole => drawn.message_of(random, times, bits(written)),
             Came::OneBit(n) => {
                 let mut bits = bits(written);
@@ -129,6 +134,30 @@ fn month<C: Core>(
     month.listing += &format!("records {records}\n");
     month.samples = drawn.samples;
     Ok(month)
+}
+
+/// A reply as the core draws it, in batches of any room; the gap is not drawn.
+fn draw<C: Drawings>(
+    core: &C,
+    random: &mut Random,
+    times: PulseTimes,
+    reply: &[u8],
+) -> Result<Vec<u8>, Difference> {
+    let drawing = Drawing {
+        low: times.least + random.below(times.most - times.least + 1),
+        still: 1 + random.below((times.gap - 1).min(6)),
+        count: 8 * reply.len(),
+        message: reply,
+    };
+    let mut samples = Vec::new();
+    let mut out = vec![0; 1 + random.below(200)];
+    while samples.len() < drawing.count * (drawing.low + drawing.still) {
+        let drew = core.draw(&drawing, samples.len(), &mut out);
+        let count = drew.unwrap_or(0).min(out.len());
+        same(count > 0, true, || format!("{drawing:?} is not drawn"))?;
+        samples.extend_from_slice(&out[..count]);
+    }
+    Ok(samples)
 }
 
 /// The bytes that a reply takes, which the core must have written.
@@ -162,7 +191,7 @@ fn lines<C: Core>(core: &C, sheet: &[u8]) -> Answer<Vec<u8>> {
 }
 
 /// Months of any replies, any timing, batches and cuts.
-fn months<C: Core + Lines>(core: &C, seed: u64, count: usize) -> Verdict {
+fn months<C: Core + Drawings + Lines>(core: &C, seed: u64, count: usize) -> Verdict {
     in_parts(count, |part| {
         let mut random = Random::new(seed, part as u64);
         let times = generate::reply_times(&mut random);

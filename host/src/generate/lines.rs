@@ -192,6 +192,18 @@ impl Drawn {
         self.close(random, times, bits, 0);
     }
 
+    /// The same, its pulses already drawn by somebody.
+    pub fn message_as(
+        &mut self,
+        random: &mut Random,
+        times: PulseTimes,
+        bits: Vec<bool>,
+        samples: &[u8],
+    ) {
+        self.samples.extend_from_slice(samples);
+        self.close(random, times, bits, 0);
+    }
+
     /// A message with damage in it, anything between two gaps.
     fn spoiled(&mut self, random: &mut Random, times: PulseTimes) {
         let before = match times.gap {

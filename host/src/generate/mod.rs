@@ -2,6 +2,7 @@
 
 mod areas;
 mod boards;
+mod drawings;
 mod items;
 mod joins;
 mod lines;
@@ -13,6 +14,7 @@ mod way;
 
 pub use areas::{fitters_plan, site};
 pub use boards::{board_call, rows, BoardCall};
+pub use drawings::{drawing, from_sample, good_drawing, DrawingCase};
 pub use items::{framed, item, item_asked, mend, record, AskedCase};
 pub use joins::{joinable, shares};
 pub use lines::{bad_times, batches, drawn, pulse_times, samples, so_far, Drawn, Saying};

@@ -10,6 +10,7 @@ mod layout;
 
 mod areas;
 mod bare;
+mod drawings;
 mod ffi;
 mod items;
 mod joins;

@@ -12,6 +12,7 @@ mod bare;
 mod bench_checks;
 pub mod board;
 mod charts;
+pub mod drawings;
 pub mod frame;
 pub mod items;
 pub mod joins;

@@ -1,6 +1,7 @@
 //! Cores that are right but for one mistake, to see that a comparison can fail.
 
 pub mod areas;
+pub mod drawings;
 pub mod items;
 pub mod joins;
 pub mod lines;
@@ -8,9 +9,11 @@ pub mod rounds;
 pub mod stores;
 pub mod summaries;
 
+use drawings::{Misdrawn, Pen};
 use lines::{Listener, Misheard};
-use sisalcove_host::calls::Lines;
+use sisalcove_host::calls::{Drawings, Lines};
 use sisalcove_host::reading::{board, IndependentReading};
+use sisalcove_host::types::drawings::Drawing;
 use sisalcove_host::types::lines::{LinesTold, PulseTimes, SoFar};
 use sisalcove_host::types::{BLANK, SLOT, TYPE_1800};
 use sisalcove_host::{
@@ -81,6 +84,7 @@ pub enum Damage {
     SettingsOfRowNotAsked,
     /// A mistake of the lines, where a core is to hear, save and list.
     Mishears(Misheard),
+    Misdraws(Misdrawn),
     ProfileEndsStrict,
     ProfileOf1800Checked,
     ReadingClearedByProfile,
@@ -574,6 +578,16 @@ impl Core for Damaged {
 
     fn says(&self, row: &Row) -> Row {
         *row
+    }
+}
+
+impl Drawings for Damaged {
+    fn draw(&self, drawing: &Drawing, from: usize, out: &mut [u8]) -> Answer<usize> {
+        let mistake = match self.0 {
+            Misdraws(mistake) => Some(mistake),
+            _ => None,
+        };
+        Pen(mistake).draw(drawing, from, out)
     }
 }
 
