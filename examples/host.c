@@ -155,7 +155,7 @@ static void power_on(void)
 {
     memset(board, 0, sizeof board);
     for (int i = 0; i < TRANSMITTERS; i++)
-        want(sisal_board_enrol(board, SISAL_ROWS, site[i].settings, site[i].address, 0) == SISAL_OK, "not enrolled");
+        want(sisal_board_enrol(SISAL_ROWS_OF(board), site[i].settings, site[i].address, 0) == SISAL_OK, "not enrolled");
 }
 
 /* Draws a transmitter's poll. The transmitter hears it as we hear its reply. */
@@ -232,7 +232,7 @@ static void poll_one(const struct transmitter *t, int day, int dusk, size_t stor
         return;
     }
     /* 1 to 9 is a faulty reply, which the row keeps; anything above is a refusal */
-    struct sisal_heard heard = sisal_board_hear(board, SISAL_ROWS, minute, t->address, line.count, line.bytes, bytes_of(&line));
+    struct sisal_heard heard = sisal_board_hear(SISAL_ROWS_OF(board), minute, t->address, line.count, line.bytes, bytes_of(&line));
     want(heard.number <= SISAL_FAULT_TEMPERATURE, "not heard");
 }
 
@@ -287,7 +287,7 @@ static void compare_listing(void)
 static void print_board(void)
 {
     for (int i = 0; i < TRANSMITTERS; i++) {
-        struct sisal_standing s = sisal_board_look_up(board, SISAL_ROWS, site[i].address);
+        struct sisal_standing s = sisal_board_look_up(SISAL_ROWS_OF(board), site[i].address);
         want(s.number == SISAL_OK, "not on the board");
         printf("board %u: ", s.address);
         if (s.kind == SISAL_KIND_NONE)

@@ -61,6 +61,8 @@ int main(void)
     TRY("sisal_last_line", sisal_last_line(bytes, 0, out, 0).number);
     TRY("sisal_listing", sisal_listing(bytes, 0, out, 0).number);
     TRY("sisal_hear_lines", sisal_hear_lines(so_far, 1, 3, 4, bytes, 0).number);
+    TRY("sisal_draw", sisal_draw(2, 3, 0, bytes, 0, 0, out, 0).number);
+    TRY("sisal_draw, 2 bits", sisal_draw(2, 3, 2, bytes, 0, 0, out, 0).number);
     TRY("sisal_board_enrol", sisal_board_enrol(rows, 0, 1, 7, 0));
     TRY("sisal_board_hear", sisal_board_hear(rows, 0, 600, 7, 0, bytes, 0).number);
     TRY("sisal_board_remove", sisal_board_remove(rows, 0, 7));

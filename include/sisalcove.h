@@ -130,7 +130,7 @@ enum sisal_number {
     X(SISAL_FAULT_ASKED_ADDRESS, "address above 999") \
     X(SISAL_FAULT_SHEET, "no sheet of slots") \
     X(SISAL_FAULT_FULL, "sheet full") \
-    X(SISAL_FAULT_FORM, "reply out of form") \
+    X(SISAL_FAULT_FORM, "bits out of form") \
     X(SISAL_FAULT_SHORT, "output too short") \
     X(SISAL_FAULT_POLL, "no poll") \
     X(SISAL_FAULT_UNKNOWN, "address not on the board") \

@@ -150,6 +150,18 @@ static void lines(void)
     WANT(told.taken == 0 && told.count == 0 && told.number == SISAL_FAULT_TIMING);
 }
 
+/* Two bits, 10, in pulses of 2 and idle of 3, from the fifth sample on: the last idle of the first, then the space. */
+static void drawn(void)
+{
+    static const uint8_t message[1] = {0x80};
+    uint8_t out[4] = {9, 9, 9, 9};
+    struct sisal_done done = sisal_draw(2, 3, 2, message, sizeof message, 4, out, 3);
+    WANT(done.count == 3 && done.number == 0 && out[0] == SISAL_SAMPLE_IDLE && out[1] == SISAL_SAMPLE_SPACE && out[2] == SISAL_SAMPLE_SPACE);
+    WANT(out[3] == 9);
+    done = sisal_draw(0, 3, 2, message, sizeof message, 0, out, sizeof out);
+    WANT(done.count == 0 && done.number == SISAL_FAULT_TIMING && out[3] == 9);
+}
+
 /* The row and what a look tells of it agree in every field that both have. */
 static void alike(const struct sisal_row *row, const struct sisal_standing *told)
 {
@@ -469,6 +481,7 @@ int main(void)
     told();
     listing();
     lines();
+    drawn();
     board();
     summaries();
     rounds();
