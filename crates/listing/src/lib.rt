@@ -1,6 +1,6 @@
 // A sheet as text, line by line, into an output that the caller lends.
 mod lines;
-mod text;
+pub mod text;
 mod whole;
 
 use frame::Written;

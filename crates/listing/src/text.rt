@@ -1,4 +1,5 @@
-// Text put into an output from a place on, byte after byte. Each call answers the place after what it put.
+// Text put into an output from a place on, byte after byte. Each call answers the place after what it put. What is public here is for other crates that
+// write text: they ask for room themselves, as these calls want it.
 ghost use mathlib.Core.Path.{_≡_};
 ghost use mathlib.Core.List.{[], _∷_};
 ghost use Prim.Native.Nat.{_+_, _≤_, _<_};
@@ -6,7 +7,7 @@ ghost use lib.ListN.{length};
 ghost use Rattle.listing.specs.Text.{decimal};
 ghost use Rattle.listing.specs.inside.Puts.{Puts};
 
-pub(crate) fn put_byte(out: &mut [u8], at: usize, byte: u8) -> usize
+pub fn put_byte(out: &mut [u8], at: usize, byte: u8) -> usize
     requires { ⌜ at < length (now out) ⌝ }
     ensures { λ r. ⌜ Puts (byte ∷ []) 1 (now (out .entry)) at r (now (out .exit)) ⌝ }
 {
@@ -14,7 +15,7 @@ pub(crate) fn put_byte(out: &mut [u8], at: usize, byte: u8) -> usize
     at + 1
 }
 
-pub(crate) fn put_word(out: &mut [u8], at: usize, word: &[u8]) -> usize
+pub fn put_word(out: &mut [u8], at: usize, word: &[u8]) -> usize
     requires { ⌜ at + length (now word) ≤ length (now out) ⌝ }
     ensures { λ r. ⌜ Puts (now (word .entry)) (length (now (word .entry))) (now (out .entry)) at r (now (out .exit)) ⌝ }
 {
@@ -45,7 +46,7 @@ fn digits_in(n: u32) -> usize
 }
 
 // A number in decimal, put from its last digit forward.
-pub(crate) fn put_number(out: &mut [u8], at: usize, n: u32) -> usize
+pub fn put_number(out: &mut [u8], at: usize, n: u32) -> usize
     requires { ⌜ at + length (decimal n) ≤ length (now out) ⌝ }
     ensures { λ r. ⌜ Puts (decimal n) 10 (now (out .entry)) at r (now (out .exit)) ⌝ }
 {
@@ -62,7 +63,7 @@ pub(crate) fn put_number(out: &mut [u8], at: usize, n: u32) -> usize
 }
 
 // A number of 16 bits: at most five digits.
-pub(crate) fn put_short(out: &mut [u8], at: usize, n: u16) -> usize
+pub fn put_short(out: &mut [u8], at: usize, n: u16) -> usize
     requires { ⌜ at + 5 ≤ length (now out) ⌝ }
     ensures { λ r. ⌜ Puts (decimal n) 5 (now (out .entry)) at r (now (out .exit)) ⌝ }
 {

@@ -1,0 +1,2 @@
+-- The laws that several proofs cite, each in a file named for what it speaks of.
+pub mod Forms

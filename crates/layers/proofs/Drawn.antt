@@ -1,0 +1,95 @@
+-- A layer of some records and of more of them; and the records of a pair, one slot more. Assumes nothing.
+use mathlib.Core.Path.{_≡_, refl, sym, ap, _∙_}
+use mathlib.Core.Bool.{Bool, true, false}
+use mathlib.Core.List.{List, [], _∷_, _++_, append-nil, append-assoc}
+use Prim.Native.Nat.{ℕ, zero, suc, _+_, _*_, _≤_}
+use native.Mathlib.Numerals.{add-one}
+use native.Mathlib.Omega.{arith}
+use lib.Dec.{eqb}
+use borrow.Author.Tests.{eq-eqb, ne-eqb}
+use lib.ListN.{length, length-append}
+use Rattle.frame.specs.Pick.{pick}
+use Rattle.sheet.specs.Record.{Entry}
+use Rattle.sheet.specs.Slots.{slotAt, slotOf, recordIn, listUpTo}
+use Rattle.summary.specs.Worked.{pairIn, ofPair}
+use Rattle.summary.proofs.Seen.{list-more}
+use Rattle.summary.proofs.PairFigures.{pair-append}
+use Rattle.layers.specs.Drawing.{partText, goesOn, layerText}
+use Rattle.listing.specs.inside.Puts.{Puts}
+use Rattle.listing.proofs.Putting.{text-is, at-most, nothing-put}
+use Rattle.layers.specs.inside.Layers.{joinedAfter}
+
+pub layer-append : (n : ℕ) (j : Bool) (l m : List Entry) → layerText n j (l ++ m) ≡ layerText n j l ++ layerText n (joinedAfter n j l) m
+unfolding layerText joinedAfter
+layer-append n j [] m = refl
+layer-append n j (e ∷ l) m =
+    ap (λ (t : List ℕ). partText n j e ++ t) (layer-append n (goesOn n e) l m)
+    ∙ sym (append-assoc (partText n j e) (layerText n (goesOn n e) l) (layerText n (joinedAfter n (goesOn n e) l) m))
+
+pub joined-append : (n : ℕ) (j : Bool) (l m : List Entry) → joinedAfter n j (l ++ m) ≡ joinedAfter n (joinedAfter n j l) m
+unfolding joinedAfter
+joined-append n j [] m = refl
+joined-append n j (e ∷ l) m = joined-append n (goesOn n e) l m
+
+-- a layer of one record, and of none
+pub layer-one : (n : ℕ) (j : Bool) (e : Entry) → layerText n j (e ∷ []) ≡ partText n j e
+unfolding layerText
+layer-one n j e = append-nil (partText n j e)
+
+pub joined-one : (n : ℕ) (j : Bool) (e : Entry) → joinedAfter n j (e ∷ []) ≡ goesOn n e
+unfolding joinedAfter
+joined-one n j e = refl
+
+pub layer-none : (n : ℕ) (j : Bool) → layerText n j [] ≡ []
+unfolding layerText
+layer-none n j = refl
+
+pub joined-none : (n : ℕ) (j : Bool) → joinedAfter n j [] ≡ j
+unfolding joinedAfter
+joined-none n j = refl
+
+-- a record of the pair, and one of another
+pub of-pair : (k : ℕ) (e : Entry) → pairIn e ≡ k → ofPair k (e ∷ []) ≡ e ∷ []
+unfolding ofPair
+of-pair k e h = simp (eq-eqb (pairIn e) k h)
+
+pub of-other : (k : ℕ) (e : Entry) → (pairIn e ≡ k → ⊥) → ofPair k (e ∷ []) ≡ []
+unfolding ofPair
+of-other k e h = simp (ne-eqb (pairIn e) k h)
+
+pub of-none : (k : ℕ) → ofPair k [] ≡ []
+unfolding ofPair
+of-none k = refl
+
+-- the records of a pair, one slot more
+pub pair-more : (k : ℕ) (s : List ℕ) (i : ℕ) → ofPair k (listUpTo s (i + 1)) ≡ ofPair k (listUpTo s i) ++ ofPair k (recordIn (slotOf (slotAt s i)))
+pair-more k s i = ap (ofPair k) (list-more s i) ∙ pair-append k (listUpTo s i) (recordIn (slotOf (slotAt s i)))
+
+pub count-more : (k : ℕ) (s : List ℕ) (i : ℕ) → length (ofPair k (listUpTo s (i + 1))) ≡ length (ofPair k (listUpTo s i)) + length (ofPair k (recordIn (slotOf (slotAt s i))))
+count-more k s i = ap length (pair-more k s i) ∙ length-append (ofPair k (listUpTo s i)) (ofPair k (recordIn (slotOf (slotAt s i))))
+
+-- no more of them among the first slots than among more slots
+pub count-grows : (k : ℕ) (s : List ℕ) (i d : ℕ) → length (ofPair k (listUpTo s i)) ≤ length (ofPair k (listUpTo s (i + d)))
+count-grows k s i zero = let e : i ≡ i + 0 = omega arith in rw (← e) (omega arith)
+count-grows k s i (suc d) =
+    let e : i + suc d ≡ i + d + 1 = omega arith in
+    rw e (omega (arith, count-grows k s i d, count-more k s (i + d)))
+
+-- what some records of a pair add, in an output; the same of records that are equal, of none, of one of the pair and of one of another
+abbrev pub Adds : ℕ → ℕ → Bool → List Entry → List ℕ → ℕ → ℕ → Bool → List ℕ → Type 0
+Adds pair layer joined m out at end after-joined after =
+    Puts (layerText layer joined (ofPair pair m)) (138 * length (ofPair pair m)) out at end after × (after-joined ≡ joinedAfter layer joined (ofPair pair m))
+
+pub adds-same : (pair layer : ℕ) (joined : Bool) (m n : List Entry) (out : List ℕ) (at end : ℕ) (goes : Bool) (after : List ℕ) → m ≡ n → Adds pair layer joined m out at end goes after → Adds pair layer joined n out at end goes after
+adds-same pair layer joined m n out at end goes after e x = rw (← e) x
+
+pub adds-none : (pair layer : ℕ) (joined : Bool) (m : List Entry) (out : List ℕ) (at : ℕ) → ofPair pair m ≡ [] → Adds pair layer joined m out at at joined out
+adds-none pair layer joined m out at e =
+    (nothing-put (sym (ap (layerText layer joined) e ∙ layer-none layer joined)), sym (ap (joinedAfter layer joined) e ∙ joined-none layer joined))
+
+pub adds-one : (pair layer : ℕ) (joined : Bool) (e : Entry) (out : List ℕ) (at end : ℕ) (goes : Bool) (after : List ℕ) → pairIn e ≡ pair → Puts (partText layer joined e) 138 out at end after → goes ≡ goesOn layer e → Adds pair layer joined (e ∷ []) out at end goes after
+adds-one pair layer joined e out at end goes after own put q =
+    let is = of-pair pair e own in (
+      at-most (omega (arith, ap length is)) (text-is (sym (ap (layerText layer joined) is ∙ layer-one layer joined e)) put),
+      q ∙ sym (ap (joinedAfter layer joined) is ∙ joined-one layer joined e),
+    )

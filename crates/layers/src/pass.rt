@@ -1,0 +1,125 @@
+// A layer of a pair's picture: one pass over the sheet, in which the records of the pair each add their part.
+use crate::parts::Part;
+use crate::parts::put_part;
+use sheet::Found;
+use sheet::Head;
+use sheet::look;
+ghost use mathlib.Core.Path.{_≡_};
+ghost use mathlib.Core.Bool.{true, false};
+ghost use mathlib.Core.List.{[], _∷_};
+ghost use Prim.Native.Nat.{_+_, _*_, _≤_, _<_};
+ghost use lib.ListN.{length, take};
+ghost use Rattle.frame.specs.Line.{bytesFor};
+ghost use Rattle.sheet.specs.Slots.{sizeAllowed, slots, slotAt, slotOf, recordIn, listOf};
+ghost use Rattle.sheet.specs.Look.{entryWith};
+ghost use Rattle.summary.specs.Line.{pairBy};
+ghost use Rattle.summary.specs.Worked.{ofPair};
+ghost use Rattle.listing.specs.inside.Puts.{Puts};
+ghost use Rattle.layers.specs.Drawing.{partText, goesOn, layerText};
+ghost use Rattle.layers.specs.inside.Layers.{joinedAfter};
+
+// Address and settings as one number.
+fn pair_of(head: Head) -> u32
+    ensures { λ r. ⌜ r ≡ pairBy (head .address) (head .settings) ⌝ }
+{
+    (head.address as u32) * 0x10000 + (head.settings as u32)
+}
+
+// What a record adds. The bytes of its reply stand first in the eight.
+fn put_record(
+    out: &mut [u8],
+    at: usize,
+    layer: u8,
+    joined: bool,
+    head: Head,
+    reply: [u8; 8],
+) -> Part
+    requires { ⌜ at + 138 ≤ length (now out) ⌝ }
+    requires { ⌜ head .count ≤ 64 ⌝ }
+    ensures { λ r. ⌜ Puts (partText layer joined (entryWith head (take (bytesFor (head .count)) reply))) 138
+        (now (out .entry)) at (r .end) (now (out .exit)) ⌝ }
+    ensures { λ r. ⌜ r .joined ≡ goesOn layer (entryWith head (take (bytesFor (head .count)) reply)) ⌝ }
+{
+    let size = (head.count + 7) / 8;
+    let minute = head.minute;
+    let read = frame::read_reply(head.settings, head.address, head.count, &reply[..size]);
+    put_part(out, at, layer, joined, minute, read)
+}
+
+// What a record adds to the layer of a pair: nothing where it is of another.
+fn put_own(
+    out: &mut [u8],
+    at: usize,
+    layer: u8,
+    joined: bool,
+    pair: u32,
+    head: Head,
+    reply: [u8; 8],
+) -> Part
+    requires { ⌜ head .count ≤ 64 ⌝ }
+    requires { ⌜ at + 138 * length (ofPair pair (entryWith head (take (bytesFor (head .count)) reply) ∷ [])) ≤ length (now out) ⌝ }
+    ensures { λ r. ⌜ Puts (layerText layer joined (ofPair pair (entryWith head (take (bytesFor (head .count)) reply) ∷ [])))
+        (138 * length (ofPair pair (entryWith head (take (bytesFor (head .count)) reply) ∷ []))) (now (out .entry)) at (r .end) (now (out .exit)) ⌝ }
+    ensures { λ r. ⌜ r .joined ≡ joinedAfter layer joined (ofPair pair (entryWith head (take (bytesFor (head .count)) reply) ∷ [])) ⌝ }
+{
+    if pair_of(head) == pair {
+        return put_record(out, at, layer, joined, head, reply);
+    }
+    Part { end: at, joined }
+}
+
+// What a slot adds: nothing where it holds no record of the pair.
+fn put_slot(
+    out: &mut [u8],
+    at: usize,
+    sheet: &[u8],
+    slot: usize,
+    pair: u32,
+    layer: u8,
+    joined: bool,
+) -> Part
+    requires { ⌜ sizeAllowed (now sheet) ≡ true ⌝ }
+    requires { ⌜ slot < slots (now sheet) ⌝ }
+    requires { ⌜ at + 138 * length (ofPair pair (recordIn (slotOf (slotAt (now sheet) slot)))) ≤ length (now out) ⌝ }
+    ensures { λ r. ⌜ Puts (layerText layer joined (ofPair pair (recordIn (slotOf (slotAt (now (sheet .entry)) slot)))))
+        (138 * length (ofPair pair (recordIn (slotOf (slotAt (now (sheet .entry)) slot))))) (now (out .entry)) at (r .end) (now (out .exit)) ⌝ }
+    ensures { λ r. ⌜ r .joined ≡ joinedAfter layer joined (ofPair pair (recordIn (slotOf (slotAt (now (sheet .entry)) slot)))) ⌝ }
+{
+    let looked = look(sheet, slot);
+    let found = looked.found;
+    let reply = looked.reply;
+    match found {
+        Found::Record(head) => put_own(out, at, layer, joined, pair, head, reply),
+        Found::Blank => Part { end: at, joined },
+        Found::Spoiled => Part { end: at, joined },
+        Found::Foreign => Part { end: at, joined },
+        Found::Refused(_) => Part { end: at, joined },
+    }
+}
+
+// The layer of a pair's records, in their order.
+pub fn put_layer(
+    out: &mut [u8],
+    at: usize,
+    sheet: &[u8],
+    many: usize,
+    pair: u32,
+    layer: u8,
+) -> usize
+    requires { ⌜ sizeAllowed (now sheet) ≡ true ⌝ }
+    requires { ⌜ many ≡ slots (now sheet) ⌝ }
+    requires { ⌜ at + 138 * length (ofPair pair (listOf (now sheet))) ≤ length (now out) ⌝ }
+    ensures { λ r. ⌜ Puts (layerText layer false (ofPair pair (listOf (now (sheet .entry)))))
+        (138 * length (ofPair pair (listOf (now (sheet .entry))))) (now (out .entry)) at r (now (out .exit)) ⌝ }
+{
+    let mut end = at;
+    let mut joined = false;
+    let mut k = 0;
+    while k < many {
+        let part = put_slot(out, end, sheet, k, pair, layer, joined);
+        end = part.end;
+        joined = part.joined;
+        k += 1;
+    }
+    end
+}

@@ -1,0 +1,2 @@
+-- The theorem of the promise.
+pub mod DrawnAsListed

@@ -1,0 +1,2 @@
+-- Our request 18: what is drawn is what is listed.
+pub mod Drawn

@@ -1,0 +1,1 @@
+// What is drawn of a card: promises alone, no code.
