@@ -8,6 +8,7 @@ pub mod EachMode
 pub mod DecimalCode
 pub mod Digits
 pub mod Upward
+pub mod Straight
 pub mod Constants
 pub mod Keys
 pub mod PairsAreDigits

@@ -4,19 +4,19 @@ use mathlib.Core.Path.{_≡_, refl, sym, ap, _∙_}
 use mathlib.Core.Bool.{Bool, true, false}
 use mathlib.Core.List.{List, [], _∷_, _++_}
 use Prim.Native.Nat.{ℕ, zero, suc, _+_, _-_, _*_, _/_, _%_, _^_, _<_, _≤_}
-use native.Mathlib.Nat.{mul-pos, mul-one, add-zero, lt-of-lt-of-le, zero-mul, zero-add, div-one, div-eq-of-lt, div-div-eq-div-mul, div-add-mod', mod-eq-of-lt, mod-lt, mul-assoc, mul-comm, div-lt-iff-lt-mul, pow-suc}
+use native.Mathlib.Nat.{mul-pos, mul-one, add-zero, zero-mul, zero-add, div-one, div-eq-of-lt, div-div-eq-div-mul, div-add-mod', mod-eq-of-lt, mod-lt, mul-assoc, mul-comm, div-lt-iff-lt-mul, pow-suc}
 use native.Mathlib.Omega.{arith}
 use borrow.Author.Tests.{leb-true, ne-eqb}
 use lib.Arith.{mod-mul, digits-div, digits-mod}
 use lib.Dec.{eqb, leb, lit<}
-use lib.Pow.{pow-add, pow-mono, shl-lt}
+use lib.Pow.{pow-add, pow-mono}
 use Rattle.frame.specs.Pick.{pick}
 use Rattle.frame.specs.Line.{mark}
 use Rattle.frame.specs.Charts.{Chart, sizeOf, isOdd, turned, codeOf}
 use Rattle.frame.specs.Level.{widthOf, valuesOf, writeRow}
 use Rattle.frame.specs.inside.Packed.{chartOf, rowOf, writeUp}
 use Rattle.frame.specs.inside.Constants.{placedAt}
-use Rattle.frame.proofs.Digits.{down, turned-lt}
+use Rattle.frame.proofs.Digits.{turned-lt}
 use Rattle.frame.proofs.Tables.{size-low, size-high, size-even, code-small}
 
 -- a row's digit read in four bits
@@ -180,39 +180,3 @@ placed-up v row left first fill largest start h = by (leb v largest) refl
         let within : v ≤ largest = leb-true v largest e in
         ap (λ (n : ℕ). placedAt v n first fill largest) (upward row left start v (omega arith))
     by false e = rw e
-
--- ---- one step of the writer: the ones digit in its place, and the rest four bits above it
-
-one-less : (k : ℕ) → eqb (suc k) 1 ≡ eqb k 0
-one-less zero = refl
-one-less (suc k) = rw (ne-eqb (suc (suc k)) 1 (λ e. more k e), ne-eqb (suc k) 0 (λ e. not-zero k e))
-  where
-    more : (k : ℕ) → suc (suc k) ≡ 1 → ⊥
-    more k e = omega arith
-
-module _ (row : ℕ) (start : Bool) (v place : ℕ) where
-  -- by the number of digits left and that number less one
-  abbrev Step : ℕ → ℕ → Type 0
-  Step n k =
-      let c = chartOf (row / 16 ^ k % 16) in
-      codeOf (pick (eqb n 1) start (isOdd (v / sizeOf c))) c (v % sizeOf c) * 2 ^ place + writeUp row k start (v / sizeOf c) * 2 ^ (place + 4)
-      ≡ writeUp row n start v * 2 ^ place
-
-  step : (k : ℕ) → Step (suc k) k
-  unfolding writeUp
-  step k =
-      let c = chartOf (row / 16 ^ k % 16) in
-      rw (one-less k, pow-add 2 place 4)
-      (regroup (codeOf (pick (eqb k 0) start (isOdd (v / sizeOf c))) c (v % sizeOf c)) (2 ^ place) (writeUp row k start (v / sizeOf c)))
-    where
-      regroup : (a p r : ℕ) → a * p + r * (p * 16) ≡ (a + 16 * r) * p
-      regroup a p r = omega arith
-
-  pub left-step : (left : ℕ) → 0 < left → Step left (left - 1)
-  left-step = down Step step
-
-  -- and the whole fits the word
-  pub up-fits : (left : ℕ) → 4 * left + place ≤ 53 → writeUp row left start v * 2 ^ place < 2 ^ 53
-  up-fits left h =
-      let few : writeUp row left start v < 2 ^ (4 * left) = rw (sixteen left) (up-lt row left start v) in
-      lt-of-lt-of-le (shl-lt (4 * left) place few) (pow-mono {i = 4 * left + place} {j = 53} h)

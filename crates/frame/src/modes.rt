@@ -1,8 +1,9 @@
 // The four modes. Each mode's type carries its constants, and a level is read and written by those of its own mode.
 ghost use mathlib.Core.Path.{_≡_};
+ghost use Prim.Native.Nat.{_<_, _^_};
 ghost use Rattle.frame.specs.Level.{modeOf, putLevel};
 ghost use Rattle.frame.specs.inside.Packed.{levelCode, secondCode};
-ghost use Rattle.frame.specs.inside.Constants.{constantsBy};
+ghost use Rattle.frame.specs.inside.Constants.{fractional, decimalFeet, metres20, metres30, constantsBy, codesBy, writeBy};
 use crate::level;
 use crate::level_writing;
 use crate::pairs;
@@ -33,6 +34,22 @@ impl Fractional {
         charts: 0x5432,
         start: false,
     };
+
+    // The codes of a level's digits: sixteenths, inches, feet, feet tens.
+    fn codes(v: u64) -> u64
+        ensures { λ r. ⌜ (r ≡ codesBy fractional v) × (r < 2 ^ 20) ⌝ }
+    {
+        level_writing::ones_code(5, v)
+            + 16 * level_writing::ones_code(4, v / 16)
+            + 256 * level_writing::ones_code(3, v / 192)
+            + 4096 * level_writing::digit_code(2, v / 1920, Self::CONSTANTS.start)
+    }
+
+    fn write(v: u64) -> u64
+        ensures { λ r. ⌜ r ≡ writeBy fractional v ⌝ }
+    {
+        level_writing::write_by(Self::CONSTANTS, v, Self::codes(v))
+    }
 }
 
 // Feet and hundredths.
@@ -48,6 +65,20 @@ impl Decimal {
         charts: 0x3332,
         start: false,
     };
+
+    // The codes of a level's digits: hundredths, tenths, feet, feet tens.
+    fn codes(v: u64) -> u64
+        ensures { λ r. ⌜ (r ≡ codesBy decimalFeet v) × (r < 2 ^ 20) ⌝ }
+    {
+        level_writing::three_decimals(v)
+            + 4096 * level_writing::digit_code(2, v / 1000, Self::CONSTANTS.start)
+    }
+
+    fn write(v: u64) -> u64
+        ensures { λ r. ⌜ r ≡ writeBy decimalFeet v ⌝ }
+    {
+        level_writing::write_by(Self::CONSTANTS, v, Self::codes(v))
+    }
 }
 
 // 20 m, in millimetres.
@@ -63,6 +94,13 @@ impl Metres20 {
         charts: 0x33330,
         start: false,
     };
+
+    fn write(v: u64) -> u64
+        ensures { λ r. ⌜ r ≡ writeBy metres20 v ⌝ }
+    {
+        let codes = level_writing::five_digits(0, v, Self::CONSTANTS.start);
+        level_writing::write_by(Self::CONSTANTS, v, codes)
+    }
 }
 
 // 30 m, in millimetres.
@@ -78,6 +116,13 @@ impl Metres30 {
         charts: 0x33331,
         start: false,
     };
+
+    fn write(v: u64) -> u64
+        ensures { λ r. ⌜ r ≡ writeBy metres30 v ⌝ }
+    {
+        let codes = level_writing::five_digits(1, v, Self::CONSTANTS.start);
+        level_writing::write_by(Self::CONSTANTS, v, codes)
+    }
 }
 
 // The constants of the mode of this number: no mode has code of its own, it is read and written by these.
@@ -109,15 +154,14 @@ pub(crate) fn read_level_by_pairs(mode: u64, n: u64) -> u64
     pairs::read_by(constants_of(mode), n)
 }
 
-// The bits of a level in the mode of this number; the fill is 0. Each arm hands over its mode's constants, so that the compiler knows every
-// digit's chart.
+// The bits of a level in the mode of this number; the fill is 0.
 pub(crate) fn write_level(mode: u64, v: u64) -> u64
     ensures { λ r. ⌜ r ≡ putLevel (modeOf mode) v ⌝ }
 {
     match mode {
-        0 => level_writing::write_by(Fractional::CONSTANTS, v),
-        1 => level_writing::write_by(Decimal::CONSTANTS, v),
-        2 => level_writing::write_by(Metres20::CONSTANTS, v),
-        _ => level_writing::write_by(Metres30::CONSTANTS, v),
+        0 => Fractional::write(v),
+        1 => Decimal::write(v),
+        2 => Metres20::write(v),
+        _ => Metres30::write(v),
     }
 }

@@ -66,6 +66,13 @@ writeUp row (suc left) start v =
     let c = chartOf (row / 16 ^ left % 16) in
     codeOf (pick (eqb left 0) start (isOdd (v / sizeOf c))) c (v % sizeOf c) + 16 * writeUp row left start (v / sizeOf c)
 
+-- The code of a level's ones digit, where another digit stands above it, and of its last three decimal digits.
+abbrev pub onesCode : Chart → ℕ → ℕ
+onesCode c v = codeOf (isOdd (v / sizeOf c)) c (v % sizeOf c)
+
+abbrev pub threeUp : ℕ → ℕ
+threeUp v = onesCode decimal v + 16 * onesCode decimal (v / 10) + 256 * onesCode decimal (v / 100)
+
 -- What reading a level gives: the level, or 2 ^ 16 times the fault, to which 7 adds the place of the digit.
 abbrev pub levelNumber : ℕ → Level → ℕ
 levelNumber largest (known v) = pick (ltb largest v) (8 * 2 ^ 16) v

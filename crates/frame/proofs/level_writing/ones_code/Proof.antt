@@ -1,44 +1,23 @@
--- `frame::level_writing::ones_code` meets its contract: what is left of the level after the digits above is the ones digit. Assumes nothing.
-use mathlib.Core.Path.{_≡_, _∙_}
-use Prim.Native.Nat.{ℕ, _+_, _-_, _*_, _/_, _%_}
-use native.Mathlib.Nat.{div-add-mod', mod-lt}
-use native.Mathlib.Omega.{arith}
-use Rattle.frame.specs.Charts.{sizeOf, codeOf}
+-- `frame::level_writing::ones_code` meets its contract: what stands above is the level divided by the chart's size. Assumes nothing.
+use mathlib.Core.Path.{ap, _∙_}
+use mathlib.Core.Bool.{Bool}
+use Prim.Native.Nat.{ℕ, _%_}
+use Rattle.frame.specs.Charts.{sizeOf, isOdd, codeOf}
 use Rattle.frame.specs.inside.Packed.{chartOf}
-use Rattle.frame.proofs.Tables.{size-low}
-use Rattle.frame.proofs.Upward.{code-lt}
 use borrow.Author.Needs.{needs}
 use Rattle.frame.proofs.level_writing.ones_code.Statement.{statement}
 use Rattle.frame.proofs.level_writing.ones_code.Tie as tie
 
--- a number is its quotient's multiple and its remainder
-split : {q n m : ℕ} (v : ℕ) → q ≡ v / m → n ≡ m → q * n + v % m ≡ v
-split {m = m} v eq en = rw (eq, en) (div-add-mod' v m)
+over-requires : tie.Need-over-requires
+over-requires c κs = search needs
 
-size-requires : tie.Need-size-requires
-size-requires c κs = search needs
-
-mul-code : tie.Need-mul-code
-mul-code c = omega (arith, split (c .before .args .v) (c .before .pre) (c .size .ensures))
-
-sub-code : tie.Need-sub-code
-sub-code c = omega (arith, split (c .before .args .v) (c .before .pre) (c .size .ensures))
-
-code-requires : tie.Need-code-requires
-code-requires c κs =
-    let v = c .before .args .v in
-    let chart = c .before .args .chart in
-    omega (arith, split v (c .before .pre) (c .size .ensures), mod-lt v {m = sizeOf (chartOf chart)} (omega (arith, size-low chart)))
+digit-code-requires : tie.Need-digit-code-requires
+digit-code-requires c κs = search needs
 
 returns : tie.Need-returns
 returns c =
     let a = c .before .before .args in
-    let v = a .v in
-    let chart = a .chart in
-    let left : v - a .above * c .before .size .result ≡ v % sizeOf (chartOf chart) =
-    omega (arith, split v (c .before .before .pre) (c .before .size .ensures)) in
-    let is : c .code .result ≡ codeOf (a .odd) (chartOf chart) (v % sizeOf (chartOf chart)) = c .code .ensures ∙ rw left in
-    (is, rw is (code-lt chart (a .odd) (v % sizeOf (chartOf chart)) (mod-lt v (omega (arith, size-low chart)))))
+    (c .digit-code .ensures .0 ∙ ap (λ (n : ℕ). codeOf (isOdd n) (chartOf (a .chart)) (a .v % sizeOf (chartOf (a .chart)))) (c .before .over .ensures), c .digit-code .ensures .1)
 
 pub ones-code-spec : {M : Type 1} → statement M
-ones-code-spec = tie.close (tie.spec size-requires mul-code sub-code code-requires returns)
+ones-code-spec = tie.close (tie.spec over-requires digit-code-requires returns)

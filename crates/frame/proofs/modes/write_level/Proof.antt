@@ -15,51 +15,51 @@ by-number : (mode v : ℕ) {k : Constants} → constantsBy mode ≡ k → writeB
 by-number mode v e =
     ap (λ (k : Constants). writeBy k v) (sym e) ∙ write-is (modeOf mode) (constantsBy mode) (constants-fit mode) v
 
-write-by-requires : tie.Need-write-by-requires
-write-by-requires c κs = search needs
+write-requires : tie.Need-write-requires
+write-requires c κs = search needs
 
-write-by-requires-2 : tie.Need-write-by-requires-2
-write-by-requires-2 c κs = search needs
+write-requires-2 : tie.Need-write-requires-2
+write-requires-2 c κs = search needs
 
-write-by-requires-3 : tie.Need-write-by-requires-3
-write-by-requires-3 c κs = search needs
+write-requires-3 : tie.Need-write-requires-3
+write-requires-3 c κs = search needs
 
-write-by-requires-4 : tie.Need-write-by-requires-4
-write-by-requires-4 c κs = search needs
+write-requires-4 : tie.Need-write-requires-4
+write-requires-4 c κs = search needs
 
 returns : tie.Need-returns
 returns c =
     let a = c .before .before .args in
     let e : constantsBy (a .mode) ≡ fractional = rw (c .before .match .keys1) in
-    c .write-by .ensures ∙ by-number (a .mode) (a .v) e
+    c .write .ensures ∙ by-number (a .mode) (a .v) e
 
 returns-2 : tie.Need-returns-2
 returns-2 c =
     let a = c .before .before .args in
     let e : constantsBy (a .mode) ≡ decimalFeet = rw (c .before .match .keys2) in
-    c .write-by2 .ensures ∙ by-number (a .mode) (a .v) e
+    c .write2 .ensures ∙ by-number (a .mode) (a .v) e
 
 returns-3 : tie.Need-returns-3
 returns-3 c =
     let a = c .before .before .args in
     let e : constantsBy (a .mode) ≡ metres20 = rw (c .before .match .keys3) in
-    c .write-by3 .ensures ∙ by-number (a .mode) (a .v) e
+    c .write3 .ensures ∙ by-number (a .mode) (a .v) e
 
 returns-4 : tie.Need-returns-4
 returns-4 c =
     let a = c .before .before .args in
     let r = c .before .match .rest in
     let e : constantsBy (a .mode) ≡ metres30 = simp (ne-eqb _ _ (r .0 .0 .1), ne-eqb _ _ (r .0 .1), ne-eqb _ _ (r .1)) in
-    c .write-by4 .ensures ∙ by-number (a .mode) (a .v) e
+    c .write4 .ensures ∙ by-number (a .mode) (a .v) e
 
 pub write-level-spec : {M : Type 1} → statement M
 write-level-spec =
     tie.close
     (tie.spec
-    write-by-requires
-    write-by-requires-2
-    write-by-requires-3
-    write-by-requires-4
+    write-requires
+    write-requires-2
+    write-requires-3
+    write-requires-4
     returns
     returns-2
     returns-3
