@@ -16,4 +16,5 @@ pub mod JoinPassed
 pub mod Grouping
 pub mod Join
 pub mod JoinRefused
+pub mod Year
 pub mod AllCounted

@@ -11,4 +11,5 @@ pub mod Afresh
 pub mod DeskSummary
 pub mod Join
 pub mod JoinRefused
+pub mod Year
 pub mod AllCounted

@@ -123,7 +123,7 @@ module _ (a b : Summary) (ha : Handed a) (hb : Handed b) where
 blank-page : blankSummary ≡ page 0 []
 blank-page = unfold page in refl
 
-blank-handed : Handed blankSummary
+pub blank-handed : Handed blankSummary
 blank-handed = record { thirty = refl; narrow = λ i l. small i }
   where
     small : (i : ℕ) → lineAt blankSummary i .settings < 0x10000
@@ -134,10 +134,10 @@ blank-handed = record { thirty = refl; narrow = λ i l. small i }
         go zero (suc n) = omega arith
         go (suc i) (suc n) = go i n
 
-blank-shape : misshapen blankSummary ≡ false
+pub blank-shape : misshapen blankSummary ≡ false
 blank-shape = ap misshapen blank-page ∙ shaped-page 0 [] (omega arith) rises-none told-none
 
-blank-counts : linesOver blankSummary ≡ false
+pub blank-counts : linesOver blankSummary ≡ false
 blank-counts = none-over blankSummary (λ i l. go i 30)
   where
     few : countsOver blankLine ≡ false
