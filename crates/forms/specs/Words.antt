@@ -35,5 +35,5 @@ typeText settings =
 unfoldable pub faultText : ℕ → ℕ → List ℕ
 faultText n place =
     fill
-    (choice n (ascii "no fault|no reply|wrong length|no start bit|wrong address|wrong parity|fill bit set|unreadable digit ~|level too high|unreadable temperature"))
+    (choice n (ascii "no fault|no reply|wrong length|no start bit|wrong address|wrong parity|fill bit set|unreadable digit ~|level out of range|unreadable temperature"))
     (place ∷ [])

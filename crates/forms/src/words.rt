@@ -74,7 +74,7 @@ pub fn put_fault(out: &mut [u8], at: usize, n: u8, place: u8) -> usize
     put_choice(
         out,
         at,
-        b"no fault|no reply|wrong length|no start bit|wrong address|wrong parity|fill bit set|unreadable digit ~|level too high|unreadable temperature",
+        b"no fault|no reply|wrong length|no start bit|wrong address|wrong parity|fill bit set|unreadable digit ~|level out of range|unreadable temperature",
         n as usize,
         &[place as u32],
     )
