@@ -100,7 +100,7 @@ impl Plan {
             rounds: 100_000,
             cut_rounds: 10_000,
             months: 20_000,
-            told_saves: 100_000,
+            told_saves: 20_000,
         }
     }
 
