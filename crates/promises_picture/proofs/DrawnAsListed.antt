@@ -9,6 +9,7 @@ use lib.ListN.{length, length-append}
 use Rattle.frame.specs.declared.Reading.{Reading}
 use Rattle.frame.specs.declared.Reply.{Reply}
 use Rattle.frame.specs.declared.Reply.the-variants.{Read, Refused, Unreadable}
+use Rattle.frame.specs.Pick.{pick}
 use Rattle.sheet.specs.Record.{Entry}
 use Rattle.sheet.specs.Slots.{listOf}
 use Rattle.summary.specs.Worked.{replyIn, ofPair, faultIn, faults}
@@ -17,7 +18,7 @@ use Rattle.forms.specs.Form.{fill, first, others, choice}
 use Rattle.forms.specs.Words.{momentText, faultText}
 use Rattle.layers.specs.Drawing as drawing
 use Rattle.layers.specs.Drawing.{valueIn, pointText, alarmMark, faultMark, partText, goesOn, layerText}
-use Rattle.promises_picture.specs.Drawn.{Point, pointIn, points, onto, parted, runsIn, onTo, lineText, linesText, together, markText, markIn, marks, joined, DrawnAsListed}
+use Rattle.promises_picture.specs.Drawn.{Point, pointIn, points, onto, parted, runsIn, onTo, lineText, linesText, together, markText, markIn, marks, joined, alarmIn, alarms, DrawnAsListed}
 
 -- the runs after the first, and the first; a line that is not begun yet, and one that goes on
 abbrev firstRun : List (List Point) → List Point
@@ -121,6 +122,50 @@ unfolding marks faults
 each-of [] = refl
 each-of (e ∷ l) = each-step (e .minute) (replyIn e) (marks l) ∙ ap (λ (n : ℕ). faultIn (replyIn e) + n) (each-of l)
 
+-- the alarms, on either layer
+one-of : (b : Bool) (t : List ℕ) (ts : List (List ℕ)) → pick b t [] ++ joined ts ≡ joined (pick b (t ∷ []) [] ++ ts)
+unfolding joined
+one-of true t ts = refl
+one-of false t ts = refl
+
+alarm1-step : (m : ℕ) (reply : Reply) (ts : List (List ℕ)) → drawing.markText 3 m reply ++ joined ts ≡ joined (alarmIn (λ r. r .alarm1) m reply ++ ts)
+unfolding alarmMark faultMark
+alarm1-step m (Read r) ts = one-of (r .alarm1) (fill (ascii "<path d='M~,0h0'/>") (m ∷ [])) ts
+alarm1-step m (Refused n) ts = refl
+alarm1-step m (Unreadable place) ts = refl
+
+alarm0-step : (m : ℕ) (reply : Reply) (ts : List (List ℕ)) → drawing.markText 4 m reply ++ joined ts ≡ joined (alarmIn (λ r. r .alarm0) m reply ++ ts)
+unfolding alarmMark faultMark
+alarm0-step m (Read r) ts = one-of (r .alarm0) (fill (ascii "<path d='M~,0h0'/>") (m ∷ [])) ts
+alarm0-step m (Refused n) ts = refl
+alarm0-step m (Unreadable place) ts = refl
+
+alarms-opened : (which : Reading → Bool) (e : Entry) (l : List Entry) → alarmIn which (e .minute) (replyIn e) ++ alarms which l ≡ alarms which (e ∷ l)
+unfolding alarms
+alarms-opened which e l = refl
+
+layer3-opened : (j : Bool) (e : Entry) (l : List Entry) → layerText 3 j (e ∷ l) ≡ drawing.markText 3 (e .minute) (replyIn e) ++ layerText 3 false l
+unfolding layerText partText goesOn
+layer3-opened j e l = refl
+
+layer4-opened : (j : Bool) (e : Entry) (l : List Entry) → layerText 4 j (e ∷ l) ≡ drawing.markText 4 (e .minute) (replyIn e) ++ layerText 4 false l
+unfolding layerText partText goesOn
+layer4-opened j e l = refl
+
+alarm1-of : (j : Bool) (l : List Entry) → layerText 3 j l ≡ joined (alarms (λ r. r .alarm1) l)
+alarm1-of j [] = unfold layerText in unfold alarms in unfold joined in refl
+alarm1-of j (e ∷ l) =
+    layer3-opened j e l ∙ ap (λ (t : List ℕ). drawing.markText 3 (e .minute) (replyIn e) ++ t) (alarm1-of false l)
+    ∙ alarm1-step (e .minute) (replyIn e) (alarms (λ r. r .alarm1) l)
+    ∙ ap joined (alarms-opened (λ r. r .alarm1) e l)
+
+alarm0-of : (j : Bool) (l : List Entry) → layerText 4 j l ≡ joined (alarms (λ r. r .alarm0) l)
+alarm0-of j [] = unfold layerText in unfold alarms in unfold joined in refl
+alarm0-of j (e ∷ l) =
+    layer4-opened j e l ∙ ap (λ (t : List ℕ). drawing.markText 4 (e .minute) (replyIn e) ++ t) (alarm0-of false l)
+    ∙ alarm0-step (e .minute) (replyIn e) (alarms (λ r. r .alarm0) l)
+    ∙ ap joined (alarms-opened (λ r. r .alarm0) e l)
+
 pub drawn-as-listed : DrawnAsListed
 drawn-as-listed =
     record {
@@ -129,4 +174,6 @@ drawn-as-listed =
       breaks = λ s pair. breaks-of (ofPair pair (listOf s));
       faulty = λ s pair. marks-of false (ofPair pair (listOf s));
       each = λ s pair. each-of (ofPair pair (listOf s));
+      alarm1 = λ s pair. alarm1-of false (ofPair pair (listOf s));
+      alarm0 = λ s pair. alarm0-of false (ofPair pair (listOf s));
     }

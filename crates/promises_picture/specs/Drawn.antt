@@ -7,6 +7,7 @@ use lib.ListN.{length}
 use Rattle.frame.specs.declared.Reading.{Reading}
 use Rattle.frame.specs.declared.Reply.{Reply}
 use Rattle.frame.specs.declared.Reply.the-variants.{Read, Refused, Unreadable}
+use Rattle.frame.specs.Pick.{pick}
 use Rattle.sheet.specs.Record.{Entry}
 use Rattle.sheet.specs.Slots.{listOf}
 use Rattle.summary.specs.Worked.{replyIn, ofPair, faults}
@@ -82,11 +83,24 @@ unfoldable pub joined : List (List ℕ) → List ℕ
 joined [] = []
 joined (t ∷ ts) = t ++ joined ts
 
+-- The alarms of good replies: each that is on is one mark at its minute.
+abbrev pub alarmIn : (Reading → Bool) → ℕ → Reply → List (List ℕ)
+alarmIn which m (Read r) = pick (which r) (fill (ascii "<path d='M~,0h0'/>") (m ∷ []) ∷ []) []
+alarmIn which m (Refused n) = []
+alarmIn which m (Unreadable place) = []
+
+unfoldable pub alarms : (Reading → Bool) → List Entry → List (List ℕ)
+alarms which [] = []
+alarms which (e ∷ l) = alarmIn which (e .minute) (replyIn e) ++ alarms which l
+
 -- Of every sheet and every pair: the line of levels is the runs of the pair's records and nothing else; their points are those of the good replies, each
--- once and in order; there is a break for each faulty reply; and the marks are one for each faulty reply and nothing else.
+-- once and in order; there is a break for each faulty reply; the marks are one for each faulty reply and
+-- nothing else; and those of an alarm are one for each good reply that has it, and nothing else.
 pub record DrawnAsListed : Type 0 where
   pub line : (s : List ℕ) (pair : ℕ) → layerText 0 false (ofPair pair (listOf s)) ≡ linesText (runsIn (ofPair pair (listOf s)))
   pub just : (s : List ℕ) (pair : ℕ) → together (runsIn (ofPair pair (listOf s))) ≡ points (ofPair pair (listOf s))
   pub breaks : (s : List ℕ) (pair : ℕ) → length (runsIn (ofPair pair (listOf s))) ≡ suc (faults (ofPair pair (listOf s)))
   pub faulty : (s : List ℕ) (pair : ℕ) → layerText 2 false (ofPair pair (listOf s)) ≡ joined (marks (ofPair pair (listOf s)))
   pub each : (s : List ℕ) (pair : ℕ) → length (marks (ofPair pair (listOf s))) ≡ faults (ofPair pair (listOf s))
+  pub alarm1 : (s : List ℕ) (pair : ℕ) → layerText 3 false (ofPair pair (listOf s)) ≡ joined (alarms (λ r. r .alarm1) (ofPair pair (listOf s)))
+  pub alarm0 : (s : List ℕ) (pair : ℕ) → layerText 4 false (ofPair pair (listOf s)) ≡ joined (alarms (λ r. r .alarm0) (ofPair pair (listOf s)))
