@@ -19,7 +19,7 @@ use Rattle.promises_order.specs.OldBoard.{OldEnrols as Enrols}
 use Rattle.board.proofs.Numbers.{enrol-19, enrol-0}
 use Rattle.promises_order.specs.Places.{rowAt, OnBoard, Empty}
 use Rattle.promises_board.specs.Calls.{Holds, Unknown, OnlyRow}
-use Rattle.promises_board.specs.Records.{asItWas}
+use Rattle.promises_order.specs.Calls.{asItWas}
 use Rattle.promises_board.specs.History.{History, begun, enrolled, heard, removed, looked, polled, NoneTwice, taken, given, BoardHistory}
 use Rattle.promises_board.proofs.Places.{on-board, board-on, same-row, unknown-off}
 use Rattle.promises_order.proofs.Count.{used, used-set, used-none, used-full, used-room}

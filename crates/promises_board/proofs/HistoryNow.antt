@@ -17,9 +17,10 @@ use Rattle.board.specs.Calls.{Enrols, Hears, Removes, heardAs, enrolNumber, fin
 use Rattle.board.proofs.Order.{neither}
 use Rattle.promises_order.specs.Places.{rowAt, OnBoard, Empty}
 use Rattle.promises_order.specs.Order.{SoKept, Past, SameInUse}
-use Rattle.promises_order.proofs.Order.{board-order}
+use Rattle.promises_order.specs.Calls.{enrol, hear, remove, look-up, poll}
+use Rattle.promises_order.proofs.Order.{left-then, board-order}
 use Rattle.promises_frame.proofs.Cases.{by-lt}
-use Rattle.promises_board.specs.Records.{today}
+use Rattle.promises_order.specs.Calls.{today}
 use Rattle.promises_board.specs.Calls.{Unknown}
 use Rattle.promises_board.specs.History.{History, begun, enrolled, heard, removed, looked, polled, NoneTwice, taken, given, BoardHistory}
 use Rattle.promises_board.specs.Kept.{NoneIs38, BoardStaysKept}
@@ -27,7 +28,7 @@ use Rattle.promises_board.proofs.Places.{unknown-off}
 use Rattle.promises_board.proofs.Done.{off-unknown, enrol-done, hear-done, remove-done}
 use Rattle.promises_board.proofs.History.{Step, enrol-step, hear-step, remove-step, step-many, step-beyond, board-history}
 use Rattle.promises_board.proofs.Now.{by-order, enrolled-before, enrols-before, removed-before, removes-before}
-use Rattle.promises_board.proofs.SameHistory.{Beside, beside, same-in-use, on-both, enrolled-then, enrols-then}
+use Rattle.promises_board.proofs.SameHistory.{Beside, beside, same-in-use, on-both, does-then}
 
 -- What stays of any rows.
 pub same-past : (rows after : List Row) → after ≡ rows → Past rows after
@@ -46,14 +47,14 @@ enrol-past rows after settings address gauge answer e =
     let n : ℕ = enrolNumber (boardOf rows) settings address gauge in
     let was = enrols-before rows settings address gauge in
     then-past (step-past (enrol-step (enrol-done rows settings address gauge n (enrolled-before rows settings address gauge) was)))
-    (board-order .enrol-as-before rows settings address gauge n answer (enrolled-before rows settings address gauge) after so was e .2))
-    (λ none. same-past rows after (board-order .enrol-38 rows settings address gauge answer after none e .1))
+    (board-order .as-before rows (enrol settings address gauge) n answer (enrolled-before rows settings address gauge) after so was e .2))
+    (λ none. same-past rows after (board-order .is-38 rows (enrol settings address gauge) answer after none e .1))
 
 pub hear-past : (rows after : List Row) (minute address count : ℕ) (reply : List ℕ) (answer : Heard) → Hears rows minute address count reply answer after → Past rows after
 hear-past rows after minute address count reply answer e =
     by-order rows
-    (λ so. step-past (hear-step (hear-done rows minute address count reply answer after (board-order .hear-as-before rows minute address count reply answer after so e))))
-    (λ none. same-past rows after (board-order .hear-38 rows minute address count reply answer after none e .1))
+    (λ so. step-past (hear-step (hear-done rows minute address count reply answer after (board-order .very-outcome rows (hear minute address count reply) answer after so tt e))))
+    (λ none. same-past rows after (board-order .is-38 rows (hear minute address count reply) answer after none e .1))
 
 pub remove-past : (rows after : List Row) (address answer : ℕ) → Removes rows address answer after → Past rows after
 remove-past rows after address answer e =
@@ -62,8 +63,8 @@ remove-past rows after address answer e =
     let n : ℕ = findNumber (boardOf rows) address in
     let was = removes-before rows address in
     then-past (step-past (remove-step (remove-done rows address n (removed-before rows address) was)))
-    (board-order .remove-as-before rows address n answer (removed-before rows address) after so was e .2))
-    (λ none. same-past rows after (board-order .remove-38 rows address answer after none e .1))
+    (board-order .as-before rows (remove address) n answer (removed-before rows address) after so was e .2))
+    (λ none. same-past rows after (board-order .is-38 rows (remove address) answer after none e .1))
 
 past-of : (start now : List Row) → History today start now → Past start now
 past-of start now begun = same-past start now refl
@@ -82,23 +83,23 @@ empty-kept start empty = record { front = λ i j l on u. absurd (free j on u); r
 
 pub kept-of : (start now : List Row) → SoKept start → History today start now → SoKept now
 kept-of start now so begun = so
-kept-of start now so (enrolled {rows} settings address gauge answer h e) = board-order .enrol-keeps rows settings address gauge answer now (kept-of start rows so h) e
-kept-of start now so (heard {rows} minute address count reply answer h e) = board-order .hear-keeps rows minute address count reply answer now (kept-of start rows so h) e
-kept-of start now so (removed {rows} address answer h e) = board-order .remove-keeps rows address answer now (kept-of start rows so h) e
+kept-of start now so (enrolled {rows} settings address gauge answer h e) = board-order .keeps rows (enrol settings address gauge) answer now (kept-of start rows so h) e
+kept-of start now so (heard {rows} minute address count reply answer h e) = board-order .keeps rows (hear minute address count reply) answer now (kept-of start rows so h) e
+kept-of start now so (removed {rows} address answer h e) = board-order .keeps rows (remove address) answer now (kept-of start rows so h) e
 kept-of start now so (looked address answer h e) = kept-of start now so h
 kept-of start now so (polled address raise reset out answer after h e) = kept-of start now so h
 
 none-38 : (start now : List Row) → SoKept start → (h : History today start now) → NoneIs38 h
 none-38 start now so begun = tt
 none-38 start now so (enrolled {rows} settings address gauge answer h e) =
-    (λ z. board-order .enrol-only rows settings address gauge now (kept-of start rows so h) (subst (λ (n : ℕ). Enrols rows settings address gauge n now) z e), none-38 start rows so h)
+    (λ z. board-order .only-38 rows (enrol settings address gauge) answer now (kept-of start rows so h) e z, none-38 start rows so h)
 none-38 start now so (heard {rows} minute address count reply answer h e) =
-    (λ z. board-order .hear-only rows minute address count (answer .place) reply now (kept-of start rows so h) (subst (λ (n : ℕ). Hears rows minute address count reply (heardAs n (answer .place)) now) z e), none-38 start rows so h)
+    (λ z. board-order .only-38 rows (hear minute address count reply) answer now (kept-of start rows so h) e z, none-38 start rows so h)
 none-38 start now so (removed {rows} address answer h e) =
-    (λ z. board-order .remove-only rows address now (kept-of start rows so h) (subst (λ (n : ℕ). Removes rows address n now) z e), none-38 start rows so h)
-none-38 start now so (looked address answer h e) = (λ z. board-order .look-up-only now address answer (kept-of start now so h) e z, none-38 start now so h)
+    (λ z. board-order .only-38 rows (remove address) answer now (kept-of start rows so h) e z, none-38 start rows so h)
+none-38 start now so (looked address answer h e) = (λ z. board-order .only-38 now (look-up address) answer now (kept-of start now so h) (e, refl) z, none-38 start now so h)
 none-38 start now so (polled address raise reset out answer after h e) =
-    (λ z. board-order .poll-only now address raise reset out after (kept-of start now so h) (subst (λ (n : ℕ). today .pollsRow now address raise reset out n after) z e), none-38 start now so h)
+    (λ z. board-order .only-38 now (poll address raise reset out) (answer, after) now (kept-of start now so h) (e, refl) z, none-38 start now so h)
 
 pub stays-kept : BoardStaysKept
 stays-kept = record { empty = empty-kept; so-kept = kept-of; never-38 = none-38 }
@@ -124,12 +125,12 @@ module _ (start others after : List Row) (h : History today start others) (setti
 
   room : taken h < given h + min 30 (length start) → answer ≡ 0
   room l =
-      board-history .room start (b .rows) (enrolled-then start (b .rows) others empty (b .calls) settings address gauge answer after e) (b .then) settings address gauge answer empty s a m unknown (enrols-then start (b .rows) others empty (b .calls) settings address gauge answer after e)
+      board-history .room start (b .rows) (left-then (b .rows) (enrol settings address gauge)) (b .then) settings address gauge answer empty s a m unknown (does-then start (b .rows) others empty (b .calls) (enrol settings address gauge) answer after e)
       (omega (arith, l, b .same-taken, b .same-given))
 
   full : given h + min 30 (length start) ≤ taken h → answer ≡ 19
   full l =
-      board-history .full start (b .rows) (enrolled-then start (b .rows) others empty (b .calls) settings address gauge answer after e) (b .then) settings address gauge answer empty s a m unknown (enrols-then start (b .rows) others empty (b .calls) settings address gauge answer after e)
+      board-history .full start (b .rows) (left-then (b .rows) (enrol settings address gauge)) (b .then) settings address gauge answer empty s a m unknown (does-then start (b .rows) others empty (b .calls) (enrol settings address gauge) answer after e)
       (omega (arith, l, b .same-taken, b .same-given))
 
 pub history-now : BoardHistory today

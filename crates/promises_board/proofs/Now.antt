@@ -24,9 +24,10 @@ use Rattle.promises_order.specs.Order.{SoKept, SameInUse, Front, IsPlaceFor, In
 use Rattle.promises_order.proofs.Held.{row-of, on-held, first, some}
 use Rattle.promises_order.proofs.SoKept.{so-kept, kept-so}
 use Rattle.promises_order.proofs.Boards.{same-looked}
+use Rattle.promises_order.specs.Calls.{enrol, hear, remove, look-up, poll}
 use Rattle.promises_order.proofs.Order.{in-order, board-order}
 use Rattle.promises_frame.proofs.Cases.{by-lt}
-use Rattle.promises_board.specs.Records.{today}
+use Rattle.promises_order.specs.Calls.{today}
 use Rattle.promises_board.specs.Readings.{BoardReadings}
 use Rattle.promises_board.specs.Calls.{IsRowOf, IsFirstFree, EnrolPromise, RemovePromise, BoardCalls}
 use Rattle.promises_board.proofs.Places.{row-on, unknown-off, free-on, none-free}
@@ -48,24 +49,24 @@ not-set = refl
 -- A call that answered another number than 38 was of rows so kept.
 pub hear-so : (rows : List Row) (minute address count n place : ℕ) (reply : List ℕ) (after : List Row) → (n ≡ 38 → ⊥) → Hears rows minute address count reply (heardAs n place) after → SoKept rows
 hear-so rows minute address count n place reply after ne e =
-    by-order rows (λ so. so) (λ none. absurd (ne (ap (λ (h : Heard). h .number) (board-order .hear-38 rows minute address count reply (heardAs n place) after none e .0))))
+    by-order rows (λ so. so) (λ none. absurd (ne (ap (λ (h : Heard). h .number) (board-order .is-38 rows (hear minute address count reply) (heardAs n place) after none e .0))))
 
 pub enrol-so : (rows : List Row) (settings address gauge : ℕ) (after : List Row) → Enrols rows settings address gauge 0 after → SoKept rows
 enrol-so rows settings address gauge after e =
-    by-order rows (λ so. so) (λ none. let z : _≡_ {A = ℕ} 0 38 = board-order .enrol-38 rows settings address gauge 0 after none e .0 in absurd (omega arith))
+    by-order rows (λ so. so) (λ none. let z : _≡_ {A = ℕ} 0 38 = board-order .is-38 rows (enrol settings address gauge) 0 after none e .0 in absurd (omega arith))
 
 -- A look after rows have moved is that of the rows as they would have stood.
 pub look-moved : (before after : List Row) (address : ℕ) (told : Looked) → SameInUse before after → SoKept after → LooksUp after address told → OldLooksUp before address told
 look-moved before after address told same so e =
     record {
-      answers = board-order .look-up-as-before after address told so e .answers
+      answers = board-order .very-outcome after (look-up address) told after so tt (e, refl) .0 .answers
           ∙ sym (same-looked (boardOf before) (boardOf after) address (on-held address (boardOf before) ∙ ap some (same address) ∙ sym (on-held address (boardOf after))) (row-of address (boardOf before) ∙ ap first (same address) ∙ sym (row-of address (boardOf after))));
     }
 
 -- Rows not so kept and left as they are: both looks are refused by 38.
 both-38 : (rows after : List Row) (address : ℕ) (before told : Looked) → (SoKept rows → ⊥) → after ≡ rows → LooksUp rows address before → LooksUp after address told → told ≡ before
 both-38 rows after address before told none is e f =
-    board-order .look-up-38 after address told (λ so. none (subst SoKept is so)) f ∙ sym (board-order .look-up-38 rows address before none e)
+    board-order .is-38 after (look-up address) told after (λ so. none (subst SoKept is so)) (f, refl) .0 ∙ sym (board-order .is-38 rows (look-up address) before rows none (e, refl) .0)
 
 module _ (rows : List Row) (settings address gauge : ℕ) where
   -- what an enrolment left of the old board
@@ -87,42 +88,42 @@ readings-now =
     record {
       heard = λ rows after minute address count place reply told hears looks.
           let so = hear-so rows minute address count 0 place reply after (λ z. omega arith) hears in
-          let later = board-order .hear-keeps rows minute address count reply (heardAs 0 place) after so hears in
-          board-readings .heard rows after minute address count place reply told (board-order .hear-as-before rows minute address count reply (heardAs 0 place) after so hears) (board-order .look-up-as-before after address told later looks);
+          let later = board-order .keeps rows (hear minute address count reply) (heardAs 0 place) after so hears in
+          board-readings .heard rows after minute address count place reply told (board-order .very-outcome rows (hear minute address count reply) (heardAs 0 place) after so tt hears) (board-order .very-outcome after (look-up address) told after later tt (looks, refl) .0);
       accepted = λ rows after minute address count place reply told hears looks.
           let so = hear-so rows minute address count 0 place reply after (λ z. omega arith) hears in
-          let later = board-order .hear-keeps rows minute address count reply (heardAs 0 place) after so hears in
-          board-readings .accepted rows after minute address count place reply told (board-order .hear-as-before rows minute address count reply (heardAs 0 place) after so hears) (board-order .look-up-as-before after address told later looks);
+          let later = board-order .keeps rows (hear minute address count reply) (heardAs 0 place) after so hears in
+          board-readings .accepted rows after minute address count place reply told (board-order .very-outcome rows (hear minute address count reply) (heardAs 0 place) after so tt hears) (board-order .very-outcome after (look-up address) told after later tt (looks, refl) .0);
       kept = λ rows after minute address count fault place reply before told sets looked hears looks.
           let so = hear-so rows minute address count fault place reply after (λ z. neither sets (ap setsFault z ∙ not-set)) hears in
-          let later = board-order .hear-keeps rows minute address count reply (heardAs fault place) after so hears in
-          board-readings .kept rows after minute address count fault place reply before told sets (board-order .look-up-as-before rows address before so looked) (board-order .hear-as-before rows minute address count reply (heardAs fault place) after so hears) (board-order .look-up-as-before after address told later looks);
+          let later = board-order .keeps rows (hear minute address count reply) (heardAs fault place) after so hears in
+          board-readings .kept rows after minute address count fault place reply before told sets (board-order .very-outcome rows (look-up address) before rows so tt (looked, refl) .0) (board-order .very-outcome rows (hear minute address count reply) (heardAs fault place) after so tt hears) (board-order .very-outcome after (look-up address) told after later tt (looks, refl) .0);
       started = λ rows after settings address gauge told enrols looks.
           let so = enrol-so rows settings address gauge after enrols in
-          let later = board-order .enrol-keeps rows settings address gauge 0 after so enrols in
-          let was = board-order .enrol-as-before rows settings address gauge (enrolNumber (boardOf rows) settings address gauge) 0 (enrolled-before rows settings address gauge) after so (enrols-before rows settings address gauge) enrols in
+          let later = board-order .keeps rows (enrol settings address gauge) 0 after so enrols in
+          let was = board-order .as-before rows (enrol settings address gauge) (enrolNumber (boardOf rows) settings address gauge) 0 (enrolled-before rows settings address gauge) after so (enrols-before rows settings address gauge) enrols in
           board-readings .started rows (enrolled-before rows settings address gauge) settings address gauge told
           (subst (λ (n : ℕ). OldEnrols rows settings address gauge n (enrolled-before rows settings address gauge)) (was .0) (enrols-before rows settings address gauge))
           (look-moved (enrolled-before rows settings address gauge) after address told (was .1) later looks);
       hear-apart = λ rows after minute address other count reply answer before told ne looked hears looks.
           by-order rows
-          (λ so. board-readings .hear-apart rows after minute address other count reply answer before told ne (board-order .look-up-as-before rows address before so looked) (board-order .hear-as-before rows minute other count reply answer after so hears)
-          (board-order .look-up-as-before after address told (board-order .hear-keeps rows minute other count reply answer after so hears) looks))
-          (λ none. both-38 rows after address before told none (board-order .hear-38 rows minute other count reply answer after none hears .1) looked looks);
+          (λ so. board-readings .hear-apart rows after minute address other count reply answer before told ne (board-order .very-outcome rows (look-up address) before rows so tt (looked, refl) .0) (board-order .very-outcome rows (hear minute other count reply) answer after so tt hears)
+          (board-order .very-outcome after (look-up address) told after (board-order .keeps rows (hear minute other count reply) answer after so hears) tt (looks, refl) .0))
+          (λ none. both-38 rows after address before told none (board-order .is-38 rows (hear minute other count reply) answer after none hears .1) looked looks);
       enrol-apart = λ rows after settings address gauge other answer before told ne looked enrols looks.
           by-order rows
           (λ so.
-          let was = board-order .enrol-as-before rows settings other gauge (enrolNumber (boardOf rows) settings other gauge) answer (enrolled-before rows settings other gauge) after so (enrols-before rows settings other gauge) enrols in
-          board-readings .enrol-apart rows (enrolled-before rows settings other gauge) settings address gauge other (enrolNumber (boardOf rows) settings other gauge) before told ne (board-order .look-up-as-before rows address before so looked) (enrols-before rows settings other gauge)
-          (look-moved (enrolled-before rows settings other gauge) after address told (was .1) (board-order .enrol-keeps rows settings other gauge answer after so enrols) looks))
-          (λ none. both-38 rows after address before told none (board-order .enrol-38 rows settings other gauge answer after none enrols .1) looked looks);
+          let was = board-order .as-before rows (enrol settings other gauge) (enrolNumber (boardOf rows) settings other gauge) answer (enrolled-before rows settings other gauge) after so (enrols-before rows settings other gauge) enrols in
+          board-readings .enrol-apart rows (enrolled-before rows settings other gauge) settings address gauge other (enrolNumber (boardOf rows) settings other gauge) before told ne (board-order .very-outcome rows (look-up address) before rows so tt (looked, refl) .0) (enrols-before rows settings other gauge)
+          (look-moved (enrolled-before rows settings other gauge) after address told (was .1) (board-order .keeps rows (enrol settings other gauge) answer after so enrols) looks))
+          (λ none. both-38 rows after address before told none (board-order .is-38 rows (enrol settings other gauge) answer after none enrols .1) looked looks);
       remove-apart = λ rows after address other answer before told ne looked removes looks.
           by-order rows
           (λ so.
-          let was = board-order .remove-as-before rows other (findNumber (boardOf rows) other) answer (removed-before rows other) after so (removes-before rows other) removes in
-          board-readings .remove-apart rows (removed-before rows other) address other (findNumber (boardOf rows) other) before told ne (board-order .look-up-as-before rows address before so looked) (removes-before rows other)
-          (look-moved (removed-before rows other) after address told (was .1) (board-order .remove-keeps rows other answer after so removes) looks))
-          (λ none. both-38 rows after address before told none (board-order .remove-38 rows other answer after none removes .1) looked looks);
+          let was = board-order .as-before rows (remove other) (findNumber (boardOf rows) other) answer (removed-before rows other) after so (removes-before rows other) removes in
+          board-readings .remove-apart rows (removed-before rows other) address other (findNumber (boardOf rows) other) before told ne (board-order .very-outcome rows (look-up address) before rows so tt (looked, refl) .0) (removes-before rows other)
+          (look-moved (removed-before rows other) after address told (was .1) (board-order .keeps rows (remove other) answer after so removes) looks))
+          (λ none. both-38 rows after address before told none (board-order .is-38 rows (remove other) answer after none removes .1) looked looks);
     }
 
 -- The cases of an enrolment and of a removal: the number is the one that was asked, and beside a refusal the board is left.
@@ -198,8 +199,8 @@ pub board-calls : BoardCalls
 board-calls =
     record {
       enrol = λ rows settings address gauge answer after so e. enrol-now rows so settings address gauge answer after e;
-      hear = λ rows minute address count reply answer after so e. hear-promise rows minute address count reply answer after (board-order .hear-as-before rows minute address count reply answer after so e);
+      hear = λ rows minute address count reply answer after so e. hear-promise rows minute address count reply answer after (board-order .very-outcome rows (hear minute address count reply) answer after so tt e);
       remove = λ rows address answer after so e. remove-now rows so address answer after e;
-      look-up = λ rows address answer so e. look-promise rows address answer (board-order .look-up-as-before rows address answer so e);
-      poll = λ rows address raise reset out answer after so e. poll-promise rows address raise reset out answer after (board-order .poll-as-before rows address raise reset out answer after so e);
+      look-up = λ rows address answer so e. look-promise rows address answer (board-order .very-outcome rows (look-up address) answer rows so tt (e, refl) .0);
+      poll = λ rows address raise reset out answer after so e. poll-promise rows address raise reset out answer after (board-order .very-outcome rows (poll address raise reset out) (answer, after) rows so tt (e, refl) .0);
     }

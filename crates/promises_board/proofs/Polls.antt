@@ -29,7 +29,7 @@ use Rattle.promises_frame.proofs.FirstFault.{AllClear, all-clear}
 use Rattle.promises_frame.proofs.Polls.{poll-then-read}
 use Rattle.promises_order.specs.Places.{rowAt, OnBoard, Empty}
 use Rattle.promises_board.specs.Calls.{IsRowOf, OnlyRow}
-use Rattle.promises_board.specs.Records.{asItWas}
+use Rattle.promises_order.specs.Calls.{asItWas}
 use Rattle.promises_board.specs.History.{History, begun, enrolled, heard, removed, looked, polled}
 use Rattle.promises_board.specs.Orders.{pollTable}
 use Rattle.promises_board.specs.Polls.{Marked, gaugeGiven, BoardPoll}

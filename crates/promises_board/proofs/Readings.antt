@@ -24,7 +24,7 @@ use Rattle.board.proofs.Faults.{sets-some, not-0}
 use Rattle.board.proofs.Numbers.{find-11, find-17, find-0}
 use Rattle.promises_order.specs.Places.{rowAt, OnBoard}
 use Rattle.promises_board.specs.Calls.{Holds, IsRowOf, Unknown, OnlyRow, Tells}
-use Rattle.promises_board.specs.Records.{asItWas}
+use Rattle.promises_order.specs.Calls.{asItWas}
 use Rattle.promises_board.specs.Readings.{Reads, BoardReadings}
 use Rattle.promises_board.proofs.Tests.{differs}
 use Rattle.promises_board.proofs.Places.{row-on, row-is, place-row, unknown-off}

@@ -20,7 +20,7 @@ use Rattle.promises_order.specs.OldBoard.{OldEnrols as Enrols, OldHears as Hear
 use Rattle.board.proofs.Faults.{sets-some, not-0}
 use Rattle.promises_order.specs.Places.{rowAt, OnBoard, Empty}
 use Rattle.promises_board.specs.Calls.{Holds, IsRowOf, Unknown, OnlyRow}
-use Rattle.promises_board.specs.Records.{asItWas}
+use Rattle.promises_order.specs.Calls.{asItWas}
 use Rattle.promises_board.specs.History.{History, begun, enrolled, heard, removed, looked, polled, NoneTwice}
 use Rattle.promises_board.specs.Since.{counted, since, latest, BoardSince}
 use Rattle.promises_frame.proofs.Cases.{by-lt}

@@ -14,14 +14,15 @@ use Rattle.board.specs.Rows.{boardOf, placeOf}
 use Rattle.board.specs.Calls.{Hears, heardAs}
 use Rattle.promises_order.specs.Places.{rowAt, OnBoard, Empty}
 use Rattle.promises_order.specs.Order.{SoKept, SameInUse}
+use Rattle.promises_order.specs.Calls.{hear, look-up}
 use Rattle.promises_order.proofs.Order.{board-order}
-use Rattle.promises_board.specs.Records.{today}
+use Rattle.promises_order.specs.Calls.{today}
 use Rattle.promises_board.specs.Calls.{IsRowOf}
 use Rattle.promises_board.specs.History.{History}
 use Rattle.promises_board.specs.Since.{BoardSince}
 use Rattle.promises_board.proofs.Places.{place-row, row-is, row-on}
 use Rattle.promises_board.proofs.Now.{by-order}
-use Rattle.promises_board.proofs.SameHistory.{beside, same-in-use, on-both, row-both, looks-then}
+use Rattle.promises_board.proofs.SameHistory.{beside, same-in-use, on-both, row-both, does-then}
 use Rattle.promises_board.proofs.HistoryNow.{stays-kept, kept-once}
 use Rattle.promises_board.proofs.Since.{board-since}
 
@@ -61,8 +62,8 @@ count-and-fault start others empty h i on used =
 either-38 : (rows one both : List Row) (m a k n b l : ℕ) (y z : List ℕ) (p q : Heard) → (SoKept rows → ⊥) → Hears rows m a k y p one → Hears one n b l z q both
     → (p ≡ heardAs 38 0) × (q ≡ heardAs 38 0) × (both ≡ rows)
 either-38 rows one both m a k n b l y z p q none e f =
-    let x = board-order .hear-38 rows m a k y p one none e in
-    let w = board-order .hear-38 one n b l z q both (λ so. none (subst SoKept (x .1) so)) f in
+    let x = board-order .is-38 rows (hear m a k y) p one none e in
+    let w = board-order .is-38 one (hear n b l z) q both (λ so. none (subst SoKept (x .1) so)) f in
     (x .0, w .0, w .1 ∙ x .1)
 
 either-order : (rows one both other again : List Row) (m a k n b l : ℕ) (y z : List ℕ) (p q r s : Heard) → (a ≡ b → ⊥)
@@ -71,10 +72,10 @@ either-order : (rows one both other again : List Row) (m a k n b l : ℕ) (y z :
 either-order rows one both other again m a k n b l y z p q r s ne hp hq hr hs =
     by-order rows
     (λ so.
-    let then-one = board-order .hear-keeps rows m a k y p one so hp in
-    let then-other = board-order .hear-keeps rows n b l z r other so hr in
-    board-since .either-order rows one both other again m a k n b l y z p q r s ne (board-order .hear-as-before rows m a k y p one so hp) (board-order .hear-as-before one n b l z q both then-one hq)
-    (board-order .hear-as-before rows n b l z r other so hr) (board-order .hear-as-before other m a k y s again then-other hs))
+    let then-one = board-order .keeps rows (hear m a k y) p one so hp in
+    let then-other = board-order .keeps rows (hear n b l z) r other so hr in
+    board-since .either-order rows one both other again m a k n b l y z p q r s ne (board-order .very-outcome rows (hear m a k y) p one so tt hp) (board-order .very-outcome one (hear n b l z) q both then-one tt hq)
+    (board-order .very-outcome rows (hear n b l z) r other so tt hr) (board-order .very-outcome other (hear m a k y) s again then-other tt hs))
     (λ none.
     let x = either-38 rows one both m a k n b l y z p q none hp hq in
     let w = either-38 rows other again n b l m a k z y r s none hr hs in
@@ -86,9 +87,9 @@ since-now =
       count-and-fault = count-and-fault;
       counted-since = λ start rows empty h address told looks z.
           let b = beside start rows empty h in
-          board-since .counted-since start (b .rows) empty (b .then) address told (looks-then start (b .rows) rows empty (b .calls) address told looks) z ∙ ap (min 65535) (b .same-since address);
+          board-since .counted-since start (b .rows) empty (b .then) address told (does-then start (b .rows) rows empty (b .calls) (look-up address) told rows (looks, refl) .0) z ∙ ap (min 65535) (b .same-since address);
       latest-heard = λ start rows empty h address told looks z.
           let b = beside start rows empty h in
-          board-since .latest-heard start (b .rows) empty (b .then) address told (looks-then start (b .rows) rows empty (b .calls) address told looks) z ∙ b .same-latest address;
+          board-since .latest-heard start (b .rows) empty (b .then) address told (does-then start (b .rows) rows empty (b .calls) (look-up address) told rows (looks, refl) .0) z ∙ b .same-latest address;
       either-order = either-order;
     }

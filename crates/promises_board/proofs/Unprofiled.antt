@@ -23,6 +23,7 @@ use Rattle.board.specs.Rows.{boardOf, beyond, placeOf, onBoard, rowOf}
 use Rattle.board.specs.Calls.{heardAs, outsideAt, hearNumber, hearPlace, hearRows}
 use Rattle.promises_order.specs.OldBoard.{OldHears as Hears}
 use Rattle.board.proofs.Faults.{sets-26, sets-9}
+use Rattle.promises_order.specs.Calls.{hear}
 use Rattle.promises_order.proofs.Order.{board-order}
 use Rattle.promises_order.specs.Places.{rowAt}
 use Rattle.promises_board.specs.Calls.{IsRowOf, OnlyRow}
@@ -147,10 +148,10 @@ pub board-profiles : BoardProfiles
 board-profiles =
     record {
       unprofiled = λ rows after minute address count reply answer so unchecked e.
-          as-before rows minute address count reply unchecked answer after (board-order .hear-as-before rows minute address count reply answer after so e);
+          as-before rows minute address count reply unchecked answer after (board-order .very-outcome rows (hear minute address count reply) answer after so tt e);
       acts-as-9 = λ rows after later minute address count bits p q reply other e f i w.
           let so = hear-so rows minute address count 26 p reply after (λ z. omega (arith, z)) e in
-          let x = set-by rows after minute address count 26 p reply sets-26 (λ z. omega (arith, z)) refl (board-order .hear-as-before rows minute address count reply (heardAs 26 p) after so e) i w in
-          let y = set-by rows later minute address bits 9 q other sets-9 (λ z. omega (arith, z)) refl (board-order .hear-as-before rows minute address bits other (heardAs 9 q) later so f) i w in
+          let x = set-by rows after minute address count 26 p reply sets-26 (λ z. omega (arith, z)) refl (board-order .very-outcome rows (hear minute address count reply) (heardAs 26 p) after so tt e) i w in
+          let y = set-by rows later minute address bits 9 q other sets-9 (λ z. omega (arith, z)) refl (board-order .very-outcome rows (hear minute address bits other) (heardAs 9 q) later so tt f) i w in
           (ap (λ (r : Row). r .fault) (x .own), y .own ∙ sym (ap (withNumber 9) (x .own)), λ j ne. y .others j ne ∙ sym (x .others j ne), y .as-many ∙ sym (x .as-many));
     }

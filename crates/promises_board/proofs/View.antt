@@ -35,6 +35,7 @@ use Rattle.promises_order.specs.Order.{SoKept, SameInUse}
 use Rattle.promises_order.proofs.SoKept.{kept-so, not-kept}
 use Rattle.promises_order.proofs.Boards.{same-looked}
 use Rattle.promises_order.proofs.SameCalls.{Alike, enrol-alike, remove-alike}
+use Rattle.promises_order.specs.Calls.{enrol, hear, remove, look-up, poll}
 use Rattle.promises_order.proofs.Order.{in-order, out-of-order, self, old-enrol-length, old-remove-length, enrol-length, remove-length, board-order}
 use Rattle.promises_board.proofs.OldView.{view as oldView, SameView as OldSameView}
 use Rattle.promises_board.proofs.Free.{board-of}
@@ -91,7 +92,7 @@ module _ (rows after : List Row) (so : SoKept rows) where
       ∙ sym (enrol-alike (boardOf rows) (boardOf rows) (self (boardOf rows) (kept-so rows so)) settings address gauge .many)
       ∙ sym (ap used (board-of rows (oldEnrolRows (boardOf rows) settings address gauge) (old-enrol-length (boardOf rows) settings address gauge)))
       ∙ enrol-used rows before settings address gauge n (enrol-done rows settings address gauge n before was)
-      ∙ ap (λ (m : ℕ). more m (used (boardOf rows))) (board-order .enrol-as-before rows settings address gauge n answer before after so was e .0)
+      ∙ ap (λ (m : ℕ). more m (used (boardOf rows))) (board-order .as-before rows (enrol settings address gauge) n answer before after so was e .0)
 
   remove-counts : (address answer : ℕ) → Removes rows address answer after → more answer (used (boardOf after)) ≡ used (boardOf rows)
   remove-counts address answer e =
@@ -101,12 +102,12 @@ module _ (rows after : List Row) (so : SoKept rows) where
       ap (more answer) (ap used (made (removeRows (boardOf rows) address) (remove-length (boardOf rows) address) (e .leaves))
       ∙ sym (remove-alike (boardOf rows) (boardOf rows) (self (boardOf rows) (kept-so rows so)) address .many)
       ∙ sym (ap used (board-of rows (oldRemoveRows (boardOf rows) address) (old-remove-length (boardOf rows) address))))
-      ∙ ap (λ (m : ℕ). more m (used (boardOf before))) (sym (board-order .remove-as-before rows address n answer before after so was e .0))
+      ∙ ap (λ (m : ℕ). more m (used (boardOf before))) (sym (board-order .as-before rows (remove address) n answer before after so was e .0))
       ∙ remove-used rows before address n (remove-done rows address n before was)
 
   hear-counts : (minute address count : ℕ) (reply : List ℕ) (answer : Heard) → Hears rows minute address count reply answer after → used (boardOf after) ≡ used (boardOf rows)
   hear-counts minute address count reply answer e =
-      hear-used rows after minute address count reply answer (hear-done rows minute address count reply answer after (board-order .hear-as-before rows minute address count reply answer after so e))
+      hear-used rows after minute address count reply answer (hear-done rows minute address count reply answer after (board-order .very-outcome rows (hear minute address count reply) answer after so tt e))
 
 -- The view of rows so kept is what a look told of the board as it was; of others every look is refused by 38.
 module _ (rows : List Row) where
@@ -119,7 +120,7 @@ module _ (rows : List Row) where
 -- Boards of one view are both so kept, or neither.
 so-too : (rows others : List Row) → SameView rows others → SoKept rows → SoKept others
 so-too rows others same so =
-    by-order others (λ too. too) (λ none. absurd (board-order .look-up-only rows 0 (view rows 0) so (record { answers = refl }) (ap (λ (l : Looked). l .number) (same 0 ∙ view-38 others none 0))))
+    by-order others (λ too. too) (λ none. absurd (board-order .only-38 rows (look-up 0) (view rows 0) rows so ((record { answers = refl }), refl) (ap (λ (l : Looked). l .number) (same 0 ∙ view-38 others none 0))))
 
 both-so : {A : Type 0} (rows others : List Row) → SameView rows others → (SoKept rows → SoKept others → OldSameView rows others → A) → ((SoKept rows → ⊥) → (SoKept others → ⊥) → A) → A
 both-so rows others same f g =
@@ -148,20 +149,20 @@ module _ (rows others after later : List Row) (same : SameView rows others) wher
         let n : ℕ = enrolNumber (boardOf others) settings address gauge in
         let x : List Row = enrolled-before rows settings address gauge in
         let y : List Row = enrolled-before others settings address gauge in
-        let p = board-order .enrol-as-before rows settings address gauge m a x after so (enrols-before rows settings address gauge) e in
-        let q = board-order .enrol-as-before others settings address gauge n b y later too (enrols-before others settings address gauge) f in
+        let p = board-order .as-before rows (enrol settings address gauge) m a x after so (enrols-before rows settings address gauge) e in
+        let q = board-order .as-before others (enrol settings address gauge) n b y later too (enrols-before others settings address gauge) f in
         let is : m ≡ n = same-enrol rows others old free settings address gauge in
         let s : OldSameView x y = enrol-same rows others x y old address settings gauge m n is (enrols-before rows settings address gauge) (enrols-before others settings address gauge) in (
           sym (p .0) ∙ is ∙ q .0,
-          to-view after later (board-order .enrol-keeps rows settings address gauge a after so e) (board-order .enrol-keeps others settings address gauge b later too f) (λ k. sym (moved-view x after (p .1) k) ∙ s k ∙ moved-view y later (q .1) k),
+          to-view after later (board-order .keeps rows (enrol settings address gauge) a after so e) (board-order .keeps others (enrol settings address gauge) b later too f) (λ k. sym (moved-view x after (p .1) k) ∙ s k ∙ moved-view y later (q .1) k),
         )
 
     enrol-both : FreeAlike rows others → (a ≡ b) × SameView after later
     enrol-both free =
         both-so rows others same (enrol-kept free)
         (λ none none-too.
-        let p = board-order .enrol-38 rows settings address gauge a after none e in
-        let q = board-order .enrol-38 others settings address gauge b later none-too f in
+        let p = board-order .is-38 rows (enrol settings address gauge) a after none e in
+        let q = board-order .is-38 others (enrol settings address gauge) b later none-too f in
         (p .0 ∙ sym (q .0), stay-view (p .1) (q .1)))
 
     enrol-many : a ≡ b → AsManyFree rows others → AsManyFree after later
@@ -171,7 +172,7 @@ module _ (rows others after later : List Row) (same : SameView rows others) wher
         taken-by (eqb a 0) (freeIn (boardOf rows)) (freeIn (boardOf others)) (used (boardOf rows)) (used (boardOf others)) _ _ _ _ many
         (free-after rows after (enrol-past rows after settings address gauge a e .as-many)) (free-after others later (enrol-past others later settings address gauge b f .as-many))
         (enrol-counts rows after so settings address gauge a e) (enrol-counts others later too settings address gauge b f ∙ ap (λ (n : ℕ). more n (used (boardOf others))) (sym is)))
-        (λ none none-too. stay-many many (board-order .enrol-38 rows settings address gauge a after none e .1) (board-order .enrol-38 others settings address gauge b later none-too f .1))
+        (λ none none-too. stay-many many (board-order .is-38 rows (enrol settings address gauge) a after none e .1) (board-order .is-38 others (enrol settings address gauge) b later none-too f .1))
 
   module _ (address a b : ℕ) (e : Removes rows address a after) (f : Removes others address b later) where
     remove-kept : SoKept rows → SoKept others → OldSameView rows others → (a ≡ b) × SameView after later
@@ -180,20 +181,20 @@ module _ (rows others after later : List Row) (same : SameView rows others) wher
         let n : ℕ = findNumber (boardOf others) address in
         let x : List Row = removed-before rows address in
         let y : List Row = removed-before others address in
-        let p = board-order .remove-as-before rows address m a x after so (removes-before rows address) e in
-        let q = board-order .remove-as-before others address n b y later too (removes-before others address) f in
+        let p = board-order .as-before rows (remove address) m a x after so (removes-before rows address) e in
+        let q = board-order .as-before others (remove address) n b y later too (removes-before others address) f in
         let is : m ≡ n = same-find rows others old address in
         let s : OldSameView x y = remove-same rows others x y old address m n is (kept-once rows so) (kept-once others too) (removes-before rows address) (removes-before others address) in (
           sym (p .0) ∙ is ∙ q .0,
-          to-view after later (board-order .remove-keeps rows address a after so e) (board-order .remove-keeps others address b later too f) (λ k. sym (moved-view x after (p .1) k) ∙ s k ∙ moved-view y later (q .1) k),
+          to-view after later (board-order .keeps rows (remove address) a after so e) (board-order .keeps others (remove address) b later too f) (λ k. sym (moved-view x after (p .1) k) ∙ s k ∙ moved-view y later (q .1) k),
         )
 
     remove-both : (a ≡ b) × SameView after later
     remove-both =
         both-so rows others same remove-kept
         (λ none none-too.
-        let p = board-order .remove-38 rows address a after none e in
-        let q = board-order .remove-38 others address b later none-too f in
+        let p = board-order .is-38 rows (remove address) a after none e in
+        let q = board-order .is-38 others (remove address) b later none-too f in
         (p .0 ∙ sym (q .0), stay-view (p .1) (q .1)))
 
     remove-many : a ≡ b → AsManyFree rows others → AsManyFree after later
@@ -203,22 +204,22 @@ module _ (rows others after later : List Row) (same : SameView rows others) wher
         given-by (eqb a 0) (freeIn (boardOf rows)) (freeIn (boardOf others)) (used (boardOf rows)) (used (boardOf others)) _ _ _ _ many
         (free-after rows after (remove-past rows after address a e .as-many)) (free-after others later (remove-past others later address b f .as-many))
         (remove-counts rows after so address a e) (ap (λ (n : ℕ). more n (used (boardOf later))) is ∙ remove-counts others later too address b f))
-        (λ none none-too. stay-many many (board-order .remove-38 rows address a after none e .1) (board-order .remove-38 others address b later none-too f .1))
+        (λ none none-too. stay-many many (board-order .is-38 rows (remove address) a after none e .1) (board-order .is-38 others (remove address) b later none-too f .1))
 
   module _ (minute address count : ℕ) (reply : List ℕ) (a b : Heard) (e : Hears rows minute address count reply a after) (f : Hears others minute address count reply b later) where
     hear-kept : SoKept rows → SoKept others → OldSameView rows others → (a ≡ b) × SameView after later
     hear-kept so too old =
-        let p = board-order .hear-as-before rows minute address count reply a after so e in
-        let q = board-order .hear-as-before others minute address count reply b later too f in
+        let p = board-order .very-outcome rows (hear minute address count reply) a after so tt e in
+        let q = board-order .very-outcome others (hear minute address count reply) b later too tt f in
         let is : a ≡ b = p .answers ∙ same-hear address count reply rows others old ∙ sym (q .answers) in
-        (is, to-view after later (board-order .hear-keeps rows minute address count reply a after so e) (board-order .hear-keeps others minute address count reply b later too f) (hear-same rows others after later old address minute count reply a b is p q))
+        (is, to-view after later (board-order .keeps rows (hear minute address count reply) a after so e) (board-order .keeps others (hear minute address count reply) b later too f) (hear-same rows others after later old address minute count reply a b is p q))
 
     hear-both : (a ≡ b) × SameView after later
     hear-both =
         both-so rows others same hear-kept
         (λ none none-too.
-        let p = board-order .hear-38 rows minute address count reply a after none e in
-        let q = board-order .hear-38 others minute address count reply b later none-too f in
+        let p = board-order .is-38 rows (hear minute address count reply) a after none e in
+        let q = board-order .is-38 others (hear minute address count reply) b later none-too f in
         (p .0 ∙ sym (q .0), stay-view (p .1) (q .1)))
 
     hear-many : AsManyFree rows others → AsManyFree after later
@@ -228,16 +229,17 @@ module _ (rows others after later : List Row) (same : SameView rows others) wher
         taken-by false (freeIn (boardOf rows)) (freeIn (boardOf others)) (used (boardOf rows)) (used (boardOf others)) _ _ _ _ many
         (free-after rows after (hear-past rows after minute address count reply a e .as-many)) (free-after others later (hear-past others later minute address count reply b f .as-many))
         (hear-counts rows after so minute address count reply a e) (hear-counts others later too minute address count reply b f))
-        (λ none none-too. stay-many many (board-order .hear-38 rows minute address count reply a after none e .1) (board-order .hear-38 others minute address count reply b later none-too f .1))
+        (λ none none-too. stay-many many (board-order .is-38 rows (hear minute address count reply) a after none e .1) (board-order .is-38 others (hear minute address count reply) b later none-too f .1))
 
 poll-both : (rows others : List Row) → SameView rows others → (address raise reset : ℕ) (out : List ℕ) (a b : ℕ) (after later : List ℕ) → PollsRow rows address raise reset out a after → PollsRow others address raise reset out b later → (a ≡ b) × (after ≡ later)
 poll-both rows others same address raise reset out a b after later e f =
     both-so rows others same
-    (λ so too old. poll-same rows others old address raise reset out a b after later (board-order .poll-as-before rows address raise reset out a after so e) (board-order .poll-as-before others address raise reset out b later too f))
+    (λ so too old. poll-same rows others old address raise reset out a b after later (board-order .very-outcome rows (poll address raise reset out) (a, after) rows so tt (e, refl) .0) (board-order .very-outcome others (poll address raise reset out) (b, later) others too tt (f, refl) .0))
     (λ none none-too.
-    let p = board-order .poll-38 rows address raise reset out a after none e in
-    let q = board-order .poll-38 others address raise reset out b later none-too f in
-    (p .0 ∙ sym (q .0), p .1 ∙ sym (q .1)))
+    let p = board-order .is-38 rows (poll address raise reset out) (a, after) rows none (e, refl) .0 in
+    let q = board-order .is-38 others (poll address raise reset out) (b, later) others none-too (f, refl) .0 in
+    let is = p ∙ sym q in
+    (ap (λ (o : ℕ × List ℕ). o .0) is, ap (λ (o : ℕ × List ℕ). o .1) is))
 
 -- What holds of two boards side by side.
 record Even (rows others : List Row) : Type 0 where

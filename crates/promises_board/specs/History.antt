@@ -13,7 +13,7 @@ use Rattle.board.specs.declared.Row.{Row}
 use Rattle.board.specs.Gauge.{profileMisplaced}
 use Rattle.board.specs.Row.{isFree}
 use Rattle.promises_order.specs.Places.{Empty, OnBoard, rowAt}
-use Rattle.promises_board.specs.Records.{Records}
+use Rattle.promises_order.specs.Calls.{Records}
 use Rattle.promises_board.specs.Calls.{Holds, Unknown}
 
 -- Calls one after another, the latest last, each with an outcome that its contract allows.

@@ -4,7 +4,7 @@ use mathlib.Core.List.{List}
 use Rattle.board.specs.declared.Row.{Row}
 use Rattle.promises_order.specs.Places.{Empty}
 use Rattle.promises_order.specs.Order.{SoKept}
-use Rattle.promises_board.specs.Records.{Records, today}
+use Rattle.promises_order.specs.Calls.{Records, today}
 use Rattle.promises_board.specs.History.{History, begun, enrolled, heard, removed, looked, polled}
 
 -- No call of a history answered 38.

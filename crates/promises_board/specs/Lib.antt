@@ -1,6 +1,5 @@
 -- The board: each call, then calls after one another; the last file is all of it.
 pub mod Profiles
-pub mod Records
 pub mod Calls
 pub mod Readings
 pub mod History

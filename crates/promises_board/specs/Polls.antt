@@ -15,7 +15,7 @@ use Rattle.board.specs.declared.Row.{Row}
 use Rattle.board.specs.Gauge.{is6500}
 use Rattle.promises_order.specs.Places.{rowAt, Empty}
 use Rattle.promises_board.specs.Calls.{IsRowOf}
-use Rattle.promises_board.specs.Records.{Records}
+use Rattle.promises_order.specs.Calls.{Records}
 use Rattle.promises_board.specs.History.{History, begun, enrolled, heard, removed, looked, polled}
 
 -- The address has a row, which is marked as a 6500.

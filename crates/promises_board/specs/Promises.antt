@@ -1,5 +1,5 @@
 -- All that is promised of the board, of today's calls. That they are answered as the board was before request 11 is `BoardOrder` of `promises_order`.
-use Rattle.promises_board.specs.Records.{today}
+use Rattle.promises_order.specs.Calls.{today}
 use Rattle.promises_board.specs.Calls.{BoardCalls, BoardCases, BoardOneOutcome}
 use Rattle.promises_board.specs.Readings.{BoardReadings}
 use Rattle.promises_board.specs.History.{BoardHistory}

@@ -13,7 +13,7 @@ use Rattle.board.specs.declared.Row.{Row}
 use Rattle.board.specs.Gauge.{gaugeTold}
 use Rattle.board.specs.Row.{none, good, never, at, more, setsFault}
 use Rattle.board.specs.Calls.{heardAs, lastTold, minuteTold}
-use Rattle.promises_board.specs.Records.{Records}
+use Rattle.promises_order.specs.Calls.{Records}
 
 -- A reading that the frame makes of this reply, by these settings, for this address.
 pub record Reads (settings address count : ℕ) (reply : List ℕ) : Type 0 where

@@ -12,7 +12,7 @@ use Rattle.board.specs.declared.Row.{Row}
 use Rattle.board.specs.Row.{inUse, setsFault, Minute, never, at}
 use Rattle.board.specs.Calls.{minuteTold}
 use Rattle.promises_order.specs.Places.{rowAt, OnBoard, Empty}
-use Rattle.promises_board.specs.Records.{Records}
+use Rattle.promises_order.specs.Calls.{Records}
 use Rattle.promises_board.specs.History.{History, begun, enrolled, heard, removed, looked, polled}
 
 -- The hearings of an address in a history that answered a fault of the row, since the last one that answered 0 or since its enrolment. A hearing

@@ -23,8 +23,9 @@ use Rattle.board.specs.Order.{kept, inOrder, insertRow, withoutRow}
 use Rattle.board.specs.Calls.{Enrols, Hears, Removes, LooksUp, PollsRow, heardAs, refusedLook, told, enrolNumber, enrolRows, faultBy, outsideAt, hearNumber, hearPlace, hearRows, findNumber, removeRows, lookedAt, rowPollNumber, rowPollBytes}
 use Rattle.board.proofs.Order.{neither}
 use Rattle.promises_order.specs.Places.{rowAt, OnBoard, Empty}
-use Rattle.promises_order.specs.OldBoard.{OldEnrols, OldHears, OldRemoves, OldLooksUp, OldPollsRow, oldEnrolRows, oldRemoveRows, heldBy}
-use Rattle.promises_order.specs.Order.{SoKept, SameCalls, begin, enrol, hear, remove, look-up, poll, AnsweredSame, Never38, SameInUse, Past, Front, IsPlaceFor, Inserted, Closed, BoardOrder}
+use Rattle.promises_order.specs.OldBoard.{oldEnrolRows, oldRemoveRows}
+use Rattle.promises_order.specs.Calls.{today, asItWas, Call, enrol, hear, remove, look-up, poll, Answer, Does, numberIn, refused38, MovesNone}
+use Rattle.promises_order.specs.Order.{SoKept, SameCalls, begin, call, AnsweredSame, Never38, SameInUse, Past, Front, IsPlaceFor, Inserted, Closed, BoardOrder}
 use Rattle.promises_order.proofs.Held.{length-insert, length-without}
 use Rattle.promises_order.proofs.SoKept.{so-kept, kept-so, not-kept}
 use Rattle.promises_order.proofs.Boards.{same-find, same-enrol, same-looked, same-hear, same-named, same-poll, same-bytes}
@@ -182,94 +183,148 @@ empty-kept start empty = kept-so start (record { front = λ i j l on u. absurd (
     free : (j : ℕ) → OnBoard start j → inUse (rowAt start j) ≡ true → ⊥
     free j on u = neither (empty j on) (not-true (isFree (rowAt start j)) u)
 
+-- What each call answers of a board so kept, and what it makes of it; the old board answered the same.
+abbrev pub said : List Row → (c : Call) → Answer c
+said board (enrol settings address gauge) = enrolNumber board settings address gauge
+said board (hear minute address count reply) = heardAs (hearNumber board address count reply) (hearPlace board address count reply)
+said board (remove address) = findNumber board address
+said board (look-up address) = lookedAt board address
+said board (poll address raise reset out) = (rowPollNumber board address raise reset out, rowPollBytes board address raise reset out)
+
+abbrev made : List Row → Call → List Row
+made board (enrol settings address gauge) = enrolRows board settings address gauge
+made board (hear minute address count reply) = hearRows board minute address count reply
+made board (remove address) = removeRows board address
+made board (look-up address) = board
+made board (poll address raise reset out) = board
+
+abbrev made-then : List Row → Call → List Row
+made-then board (enrol settings address gauge) = oldEnrolRows board settings address gauge
+made-then board (hear minute address count reply) = hearRows board minute address count reply
+made-then board (remove address) = oldRemoveRows board address
+made-then board (look-up address) = board
+made-then board (poll address raise reset out) = board
+
+-- The record of any call, in these words.
+record Now (rows : List Row) (c : Call) (answer : Answer c) (after : List Row) : Type 0 where
+  answers : answer ≡ inOrder (boardOf rows) (said (boardOf rows) c) (refused38 c)
+  leaves : after ≡ inOrder (boardOf rows) (made (boardOf rows) c) (boardOf rows) ++ beyond rows
+
+record Then (rows : List Row) (c : Call) (answer : Answer c) (after : List Row) : Type 0 where
+  answers : answer ≡ said (boardOf rows) c
+  leaves : after ≡ made-then (boardOf rows) c ++ beyond rows
+
+abbrev pair : ℕ → List ℕ → ℕ × List ℕ
+pair m n = (m, n)
+
+pair-same : (m x : ℕ) (n u : List ℕ) → m ≡ x → n ≡ u → pair m n ≡ pair x u
+pair-same m x n u e f = ap (λ (i : ℕ). pair i n) e ∙ ap (pair x) f
+
+pair-picked : (t : Bool) (m x y : ℕ) (n u v : List ℕ) → m ≡ pick t x y → n ≡ pick t u v → pair m n ≡ pick t (pair x u) (pair y v)
+pair-picked true m x y n u v e f = pair-same m x n u e f
+pair-picked false m x y n u v e f = pair-same m y n v e f
+
+unmoved : (t : Bool) (rows after : List Row) → after ≡ rows → after ≡ pick t (boardOf rows) (boardOf rows) ++ beyond rows
+unmoved true rows after e = e ∙ sym (take-append-drop 30 rows)
+unmoved false rows after e = e ∙ sym (take-append-drop 30 rows)
+
+now : (rows : List Row) (c : Call) (answer : Answer c) (after : List Row) → Does today rows c answer after → Now rows c answer after
+now rows (enrol settings address gauge) answer after e = record { answers = e .answers; leaves = e .leaves }
+now rows (hear minute address count reply) answer after e = record { answers = e .answers; leaves = e .leaves }
+now rows (remove address) answer after e = record { answers = e .answers; leaves = e .leaves }
+now rows (look-up address) answer after e = record { answers = e .0 .answers; leaves = unmoved (kept (boardOf rows)) rows after (e .1) }
+now rows (poll address raise reset out) answer after e =
+    record {
+      answers = pair-picked (kept (boardOf rows)) (answer .0) (rowPollNumber (boardOf rows) address raise reset out) 38 (answer .1) (rowPollBytes (boardOf rows) address raise reset out) out (e .0 .answers) (e .0 .leaves);
+      leaves = unmoved (kept (boardOf rows)) rows after (e .1);
+    }
+
+then : (rows : List Row) (c : Call) (answer : Answer c) (after : List Row) → Does asItWas rows c answer after → Then rows c answer after
+then rows (enrol settings address gauge) answer after e = record { answers = e .answers; leaves = e .leaves }
+then rows (hear minute address count reply) answer after e = record { answers = e .answers; leaves = e .leaves }
+then rows (remove address) answer after e = record { answers = e .answers; leaves = e .leaves }
+then rows (look-up address) answer after e = record { answers = e .0 .answers; leaves = unmoved true rows after (e .1) }
+then rows (poll address raise reset out) answer after e =
+    record {
+      answers = pair-same (answer .0) (rowPollNumber (boardOf rows) address raise reset out) (answer .1) (rowPollBytes (boardOf rows) address raise reset out) (e .0 .answers) (e .0 .leaves);
+      leaves = unmoved true rows after (e .1);
+    }
+
+-- The outcome that every call of the old board has.
+abbrev pub left-then : List Row → Call → List Row
+left-then rows c = made-then (boardOf rows) c ++ beyond rows
+
+pub has-then : (rows : List Row) (c : Call) → Does asItWas rows c (said (boardOf rows) c) (left-then rows c)
+has-then rows (enrol settings address gauge) = record { answers = refl; leaves = refl }
+has-then rows (hear minute address count reply) = record { answers = refl; leaves = refl }
+has-then rows (remove address) = record { answers = refl; leaves = refl }
+has-then rows (look-up address) = (record { answers = refl }, take-append-drop 30 rows)
+has-then rows (poll address raise reset out) = (record { answers = refl; leaves = refl }, take-append-drop 30 rows)
+
+-- No number of theirs is 38, and the board stays as long.
+said-small : (board : List Row) (c : Call) → numberIn c (said board c) ≤ 37
+said-small board (enrol settings address gauge) = enrol-small board address settings gauge
+said-small board (hear minute address count reply) = hear-small board address count reply
+said-small board (remove address) = find-small board address
+said-small board (look-up address) = look-small board address
+said-small board (poll address raise reset out) = poll-small board address raise reset out
+
+made-length : (board : List Row) (c : Call) → length (made board c) ≡ length board
+made-length board (enrol settings address gauge) = enrol-length board settings address gauge
+made-length board (hear minute address count reply) = hear-length board minute address count reply
+made-length board (remove address) = remove-length board address
+made-length board (look-up address) = refl
+made-length board (poll address raise reset out) = refl
+
+then-length : (board : List Row) (c : Call) → length (made-then board c) ≡ length board
+then-length board (enrol settings address gauge) = old-enrol-length board settings address gauge
+then-length board (hear minute address count reply) = hear-length board minute address count reply
+then-length board (remove address) = old-remove-length board address
+then-length board (look-up address) = refl
+then-length board (poll address raise reset out) = refl
+
+-- Of boards alike the answers are the same, and they stay alike.
+module _ (x y : List Row) (w : Alike x y) where
+  same-said : (c : Call) → said x c ≡ said y c
+  same-said (enrol settings address gauge) = same-enrol x y address (on-same x y w address) settings gauge (free-same x y w)
+  same-said (hear minute address count reply) =
+      ap (λ (i : ℕ). heardAs i (hearPlace x address count reply)) (same-hear x y address (on-same x y w address) (row-same x y w address) count reply)
+      ∙ ap (heardAs (hearNumber y address count reply)) (same-named x y address (on-same x y w address) (row-same x y w address) count reply)
+  same-said (remove address) = same-find x y address (on-same x y w address)
+  same-said (look-up address) = same-looked x y address (on-same x y w address) (row-same x y w address)
+  same-said (poll address raise reset out) =
+      pair-same (rowPollNumber x address raise reset out) (rowPollNumber y address raise reset out) (rowPollBytes x address raise reset out) (rowPollBytes y address raise reset out)
+      (same-poll x y address (on-same x y w address) (row-same x y w address) raise reset out)
+      (same-bytes x y address (on-same x y w address) (row-same x y w address) raise reset out)
+
+  made-alike : (c : Call) → Alike (made-then x c) (made y c)
+  made-alike (enrol settings address gauge) = enrol-alike x y w settings address gauge
+  made-alike (hear minute address count reply) = hear-alike x y w minute address count reply
+  made-alike (remove address) = remove-alike x y w address
+  made-alike (look-up address) = w
+  made-alike (poll address raise reset out) = w
+
 -- One call of both.
-module _ (start rows others after later : List Row) (b : Both start rows others) where
-  abbrev x : List Row
-  x = boardOf rows
-
-  abbrev y : List Row
-  y = boardOf others
-
-  abbrev w : Alike x y
-  w = b .alike
-
-  enrol-both : (settings address gauge m n : ℕ) → OldEnrols rows settings address gauge m after → Enrols others settings address gauge n later → (m ≡ n) × (n ≡ 38 → ⊥) × Both start after later
-  enrol-both settings address gauge m n e f =
-      let is : n ≡ enrolNumber y settings address gauge = f .answers ∙ in-order y (enrolNumber y settings address gauge) 38 (w .order) in (
-        e .answers ∙ same-enrol x y address (on-same x y w address) settings gauge (free-same x y w) ∙ sym is,
-        not-38 n (enrolNumber y settings address gauge) is (enrol-small y address settings gauge),
-        both-after start rows others after later (oldEnrolRows x settings address gauge) (enrolRows y settings address gauge) b (old-enrol-length x settings address gauge) (enrol-length y settings address gauge) (e .leaves)
-            (f .leaves ∙ ap (λ (zs : List Row). zs ++ beyond others) (in-order y (enrolRows y settings address gauge) y (w .order))) (enrol-alike x y w settings address gauge),
-      )
-
-  remove-both : (address m n : ℕ) → OldRemoves rows address m after → Removes others address n later → (m ≡ n) × (n ≡ 38 → ⊥) × Both start after later
-  remove-both address m n e f =
-      let is : n ≡ findNumber y address = f .answers ∙ in-order y (findNumber y address) 38 (w .order) in (
-        e .answers ∙ same-find x y address (on-same x y w address) ∙ sym is,
-        not-38 n (findNumber y address) is (find-small y address),
-        both-after start rows others after later (oldRemoveRows x address) (removeRows y address) b (old-remove-length x address) (remove-length y address) (e .leaves)
-            (f .leaves ∙ ap (λ (zs : List Row). zs ++ beyond others) (in-order y (removeRows y address) y (w .order))) (remove-alike x y w address),
-      )
-
-  abbrev saidOf : List Row → ℕ → ℕ → List ℕ → Heard
-  saidOf board address count reply = heardAs (hearNumber board address count reply) (hearPlace board address count reply)
-
-  hear-both : (minute address count : ℕ) (reply : List ℕ) (m n : Heard) → OldHears rows minute address count reply m after → Hears others minute address count reply n later → (m ≡ n) × (n .number ≡ 38 → ⊥) × Both start after later
-  hear-both minute address count reply m n e f =
-      let is : n ≡ saidOf y address count reply = f .answers ∙ in-order y (saidOf y address count reply) (heardAs 38 0) (w .order) in (
-        e .answers
-            ∙ ap (λ (i : ℕ). heardAs i (hearPlace x address count reply)) (same-hear x y address (on-same x y w address) (row-same x y w address) count reply)
-            ∙ ap (heardAs (hearNumber y address count reply)) (same-named x y address (on-same x y w address) (row-same x y w address) count reply)
-            ∙ sym is,
-        not-38 (n .number) (hearNumber y address count reply) (ap (λ (h : Heard). h .number) is) (hear-small y address count reply),
-        both-after start rows others after later (hearRows x minute address count reply) (hearRows y minute address count reply) b (hear-length x minute address count reply) (hear-length y minute address count reply) (e .leaves)
-            (f .leaves ∙ ap (λ (zs : List Row). zs ++ beyond others) (in-order y (hearRows y minute address count reply) y (w .order))) (hear-alike x y w minute address count reply),
-      )
-
-module _ (start rows others : List Row) (b : Both start rows others) where
-  look-both : (address : ℕ) (m n : Looked) → OldLooksUp rows address m → LooksUp others address n → (m ≡ n) × (n .number ≡ 38 → ⊥)
-  look-both address m n e f =
-      let x : List Row = boardOf rows in
-      let y : List Row = boardOf others in
-      let is : n ≡ lookedAt (boardOf others) address = f .answers ∙ in-order (boardOf others) (lookedAt (boardOf others) address) (refusedLook 38) (b .alike .order) in (
-        e .answers ∙ same-looked (boardOf rows) (boardOf others) address (on-same (boardOf rows) (boardOf others) (b .alike) address) (row-same (boardOf rows) (boardOf others) (b .alike) address) ∙ sym is,
-        not-38 (n .number) (lookedAt (boardOf others) address .number) (ap (λ (l : Looked). l .number) is) (look-small (boardOf others) address),
-      )
-
-  poll-both : (address raise reset m n : ℕ) (out bytes more : List ℕ) → OldPollsRow rows address raise reset out m bytes → PollsRow others address raise reset out n more → ((m ≡ n) × (bytes ≡ more)) × (n ≡ 38 → ⊥)
-  poll-both address raise reset m n out bytes more e f =
-      let on = on-same (boardOf rows) (boardOf others) (b .alike) address in
-      let there = row-same (boardOf rows) (boardOf others) (b .alike) address in
-      let is : n ≡ rowPollNumber (boardOf others) address raise reset out = f .answers ∙ in-order (boardOf others) (rowPollNumber (boardOf others) address raise reset out) 38 (b .alike .order) in (
-        (
-          e .answers ∙ same-poll (boardOf rows) (boardOf others) address on there raise reset out ∙ sym is,
-          e .leaves ∙ same-bytes (boardOf rows) (boardOf others) address on there raise reset out ∙ sym (f .leaves ∙ in-order (boardOf others) (rowPollBytes (boardOf others) address raise reset out) out (b .alike .order)),
-        ),
-        not-38 n (rowPollNumber (boardOf others) address raise reset out) is (poll-small (boardOf others) address raise reset out),
-      )
+call-both : (start rows others after later : List Row) → Both start rows others → (c : Call) (m n : Answer c) → Does asItWas rows c m after → Does today others c n later → (m ≡ n) × (numberIn c n ≡ 38 → ⊥) × Both start after later
+call-both start rows others after later b c m n e f =
+    let x : List Row = boardOf rows in
+    let y : List Row = boardOf others in
+    let w : Alike (boardOf rows) (boardOf others) = b .alike in
+    let p = then rows c m after e in
+    let q = now others c n later f in
+    let is : n ≡ said (boardOf others) c = q .answers ∙ in-order (boardOf others) (said (boardOf others) c) (refused38 c) (w .order) in (
+      p .answers ∙ same-said (boardOf rows) (boardOf others) w c ∙ sym is,
+      not-38 (numberIn c n) (numberIn c (said (boardOf others) c)) (ap (numberIn c) is) (said-small (boardOf others) c),
+      both-after start rows others after later (made-then (boardOf rows) c) (made (boardOf others) c) b (then-length (boardOf rows) c) (made-length (boardOf others) c) (p .leaves)
+          (q .leaves ∙ ap (λ (zs : List Row). zs ++ beyond others) (in-order (boardOf others) (made (boardOf others) c) (boardOf others) (w .order))) (made-alike (boardOf rows) (boardOf others) w c),
+    )
 
 run : (start rows others : List Row) → Empty start → (calls : SameCalls start rows others) → AnsweredSame calls × Never38 calls × Both start rows others
 run start rows others empty begin = (tt, tt, record { alike = record { held = λ a. refl; many = refl; long = refl; order = empty-kept start empty }; past = refl; past-too = refl; many = refl; many-too = refl })
-run start after later empty (enrol {rows} {others} settings address gauge a b calls e f) =
+run start after later empty (call {rows} {others} c a b calls e f) =
     let r = run start rows others empty calls in
-    let s = enrol-both start rows others after later (r .2) settings address gauge a b e f in
+    let s = call-both start rows others after later (r .2) c a b e f in
     ((s .0, r .0), (s .1, r .1), s .2)
-run start after later empty (hear {rows} {others} minute address count reply a b calls e f) =
-    let r = run start rows others empty calls in
-    let s = hear-both start rows others after later (r .2) minute address count reply a b e f in
-    ((s .0, r .0), (s .1, r .1), s .2)
-run start after later empty (remove {rows} {others} address a b calls e f) =
-    let r = run start rows others empty calls in
-    let s = remove-both start rows others after later (r .2) address a b e f in
-    ((s .0, r .0), (s .1, r .1), s .2)
-run start rows others empty (look-up address a b calls e f) =
-    let r = run start rows others empty calls in
-    let s = look-both start rows others (r .2) address a b e f in
-    ((s .0, r .0), (s .1, r .1), r .2)
-run start rows others empty (poll address raise reset a b out bytes more calls e f) =
-    let r = run start rows others empty calls in
-    let s = poll-both start rows others (r .2) address raise reset a b out bytes more e f in
-    ((s .0, r .0), (s .1, r .1), r .2)
 
 past-by : (start rows : List Row) → beyond rows ≡ beyond start → length rows ≡ length start → Past start rows
 past-by start rows e l = record { as-many = l; beyond = λ i h. at i h }
@@ -287,18 +342,13 @@ module _ (rows : List Row) (none : SoKept rows → ⊥) where
   refused-by : {A : Type 0} (answer x refused : A) → answer ≡ inOrder (boardOf rows) x refused → answer ≡ refused
   refused-by answer x refused e = e ∙ out-of-order (boardOf rows) x refused (not-kept rows none)
 
--- Rows so kept stay so.
+-- Rows so kept: the record is opened at what it says of them.
 module _ (rows : List Row) (so : SoKept rows) where
   k : kept (boardOf rows) ≡ true
   k = kept-so rows so
 
   answered-by : {A : Type 0} (answer x refused : A) → answer ≡ inOrder (boardOf rows) x refused → answer ≡ x
   answered-by answer x refused e = e ∙ in-order (boardOf rows) x refused k
-
-  stays : (now after : List Row) → length now ≡ length (boardOf rows) → kept now ≡ true → after ≡ inOrder (boardOf rows) now (boardOf rows) ++ beyond rows → SoKept after
-  stays now after long is e =
-      so-kept after
-      (ap kept (board-after rows after now long (e ∙ ap (λ (zs : List Row). zs ++ beyond rows) (in-order (boardOf rows) now (boardOf rows) k))) ∙ is)
 
 -- What a call makes of a board so kept is so kept: it is like itself, and the calls keep that.
 pub self : (board : List Row) → kept board ≡ true → Alike board board
@@ -329,6 +379,24 @@ remove-moved rows address after so e n i front l own =
     ∙ ap (λ (zs : List Row). zs ++ beyond rows) (in-order (boardOf rows) (pick (eqb (findNumber (boardOf rows) address) 0) (withoutRow address (boardOf rows)) (boardOf rows)) (boardOf rows) k
     ∙ ap (λ (m : ℕ). pick (eqb m 0) (withoutRow address (boardOf rows)) (boardOf rows)) z))
 
+-- A call that moves no row, of rows so kept.
+very : (rows : List Row) (c : Call) (answer : Answer c) (after : List Row) → SoKept rows → MovesNone c → Does today rows c answer after → Does asItWas rows c answer after
+very rows (enrol settings address gauge) answer after so none e = absurd none
+very rows (hear minute address count reply) answer after so none e =
+    record {
+      answers = answered-by rows so answer (heardAs (hearNumber (boardOf rows) address count reply) (hearPlace (boardOf rows) address count reply)) (heardAs 38 0) (e .answers);
+      leaves = e .leaves ∙ ap (λ (zs : List Row). zs ++ beyond rows) (in-order (boardOf rows) (hearRows (boardOf rows) minute address count reply) (boardOf rows) (kept-so rows so));
+    }
+very rows (remove address) answer after so none e = absurd none
+very rows (look-up address) answer after so none e = (record { answers = answered-by rows so answer (lookedAt (boardOf rows) address) (refusedLook 38) (e .0 .answers) }, e .1)
+very rows (poll address raise reset out) answer after so none e = (
+  record {
+    answers = answered-by rows so (answer .0) (rowPollNumber (boardOf rows) address raise reset out) 38 (e .0 .answers);
+    leaves = answered-by rows so (answer .1) (rowPollBytes (boardOf rows) address raise reset out) out (e .0 .leaves);
+  },
+  e .1,
+)
+
 pub board-order : BoardOrder
 board-order =
     record {
@@ -336,37 +404,22 @@ board-order =
           let r = run start rows others empty calls in
           let b = r .2 in
           (r .0, r .1, b .alike .held, so-kept others (b .alike .order), past-by start rows (b .past) (b .many), past-by start others (b .past-too) (b .many-too));
-      enrol-38 = λ rows settings address gauge answer after none e. (refused-by rows none answer (enrolNumber (boardOf rows) settings address gauge) 38 (e .answers), left-alone rows none (enrolRows (boardOf rows) settings address gauge) after (e .leaves));
-      hear-38 = λ rows minute address count reply answer after none e. (refused-by rows none answer (heardAs (hearNumber (boardOf rows) address count reply) (hearPlace (boardOf rows) address count reply)) (heardAs 38 0) (e .answers), left-alone rows none (hearRows (boardOf rows) minute address count reply) after (e .leaves));
-      remove-38 = λ rows address answer after none e. (refused-by rows none answer (findNumber (boardOf rows) address) 38 (e .answers), left-alone rows none (removeRows (boardOf rows) address) after (e .leaves));
-      look-up-38 = λ rows address answer none e. refused-by rows none answer (lookedAt (boardOf rows) address) (refusedLook 38) (e .answers);
-      poll-38 = λ rows address raise reset out answer bytes none e. (refused-by rows none answer (rowPollNumber (boardOf rows) address raise reset out) 38 (e .answers), refused-by rows none bytes (rowPollBytes (boardOf rows) address raise reset out) out (e .leaves));
-      enrol-only = λ rows settings address gauge after so e. not-38 38 (enrolNumber (boardOf rows) settings address gauge) (answered-by rows so 38 (enrolNumber (boardOf rows) settings address gauge) 38 (e .answers)) (enrol-small (boardOf rows) address settings gauge) refl;
-      hear-only = λ rows minute address count place reply after so e. not-38 38 (hearNumber (boardOf rows) address count reply) (ap (λ (h : Heard). h .number) (answered-by rows so (heardAs 38 place) (heardAs (hearNumber (boardOf rows) address count reply) (hearPlace (boardOf rows) address count reply)) (heardAs 38 0) (e .answers))) (hear-small (boardOf rows) address count reply) refl;
-      remove-only = λ rows address after so e. not-38 38 (findNumber (boardOf rows) address) (answered-by rows so 38 (findNumber (boardOf rows) address) 38 (e .answers)) (find-small (boardOf rows) address) refl;
-      look-up-only = λ rows address answer so e z. not-38 (answer .number) (lookedAt (boardOf rows) address .number) (ap (λ (l : Looked). l .number) (answered-by rows so answer (lookedAt (boardOf rows) address) (refusedLook 38) (e .answers))) (look-small (boardOf rows) address) z;
-      poll-only = λ rows address raise reset out bytes so e. not-38 38 (rowPollNumber (boardOf rows) address raise reset out) (answered-by rows so 38 (rowPollNumber (boardOf rows) address raise reset out) 38 (e .answers)) (poll-small (boardOf rows) address raise reset out) refl;
-      enrol-keeps = λ rows settings address gauge answer after so e. stays rows so (enrolRows (boardOf rows) settings address gauge) after (enrol-length (boardOf rows) settings address gauge) (enrol-alike (boardOf rows) (boardOf rows) (self (boardOf rows) (kept-so rows so)) settings address gauge .order) (e .leaves);
-      hear-keeps = λ rows minute address count reply answer after so e. stays rows so (hearRows (boardOf rows) minute address count reply) after (hear-length (boardOf rows) minute address count reply) (hear-alike (boardOf rows) (boardOf rows) (self (boardOf rows) (kept-so rows so)) minute address count reply .order) (e .leaves);
-      remove-keeps = λ rows address answer after so e. stays rows so (removeRows (boardOf rows) address) after (remove-length (boardOf rows) address) (remove-alike (boardOf rows) (boardOf rows) (self (boardOf rows) (kept-so rows so)) address .order) (e .leaves);
-      enrol-as-before = λ rows settings address gauge a b before after so e f.
-          let r = enrol-both rows rows rows before after (even rows so) settings address gauge a b e f in
+      is-38 = λ rows c answer after none e.
+          let p = now rows c answer after e in
+          (refused-by rows none answer (said (boardOf rows) c) (refused38 c) (p .answers), left-alone rows none (made (boardOf rows) c) after (p .leaves));
+      only-38 = λ rows c answer after so e. call-both rows rows rows (left-then rows c) after (even rows so) c (said (boardOf rows) c) answer (has-then rows c) e .1;
+      keeps = λ rows c answer after so e.
+          so-kept after (call-both rows rows rows (left-then rows c) after (even rows so) c (said (boardOf rows) c) answer (has-then rows c) e .2 .alike .order);
+      as-before = λ rows c a b before after so e f.
+          let r = call-both rows rows rows before after (even rows so) c a b e f in
           (r .0, r .2 .alike .held, past-by before after (r .2 .past-too ∙ sym (r .2 .past)) (r .2 .many-too ∙ sym (r .2 .many)));
-      hear-as-before = λ rows minute address count reply answer after so e.
-          record { answers = answered-by rows so answer (heardAs (hearNumber (boardOf rows) address count reply) (hearPlace (boardOf rows) address count reply)) (heardAs 38 0) (e .answers); leaves = e .leaves ∙ ap (λ (zs : List Row). zs ++ beyond rows) (in-order (boardOf rows) (hearRows (boardOf rows) minute address count reply) (boardOf rows) (kept-so rows so)) };
-      remove-as-before = λ rows address a b before after so e f.
-          let r = remove-both rows rows rows before after (even rows so) address a b e f in
-          (r .0, r .2 .alike .held, past-by before after (r .2 .past-too ∙ sym (r .2 .past)) (r .2 .many-too ∙ sym (r .2 .many)));
-      look-up-as-before = λ rows address answer so e. record { answers = answered-by rows so answer (lookedAt (boardOf rows) address) (refusedLook 38) (e .answers) };
-      poll-as-before = λ rows address raise reset out answer bytes so e.
-          record { answers = answered-by rows so answer (rowPollNumber (boardOf rows) address raise reset out) 38 (e .answers); leaves = answered-by rows so bytes (rowPollBytes (boardOf rows) address raise reset out) out (e .leaves) };
+      very-outcome = very;
       enrol-moves = enrol-moved;
       remove-moves = remove-moved;
       has-front = λ rows so. a-front rows so;
       has-place = λ rows address n so front. a-place rows address n front;
-      enrol-one = λ rows settings address gauge a b after later p q. (p .answers ∙ sym (q .answers), p .leaves ∙ sym (q .leaves));
-      hear-one = λ rows minute address count reply a b after later p q. (p .answers ∙ sym (q .answers), p .leaves ∙ sym (q .leaves));
-      remove-one = λ rows address a b after later p q. (p .answers ∙ sym (q .answers), p .leaves ∙ sym (q .leaves));
-      look-up-one = λ rows address a b p q. p .answers ∙ sym (q .answers);
-      poll-one = λ rows address raise reset out a b bytes more p q. (p .answers ∙ sym (q .answers), p .leaves ∙ sym (q .leaves));
+      one-outcome = λ rows c a b after later e f.
+          let p = now rows c a after e in
+          let q = now rows c b later f in
+          (p .answers ∙ sym (q .answers), p .leaves ∙ sym (q .leaves));
     }

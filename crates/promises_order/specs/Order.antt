@@ -6,14 +6,13 @@ use mathlib.Core.Bool.{true}
 use mathlib.Core.List.{List}
 use Prim.Native.Nat.{ℕ, suc, _<_, _≤_}
 use lib.ListN.{length}
-use Rattle.board.specs.declared.Heard.{Heard}
-use Rattle.board.specs.declared.Looked.{Looked}
 use Rattle.board.specs.declared.Row.{Row}
 use Rattle.board.specs.Row.{isFree, inUse, freeRow, newRow}
 use Rattle.board.specs.Rows.{boardOf}
-use Rattle.board.specs.Calls.{Enrols, Hears, Removes, LooksUp, PollsRow, heardAs, refusedLook}
+use Rattle.board.specs.Calls.{Enrols, Removes}
 use Rattle.promises_order.specs.Places.{rowAt, OnBoard, Empty}
-use Rattle.promises_order.specs.OldBoard.{OldEnrols, OldHears, OldRemoves, OldLooksUp, OldPollsRow, heldBy}
+use Rattle.promises_order.specs.OldBoard.{heldBy}
+use Rattle.promises_order.specs.Calls.{today, asItWas, Call, Answer, Does, numberIn, refused38, MovesNone}
 
 -- Rows so kept, said by their places: before a row in use every row is in use and has a smaller address. Only the rows of the board count, and of a
 -- free row nothing is asked.
@@ -24,34 +23,18 @@ pub record SoKept (rows : List Row) : Type 0 where
 -- The same calls, the latest last, made of the old board and of the new one, each with an outcome that its record allows.
 pub data SameCalls (start : List Row) : List Row → List Row → Type 0 where
   begin : SameCalls start start start
-  enrol : {rows others after later : List Row} (settings address gauge a b : ℕ) → SameCalls start rows others
-      → OldEnrols rows settings address gauge a after → Enrols others settings address gauge b later → SameCalls start after later
-  hear : {rows others after later : List Row} (minute address count : ℕ) (reply : List ℕ) (a b : Heard) → SameCalls start rows others
-      → OldHears rows minute address count reply a after → Hears others minute address count reply b later → SameCalls start after later
-  remove : {rows others after later : List Row} (address a b : ℕ) → SameCalls start rows others
-      → OldRemoves rows address a after → Removes others address b later → SameCalls start after later
-  look-up : {rows others : List Row} (address : ℕ) (a b : Looked) → SameCalls start rows others
-      → OldLooksUp rows address a → LooksUp others address b → SameCalls start rows others
-  poll : {rows others : List Row} (address raise reset a b : ℕ) (out bytes others-bytes : List ℕ) → SameCalls start rows others
-      → OldPollsRow rows address raise reset out a bytes → PollsRow others address raise reset out b others-bytes → SameCalls start rows others
+  call : {rows others after later : List Row} (c : Call) (a b : Answer c) → SameCalls start rows others
+      → Does asItWas rows c a after → Does today others c b later → SameCalls start after later
 
 -- Every call was answered alike, refusals included.
 abbrev pub AnsweredSame : {start rows others : List Row} → SameCalls start rows others → Type 0
 AnsweredSame begin = Unit {0}
-AnsweredSame (enrol settings address gauge a b calls e f) = (a ≡ b) × AnsweredSame calls
-AnsweredSame (hear minute address count reply a b calls e f) = (a ≡ b) × AnsweredSame calls
-AnsweredSame (remove address a b calls e f) = (a ≡ b) × AnsweredSame calls
-AnsweredSame (look-up address a b calls e f) = (a ≡ b) × AnsweredSame calls
-AnsweredSame (poll address raise reset a b out bytes others-bytes calls e f) = ((a ≡ b) × (bytes ≡ others-bytes)) × AnsweredSame calls
+AnsweredSame (call c a b calls e f) = (a ≡ b) × AnsweredSame calls
 
 -- No call of the new board was refused by 38.
 abbrev pub Never38 : {start rows others : List Row} → SameCalls start rows others → Type 0
 Never38 begin = Unit {0}
-Never38 (enrol settings address gauge a b calls e f) = (b ≡ 38 → ⊥) × Never38 calls
-Never38 (hear minute address count reply a b calls e f) = (b .number ≡ 38 → ⊥) × Never38 calls
-Never38 (remove address a b calls e f) = (b ≡ 38 → ⊥) × Never38 calls
-Never38 (look-up address a b calls e f) = (b .number ≡ 38 → ⊥) × Never38 calls
-Never38 (poll address raise reset a b out bytes others-bytes calls e f) = (b ≡ 38 → ⊥) × Never38 calls
+Never38 (call c a b calls e f) = (numberIn c b ≡ 38 → ⊥) × Never38 calls
 
 -- The same rows in use, wherever they stand: for every address those that hold it are the same, whole.
 abbrev pub SameInUse : List Row → List Row → Type 0
@@ -100,38 +83,18 @@ pub record BoardOrder : Type 0 where
   pub same-answers : (start rows others : List Row) → Empty start → (calls : SameCalls start rows others)
       → AnsweredSame calls × Never38 calls × SameInUse rows others × SoKept others × Past start rows × Past start others
   -- 38 is answered, with nothing else, and nothing is changed, where the rows are not so kept; and only there.
-  pub enrol-38 : (rows : List Row) (settings address gauge answer : ℕ) (after : List Row) → (SoKept rows → ⊥) → Enrols rows settings address gauge answer after
-      → (answer ≡ 38) × (after ≡ rows)
-  pub hear-38 : (rows : List Row) (minute address count : ℕ) (reply : List ℕ) (answer : Heard) (after : List Row) → (SoKept rows → ⊥)
-      → Hears rows minute address count reply answer after → (answer ≡ heardAs 38 0) × (after ≡ rows)
-  pub remove-38 : (rows : List Row) (address answer : ℕ) (after : List Row) → (SoKept rows → ⊥) → Removes rows address answer after
-      → (answer ≡ 38) × (after ≡ rows)
-  pub look-up-38 : (rows : List Row) (address : ℕ) (answer : Looked) → (SoKept rows → ⊥) → LooksUp rows address answer → answer ≡ refusedLook 38
-  pub poll-38 : (rows : List Row) (address raise reset : ℕ) (out : List ℕ) (answer : ℕ) (bytes : List ℕ) → (SoKept rows → ⊥)
-      → PollsRow rows address raise reset out answer bytes → (answer ≡ 38) × (bytes ≡ out)
-  pub enrol-only : (rows : List Row) (settings address gauge : ℕ) (after : List Row) → SoKept rows → Enrols rows settings address gauge 38 after → ⊥
-  pub hear-only : (rows : List Row) (minute address count place : ℕ) (reply : List ℕ) (after : List Row) → SoKept rows
-      → Hears rows minute address count reply (heardAs 38 place) after → ⊥
-  pub remove-only : (rows : List Row) (address : ℕ) (after : List Row) → SoKept rows → Removes rows address 38 after → ⊥
-  pub look-up-only : (rows : List Row) (address : ℕ) (answer : Looked) → SoKept rows → LooksUp rows address answer → answer .number ≡ 38 → ⊥
-  pub poll-only : (rows : List Row) (address raise reset : ℕ) (out bytes : List ℕ) → SoKept rows → PollsRow rows address raise reset out 38 bytes → ⊥
+  pub is-38 : (rows : List Row) (c : Call) (answer : Answer c) (after : List Row) → (SoKept rows → ⊥) → Does today rows c answer after
+      → (answer ≡ refused38 c) × (after ≡ rows)
+  pub only-38 : (rows : List Row) (c : Call) (answer : Answer c) (after : List Row) → SoKept rows → Does today rows c answer after
+      → numberIn c answer ≡ 38 → ⊥
   -- Rows so kept stay so, also with addresses above 999 among them.
-  pub enrol-keeps : (rows : List Row) (settings address gauge answer : ℕ) (after : List Row) → SoKept rows → Enrols rows settings address gauge answer after
-      → SoKept after
-  pub hear-keeps : (rows : List Row) (minute address count : ℕ) (reply : List ℕ) (answer : Heard) (after : List Row) → SoKept rows
-      → Hears rows minute address count reply answer after → SoKept after
-  pub remove-keeps : (rows : List Row) (address answer : ℕ) (after : List Row) → SoKept rows → Removes rows address answer after → SoKept after
-  -- Of any rows so kept each call answers what it answered of the old board. Hearing, looking and polling leave what they left; enrolling and removing leave
-  -- the same rows in use.
-  pub enrol-as-before : (rows : List Row) (settings address gauge a b : ℕ) (before after : List Row) → SoKept rows
-      → OldEnrols rows settings address gauge a before → Enrols rows settings address gauge b after → (a ≡ b) × SameInUse before after × Past before after
-  pub hear-as-before : (rows : List Row) (minute address count : ℕ) (reply : List ℕ) (answer : Heard) (after : List Row) → SoKept rows
-      → Hears rows minute address count reply answer after → OldHears rows minute address count reply answer after
-  pub remove-as-before : (rows : List Row) (address a b : ℕ) (before after : List Row) → SoKept rows
-      → OldRemoves rows address a before → Removes rows address b after → (a ≡ b) × SameInUse before after × Past before after
-  pub look-up-as-before : (rows : List Row) (address : ℕ) (answer : Looked) → SoKept rows → LooksUp rows address answer → OldLooksUp rows address answer
-  pub poll-as-before : (rows : List Row) (address raise reset : ℕ) (out : List ℕ) (answer : ℕ) (bytes : List ℕ) → SoKept rows
-      → PollsRow rows address raise reset out answer bytes → OldPollsRow rows address raise reset out answer bytes
+  pub keeps : (rows : List Row) (c : Call) (answer : Answer c) (after : List Row) → SoKept rows → Does today rows c answer after → SoKept after
+  -- Of any rows so kept each call answers what it answered of the old board, and leaves the same rows in use. Hearing, looking and polling leave the very
+  -- rows and bytes that they left.
+  pub as-before : (rows : List Row) (c : Call) (a b : Answer c) (before after : List Row) → SoKept rows
+      → Does asItWas rows c a before → Does today rows c b after → (a ≡ b) × SameInUse before after × Past before after
+  pub very-outcome : (rows : List Row) (c : Call) (answer : Answer c) (after : List Row) → SoKept rows → MovesNone c
+      → Does today rows c answer after → Does asItWas rows c answer after
   -- Which rows move.
   pub enrol-moves : (rows : List Row) (settings address gauge : ℕ) (after : List Row) → SoKept rows → Enrols rows settings address gauge 0 after
       → (n i : ℕ) → Front rows n → IsPlaceFor rows address n i → Inserted rows i n (newRow settings address gauge) after
@@ -141,12 +104,5 @@ pub record BoardOrder : Type 0 where
   pub has-front : (rows : List Row) → SoKept rows → HasFront rows
   pub has-place : (rows : List Row) (address n : ℕ) → SoKept rows → Front rows n → HasPlace rows address n
   -- One outcome is allowed of each call.
-  pub enrol-one : (rows : List Row) (settings address gauge a b : ℕ) (after later : List Row) → Enrols rows settings address gauge a after
-      → Enrols rows settings address gauge b later → (a ≡ b) × (after ≡ later)
-  pub hear-one : (rows : List Row) (minute address count : ℕ) (reply : List ℕ) (a b : Heard) (after later : List Row)
-      → Hears rows minute address count reply a after → Hears rows minute address count reply b later → (a ≡ b) × (after ≡ later)
-  pub remove-one : (rows : List Row) (address a b : ℕ) (after later : List Row) → Removes rows address a after → Removes rows address b later
+  pub one-outcome : (rows : List Row) (c : Call) (a b : Answer c) (after later : List Row) → Does today rows c a after → Does today rows c b later
       → (a ≡ b) × (after ≡ later)
-  pub look-up-one : (rows : List Row) (address : ℕ) (a b : Looked) → LooksUp rows address a → LooksUp rows address b → a ≡ b
-  pub poll-one : (rows : List Row) (address raise reset : ℕ) (out : List ℕ) (a b : ℕ) (bytes more : List ℕ) → PollsRow rows address raise reset out a bytes
-      → PollsRow rows address raise reset out b more → (a ≡ b) × (bytes ≡ more)
