@@ -19,8 +19,8 @@ use Rattle.promises_order.specs.OldBoard.{OldEnrols as Enrols}
 use Rattle.board.proofs.Numbers.{enrol-19, enrol-0}
 use Rattle.promises_order.specs.Places.{rowAt, OnBoard, Empty}
 use Rattle.promises_board.specs.Calls.{Holds, Unknown, OnlyRow}
-use Rattle.promises_order.specs.Calls.{asItWas}
-use Rattle.promises_board.specs.History.{History, begun, enrolled, heard, removed, looked, polled, NoneTwice, taken, given, BoardHistory}
+use Rattle.promises_order.specs.Calls.{asItWas, Call, enrol, hear, remove, look-up, poll, Answer, Does}
+use Rattle.promises_board.specs.History.{History, begun, called, NoneTwice, takenBy, givenBy, taken, given, BoardHistory}
 use Rattle.promises_board.proofs.Places.{on-board, board-on, same-row, unknown-off}
 use Rattle.promises_order.proofs.Count.{used, used-set, used-none, used-full, used-room}
 use Rattle.promises_frame.proofs.Cases.{by-lt}
@@ -63,22 +63,21 @@ pub step-beyond : {rows after : List Row} → Step rows after → (i : ℕ) → 
 step-beyond (nothing e) i l = ap (λ (zs : List Row). rowAt zs i) e
 step-beyond {rows} {after} (sets j row p e) i l = set-only rows after j row p e .others i (λ s. omega (arith, p .counts))
 
+pub call-step : (rows : List Row) (c : Call) (answer : Answer c) (after : List Row) → Does asItWas rows c answer after → Step rows after
+call-step rows (enrol settings address gauge) answer after e = enrol-step (enrol-done rows settings address gauge answer after e)
+call-step rows (hear minute address count reply) answer after e = hear-step (hear-done rows minute address count reply answer after e)
+call-step rows (remove address) answer after e = remove-step (remove-done rows address answer after e)
+call-step rows (look-up address) answer after e = nothing (e .1)
+call-step rows (poll address raise reset out) answer after e = nothing (e .1)
+
 module _ (start : List Row) where
   as-many : (now : List Row) → History asItWas start now → length now ≡ length start
   as-many now begun = refl
-  as-many now (enrolled {rows} settings address gauge answer h e) = step-many (enrol-step (enrol-done rows settings address gauge answer now e)) ∙ as-many rows h
-  as-many now (heard {rows} minute address count reply answer h e) = step-many (hear-step (hear-done rows minute address count reply answer now e)) ∙ as-many rows h
-  as-many now (removed {rows} address answer h e) = step-many (remove-step (remove-done rows address answer now e)) ∙ as-many rows h
-  as-many now (looked address answer h e) = as-many now h
-  as-many now (polled address raise reset out answer after h e) = as-many now h
+  as-many now (called {rows} c answer h e) = step-many (call-step rows c answer now e) ∙ as-many rows h
 
   beyond-stays : (now : List Row) → History asItWas start now → (i : ℕ) → 30 ≤ i → rowAt now i ≡ rowAt start i
   beyond-stays now begun i l = refl
-  beyond-stays now (enrolled {rows} settings address gauge answer h e) i l = step-beyond (enrol-step (enrol-done rows settings address gauge answer now e)) i l ∙ beyond-stays rows h i l
-  beyond-stays now (heard {rows} minute address count reply answer h e) i l = step-beyond (hear-step (hear-done rows minute address count reply answer now e)) i l ∙ beyond-stays rows h i l
-  beyond-stays now (removed {rows} address answer h e) i l = step-beyond (remove-step (remove-done rows address answer now e)) i l ∙ beyond-stays rows h i l
-  beyond-stays now (looked address answer h e) i l = beyond-stays now h i l
-  beyond-stays now (polled address raise reset out answer after h e) i l = beyond-stays now h i l
+  beyond-stays now (called {rows} c answer h e) i l = step-beyond (call-step rows c answer now e) i l ∙ beyond-stays rows h i l
 
 -- No address twice: a row set to one that holds no address but its old one, or one that no row held, makes no second row of an address.
 module _ (rows after : List Row) where
@@ -139,13 +138,16 @@ remove-twice rows after address answer (gave z a p e) once = fewer-set rows afte
 pub empty-twice : (start : List Row) → Empty start → NoneTwice start
 empty-twice start empty i j address p q h k = absurd (in-use-free (rowAt start i) (empty i p) (h .used))
 
+call-twice : (rows : List Row) (c : Call) (answer : Answer c) (after : List Row) → Does asItWas rows c answer after → NoneTwice rows → NoneTwice after
+call-twice rows (enrol settings address gauge) answer after e = enrol-twice rows after settings address gauge answer (enrol-done rows settings address gauge answer after e)
+call-twice rows (hear minute address count reply) answer after e = hear-twice rows after minute address count reply answer (hear-done rows minute address count reply answer after e)
+call-twice rows (remove address) answer after e = remove-twice rows after address answer (remove-done rows address answer after e)
+call-twice rows (look-up address) answer after e = same-twice rows after (e .1)
+call-twice rows (poll address raise reset out) answer after e = same-twice rows after (e .1)
+
 pub none-twice : (start now : List Row) → Empty start → History asItWas start now → NoneTwice now
 none-twice start now empty begun = empty-twice start empty
-none-twice start now empty (enrolled {rows} settings address gauge answer h e) = enrol-twice rows now settings address gauge answer (enrol-done rows settings address gauge answer now e) (none-twice start rows empty h)
-none-twice start now empty (heard {rows} minute address count reply answer h e) = hear-twice rows now minute address count reply answer (hear-done rows minute address count reply answer now e) (none-twice start rows empty h)
-none-twice start now empty (removed {rows} address answer h e) = remove-twice rows now address answer (remove-done rows address answer now e) (none-twice start rows empty h)
-none-twice start now empty (looked address answer h e) = none-twice start now empty h
-none-twice start now empty (polled address raise reset out answer after h e) = none-twice start now empty h
+none-twice start now empty (called {rows} c answer h e) = call-twice rows c answer now e (none-twice start rows empty h)
 
 -- The rows in use. `counts` is the law of one row set, at what is known of the two rows.
 module _ (rows after : List Row) (i : ℕ) (row : Row) (p : OnBoard rows i) (e : after ≡ set rows i row) where
@@ -192,17 +194,20 @@ fewer-by true m n g k e f = omega arith
 fewer-by false m n g k e f = omega arith
 
 -- the rows in use and those given back are together those taken
+call-balance : (rows : List Row) (c : Call) (answer : Answer c) (after : List Row) → Does asItWas rows c answer after → (g k : ℕ) → used (boardOf rows) + g ≡ k → used (boardOf after) + givenBy c answer g ≡ takenBy c answer k
+call-balance rows (enrol settings address gauge) answer after e g k b =
+    ap (λ (n : ℕ). n + g) (enrol-used rows after settings address gauge answer (enrol-done rows settings address gauge answer after e)) ∙ more-by (eqb answer 0) (used (boardOf rows)) g k b
+call-balance rows (hear minute address count reply) answer after e g k b =
+    ap (λ (n : ℕ). n + g) (hear-used rows after minute address count reply answer (hear-done rows minute address count reply answer after e)) ∙ b
+call-balance rows (remove address) answer after e g k b =
+    fewer-by (eqb answer 0) (used (boardOf after)) (used (boardOf rows)) g k (remove-used rows after address answer (remove-done rows address answer after e)) b
+call-balance rows (look-up address) answer after e g k b = ap (λ (zs : List Row). used (boardOf zs) + g) (e .1) ∙ b
+call-balance rows (poll address raise reset out) answer after e g k b = ap (λ (zs : List Row). used (boardOf zs) + g) (e .1) ∙ b
+
 balance : (start now : List Row) → Empty start → (h : History asItWas start now) → used (boardOf now) + given h ≡ taken h
 unfolding taken given
 balance start now empty begun = let z = used-none (boardOf start) (λ i l. ap isFree (same-row start i l) ∙ empty i (board-on start i l)) in omega arith
-balance start now empty (enrolled {rows} settings address gauge answer h e) =
-    ap (λ (n : ℕ). n + given h) (enrol-used rows now settings address gauge answer (enrol-done rows settings address gauge answer now e)) ∙ more-by (eqb answer 0) (used (boardOf rows)) (given h) (taken h) (balance start rows empty h)
-balance start now empty (heard {rows} minute address count reply answer h e) =
-    ap (λ (n : ℕ). n + given h) (hear-used rows now minute address count reply answer (hear-done rows minute address count reply answer now e)) ∙ balance start rows empty h
-balance start now empty (removed {rows} address answer h e) =
-    fewer-by (eqb answer 0) (used (boardOf now)) (used (boardOf rows)) (given h) (taken h) (remove-used rows now address answer (remove-done rows address answer now e)) (balance start rows empty h)
-balance start now empty (looked address answer h e) = balance start now empty h
-balance start now empty (polled address raise reset out answer after h e) = balance start now empty h
+balance start now empty (called {rows} c answer h e) = call-balance rows c answer now e (given h) (taken h) (balance start rows empty h)
 
 -- A new address, while there is room, and when the board is full.
 module _ (start rows after : List Row) (h : History asItWas start rows) (settings address gauge answer : ℕ) (empty : Empty start) (s : settings ≤ 15) (a : address ≤ 999) (m : profileMisplaced settings gauge ≡ false) (u : Unknown rows address) (e : Enrols rows settings address gauge answer after) where

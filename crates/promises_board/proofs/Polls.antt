@@ -29,10 +29,10 @@ use Rattle.promises_frame.proofs.FirstFault.{AllClear, all-clear}
 use Rattle.promises_frame.proofs.Polls.{poll-then-read}
 use Rattle.promises_order.specs.Places.{rowAt, OnBoard, Empty}
 use Rattle.promises_board.specs.Calls.{IsRowOf, OnlyRow}
-use Rattle.promises_order.specs.Calls.{asItWas}
-use Rattle.promises_board.specs.History.{History, begun, enrolled, heard, removed, looked, polled}
+use Rattle.promises_order.specs.Calls.{asItWas, Call, enrol, hear, remove, look-up, poll, Answer, Does}
+use Rattle.promises_board.specs.History.{History, begun, called}
 use Rattle.promises_board.specs.Orders.{pollTable}
-use Rattle.promises_board.specs.Polls.{Marked, gaugeGiven, BoardPoll}
+use Rattle.promises_board.specs.Polls.{gaugeBy, Marked, gaugeGiven, BoardPoll}
 use Rattle.promises_board.proofs.Tests.{differs, and-false, neither-of}
 use Rattle.promises_board.proofs.Places.{place-row, row-is}
 use Rattle.promises_board.proofs.Calls.{poll-promise}
@@ -157,14 +157,17 @@ module _ (rows after : List Row) (given : ℕ → ℕ) (held : Held rows given) 
           held i on used
           ∙ sym (ap (λ (t : Bool). pick (t && eqb answer 0) gauge (given (rowAt rows i .address))) (ne-eqb a (rowAt rows i .address) (λ same. u i on (record { used = used; same = sym same }))))
 
+held-call : (rows : List Row) (c : Call) (answer : Answer c) (after : List Row) → Does asItWas rows c answer after → (given : ℕ → ℕ) → Held rows given → Held after (λ address. gaugeBy c answer address (given address))
+held-call rows (enrol settings a gauge) answer after e given held = held-enrol rows after given held settings a gauge answer (enrol-done rows settings a gauge answer after e)
+held-call rows (hear minute a count reply) answer after e given held = held-hear rows after given held minute a count reply answer (hear-done rows minute a count reply answer after e)
+held-call rows (remove a) answer after e given held = held-remove rows after given held a answer (remove-done rows a answer after e)
+held-call rows (look-up a) answer after e given held = held-same rows after given held (e .1)
+held-call rows (poll a raise reset out) answer after e given held = held-same rows after given held (e .1)
+
 held-of : (start rows : List Row) → Empty start → (h : History asItWas start rows) → Held rows (gaugeGiven h)
 unfolding gaugeGiven
 held-of start now empty begun = λ i there used. absurd (differs used (ap not (empty i there)))
-held-of start now empty (enrolled {rows} settings a gauge answer h e) = held-enrol rows now (gaugeGiven h) (held-of start rows empty h) settings a gauge answer (enrol-done rows settings a gauge answer now e)
-held-of start now empty (heard {rows} minute a count reply answer h e) = held-hear rows now (gaugeGiven h) (held-of start rows empty h) minute a count reply answer (hear-done rows minute a count reply answer now e)
-held-of start now empty (removed {rows} a answer h e) = held-remove rows now (gaugeGiven h) (held-of start rows empty h) a answer (remove-done rows a answer now e)
-held-of start now empty (looked a answer h e) = held-of start now empty h
-held-of start now empty (polled a raise reset out answer after h e) = held-of start now empty h
+held-of start now empty (called {rows} c answer h e) = held-call rows c answer now e (gaugeGiven h) (held-of start rows empty h)
 
 as-enrolled : (start rows : List Row) → Empty start → (h : History asItWas start rows) (address : ℕ) → Marked rows address → is6500 (gaugeGiven h address) ≡ true
 as-enrolled start rows empty h address m =

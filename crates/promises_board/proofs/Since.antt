@@ -20,9 +20,9 @@ use Rattle.promises_order.specs.OldBoard.{OldEnrols as Enrols, OldHears as Hear
 use Rattle.board.proofs.Faults.{sets-some, not-0}
 use Rattle.promises_order.specs.Places.{rowAt, OnBoard, Empty}
 use Rattle.promises_board.specs.Calls.{Holds, IsRowOf, Unknown, OnlyRow}
-use Rattle.promises_order.specs.Calls.{asItWas}
-use Rattle.promises_board.specs.History.{History, begun, enrolled, heard, removed, looked, polled, NoneTwice}
-use Rattle.promises_board.specs.Since.{counted, since, latest, BoardSince}
+use Rattle.promises_order.specs.Calls.{asItWas, Call, enrol, hear, remove, look-up, poll, Answer, Does}
+use Rattle.promises_board.specs.History.{History, begun, called, NoneTwice}
+use Rattle.promises_board.specs.Since.{sinceBy, latestBy, counted, since, latest, BoardSince}
 use Rattle.promises_frame.proofs.Cases.{by-lt}
 use Rattle.promises_board.proofs.Places.{place-row}
 use Rattle.promises_board.proofs.Done.{set-only, off-unknown, Enrolled, not-enrolled, took, enrol-done, Removed, not-removed, gave, remove-done, HearDone, not-heard, faulty, good, hear-done}
@@ -151,17 +151,21 @@ module _ (rows after : List Row) (count : ℕ → ℕ) (minute : ℕ → Minute)
           hear-own m address k y answer told mine looks z (hear-done rows m address k y answer after mine)
       go false s = stays address told (board-readings .hear-apart rows after m address a k y answer (look rows address) told (eqb-false a address s) (look-is rows address) e looks) z
 
+  -- Any call.
+  call-so : NoneTwice rows → (c : Call) (answer : Answer c) → Does asItWas rows c answer after → Told after (λ address. sinceBy c answer address (count address)) (λ address. latestBy c answer address (minute address))
+  call-so once (enrol settings a gauge) answer e = enrol-so settings a gauge answer e
+  call-so once (hear m a k y) answer e = hear-so m a k y answer e
+  call-so once (remove a) answer e = remove-so once a answer e
+  call-so once (look-up a) answer e = subst (λ (zs : List Row). Told zs count minute) (sym (e .1)) so
+  call-so once (poll a raise reset out) answer e = subst (λ (zs : List Row). Told zs count minute) (sym (e .1)) so
+
 -- Over every history.
 told-of : (start now : List Row) → Empty start → (h : History asItWas start now) → Told now (since h) (latest h)
 unfolding since latest
 told-of start now empty begun = λ address told looks z.
     let k = known-by start address told looks z .1 in
     absurd (free-not-used (rowAt start (placeOf address (boardOf start))) (empty (placeOf address (boardOf start)) (k .place)) (k .here .used))
-told-of start now empty (enrolled {rows} settings a gauge answer h e) = enrol-so rows now (since h) (latest h) (told-of start rows empty h) settings a gauge answer e
-told-of start now empty (heard {rows} m a k y answer h e) = hear-so rows now (since h) (latest h) (told-of start rows empty h) m a k y answer e
-told-of start now empty (removed {rows} a answer h e) = remove-so rows now (since h) (latest h) (told-of start rows empty h) (none-twice start rows empty h) a answer e
-told-of start now empty (looked a answer h e) = told-of start now empty h
-told-of start now empty (polled a raise reset out answer after h e) = told-of start now empty h
+told-of start now empty (called {rows} c answer h e) = call-so rows now (since h) (latest h) (told-of start rows empty h) (none-twice start rows empty h) c answer e
 
 -- The count is 0 just where the fault is, of every row in use: each call sets at most one row, to one of which it holds.
 record Agrees (row : Row) : Type 0 where
@@ -208,13 +212,16 @@ module _ (rows after : List Row) (so : AllAgree rows) where
   agree-remove a answer (not-removed s e) = agree-same e
   agree-remove a answer (gave s x p e) = agree-set _ freeRow (set-only rows after _ freeRow (p .place) e) (λ u. absurd (free-not-used freeRow refl u))
 
+  agree-call : (c : Call) (answer : Answer c) → Does asItWas rows c answer after → AllAgree after
+  agree-call (enrol settings a gauge) answer e = agree-enrol settings a gauge answer (enrol-done rows settings a gauge answer after e)
+  agree-call (hear m a k y) answer e = agree-hear m a k y answer (hear-done rows m a k y answer after e)
+  agree-call (remove a) answer e = agree-remove a answer (remove-done rows a answer after e)
+  agree-call (look-up a) answer e = agree-same (e .1)
+  agree-call (poll a raise reset out) answer e = agree-same (e .1)
+
 agree-of : (start now : List Row) → Empty start → History asItWas start now → AllAgree now
 agree-of start now empty begun = λ i on used. absurd (free-not-used (rowAt start i) (empty i on) used)
-agree-of start now empty (enrolled {rows} settings a gauge answer h e) = agree-enrol rows now (agree-of start rows empty h) settings a gauge answer (enrol-done rows settings a gauge answer now e)
-agree-of start now empty (heard {rows} m a k y answer h e) = agree-hear rows now (agree-of start rows empty h) m a k y answer (hear-done rows m a k y answer now e)
-agree-of start now empty (removed {rows} a answer h e) = agree-remove rows now (agree-of start rows empty h) a answer (remove-done rows a answer now e)
-agree-of start now empty (looked a answer h e) = agree-of start now empty h
-agree-of start now empty (polled a raise reset out answer after h e) = agree-of start now empty h
+agree-of start now empty (called {rows} c answer h e) = agree-call rows now (agree-of start rows empty h) c answer e
 
 pub board-since : BoardSince asItWas
 board-since =

@@ -41,7 +41,7 @@ use Rattle.promises_board.proofs.OldView.{view as oldView, SameView as 
 use Rattle.promises_board.proofs.Free.{board-of}
 use Rattle.promises_board.proofs.Now.{by-order, enrolled-before, enrols-before, removed-before, removes-before}
 use Rattle.promises_board.proofs.SameHistory.{on-both, row-both}
-use Rattle.promises_board.proofs.HistoryNow.{enrol-past, hear-past, remove-past, empty-kept, kept-once}
+use Rattle.promises_board.proofs.HistoryNow.{call-past, empty-kept, kept-once}
 
 -- Free rows and rows in use are together all rows, so a board has a free row exactly where one is counted.
 together-by : (t : Bool) (f u n : ℕ) → f + u ≡ n → pick t (suc f) f + pick t u (suc u) ≡ suc n
@@ -170,7 +170,7 @@ module _ (rows others after later : List Row) (same : SameView rows others) wher
         both-so rows others same
         (λ so too old.
         taken-by (eqb a 0) (freeIn (boardOf rows)) (freeIn (boardOf others)) (used (boardOf rows)) (used (boardOf others)) _ _ _ _ many
-        (free-after rows after (enrol-past rows after settings address gauge a e .as-many)) (free-after others later (enrol-past others later settings address gauge b f .as-many))
+        (free-after rows after (call-past rows (enrol settings address gauge) a after e .as-many)) (free-after others later (call-past others (enrol settings address gauge) b later f .as-many))
         (enrol-counts rows after so settings address gauge a e) (enrol-counts others later too settings address gauge b f ∙ ap (λ (n : ℕ). more n (used (boardOf others))) (sym is)))
         (λ none none-too. stay-many many (board-order .is-38 rows (enrol settings address gauge) a after none e .1) (board-order .is-38 others (enrol settings address gauge) b later none-too f .1))
 
@@ -202,7 +202,7 @@ module _ (rows others after later : List Row) (same : SameView rows others) wher
         both-so rows others same
         (λ so too old.
         given-by (eqb a 0) (freeIn (boardOf rows)) (freeIn (boardOf others)) (used (boardOf rows)) (used (boardOf others)) _ _ _ _ many
-        (free-after rows after (remove-past rows after address a e .as-many)) (free-after others later (remove-past others later address b f .as-many))
+        (free-after rows after (call-past rows (remove address) a after e .as-many)) (free-after others later (call-past others (remove address) b later f .as-many))
         (remove-counts rows after so address a e) (ap (λ (n : ℕ). more n (used (boardOf later))) is ∙ remove-counts others later too address b f))
         (λ none none-too. stay-many many (board-order .is-38 rows (remove address) a after none e .1) (board-order .is-38 others (remove address) b later none-too f .1))
 
@@ -227,7 +227,7 @@ module _ (rows others after later : List Row) (same : SameView rows others) wher
         both-so rows others same
         (λ so too old.
         taken-by false (freeIn (boardOf rows)) (freeIn (boardOf others)) (used (boardOf rows)) (used (boardOf others)) _ _ _ _ many
-        (free-after rows after (hear-past rows after minute address count reply a e .as-many)) (free-after others later (hear-past others later minute address count reply b f .as-many))
+        (free-after rows after (call-past rows (hear minute address count reply) a after e .as-many)) (free-after others later (call-past others (hear minute address count reply) b later f .as-many))
         (hear-counts rows after so minute address count reply a e) (hear-counts others later too minute address count reply b f))
         (λ none none-too. stay-many many (board-order .is-38 rows (hear minute address count reply) a after none e .1) (board-order .is-38 others (hear minute address count reply) b later none-too f .1))
 

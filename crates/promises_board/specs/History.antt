@@ -7,46 +7,44 @@ use Prim.Native.Nat.{ℕ, suc, _+_, _<_, _≤_, min}
 use lib.Dec.{eqb}
 use lib.ListN.{length}
 use Rattle.frame.specs.Pick.{pick}
-use Rattle.board.specs.declared.Heard.{Heard}
-use Rattle.board.specs.declared.Looked.{Looked}
 use Rattle.board.specs.declared.Row.{Row}
 use Rattle.board.specs.Gauge.{profileMisplaced}
 use Rattle.board.specs.Row.{isFree}
 use Rattle.promises_order.specs.Places.{Empty, OnBoard, rowAt}
-use Rattle.promises_order.specs.Calls.{Records}
+use Rattle.promises_order.specs.Calls.{Records, Call, enrol, hear, remove, look-up, poll, Answer, Does}
 use Rattle.promises_board.specs.Calls.{Holds, Unknown}
 
 -- Calls one after another, the latest last, each with an outcome that its contract allows.
 pub data History (calls : Records) (start : List Row) : List Row → Type 0 where
   begun : History calls start start
-  enrolled : {rows after : List Row} (settings address gauge answer : ℕ) → History calls start rows → calls .enrols rows settings address gauge answer after → History calls start after
-  heard : {rows after : List Row} (minute address count : ℕ) (reply : List ℕ) (answer : Heard) → History calls start rows
-      → calls .hears rows minute address count reply answer after → History calls start after
-  removed : {rows after : List Row} (address answer : ℕ) → History calls start rows → calls .removes rows address answer after → History calls start after
-  looked : {rows : List Row} (address : ℕ) (answer : Looked) → History calls start rows → calls .looksUp rows address answer → History calls start rows
-  polled : {rows : List Row} (address raise reset : ℕ) (out : List ℕ) (answer : ℕ) (after : List ℕ) → History calls start rows
-      → calls .pollsRow rows address raise reset out answer after → History calls start rows
+  called : {rows after : List Row} (c : Call) (answer : Answer c) → History calls start rows → Does calls rows c answer after → History calls start after
 
 -- No address is in use twice.
 abbrev pub NoneTwice : List Row → Type 0
 NoneTwice rows = (i j address : ℕ) → OnBoard rows i → OnBoard rows j → Holds (rowAt rows i) address → Holds (rowAt rows j) address → i ≡ j
 
--- The enrolments and the removals of a history that answered 0.
+-- The enrolments and the removals of a history that answered 0: n before a call, and after it.
+abbrev pub takenBy : (c : Call) → Answer c → ℕ → ℕ
+takenBy (enrol settings a gauge) answer n = pick (eqb answer 0) (suc n) n
+takenBy (hear minute a count reply) answer n = n
+takenBy (remove a) answer n = n
+takenBy (look-up a) answer n = n
+takenBy (poll a raise reset out) answer n = n
+
+abbrev pub givenBy : (c : Call) → Answer c → ℕ → ℕ
+givenBy (enrol settings a gauge) answer n = n
+givenBy (hear minute a count reply) answer n = n
+givenBy (remove a) answer n = pick (eqb answer 0) (suc n) n
+givenBy (look-up a) answer n = n
+givenBy (poll a raise reset out) answer n = n
+
 unfoldable pub taken : {calls : Records} {start rows : List Row} → History calls start rows → ℕ
 taken begun = 0
-taken (enrolled settings address gauge answer h e) = pick (eqb answer 0) (suc (taken h)) (taken h)
-taken (heard minute address count reply answer h e) = taken h
-taken (removed address answer h e) = taken h
-taken (looked address answer h e) = taken h
-taken (polled address raise reset out answer after h e) = taken h
+taken (called c answer h e) = takenBy c answer (taken h)
 
 unfoldable pub given : {calls : Records} {start rows : List Row} → History calls start rows → ℕ
 given begun = 0
-given (enrolled settings address gauge answer h e) = given h
-given (heard minute address count reply answer h e) = given h
-given (removed address answer h e) = pick (eqb answer 0) (suc (given h)) (given h)
-given (looked address answer h e) = given h
-given (polled address raise reset out answer after h e) = given h
+given (called c answer h e) = givenBy c answer (given h)
 
 pub record BoardHistory (calls : Records) : Type 0 where
   pub none-twice : (start rows : List Row) → Empty start → History calls start rows → NoneTwice rows

@@ -15,8 +15,8 @@ use Rattle.board.specs.declared.Row.{Row}
 use Rattle.board.specs.Gauge.{is6500}
 use Rattle.promises_order.specs.Places.{rowAt, Empty}
 use Rattle.promises_board.specs.Calls.{IsRowOf}
-use Rattle.promises_order.specs.Calls.{Records}
-use Rattle.promises_board.specs.History.{History, begun, enrolled, heard, removed, looked, polled}
+use Rattle.promises_order.specs.Calls.{Records, Call, enrol, hear, remove, look-up, poll, Answer}
+use Rattle.promises_board.specs.History.{History, begun, called}
 
 -- The address has a row, which is marked as a 6500.
 pub record Marked (rows : List Row) (address : ℕ) : Type 0 where
@@ -25,13 +25,16 @@ pub record Marked (rows : List Row) (address : ℕ) : Type 0 where
   pub mark : is6500 (rowAt rows at .gauge) ≡ true
 
 -- The gauge that an address was enrolled with last, in a history, by an enrolment that answered 0; 0 where there is none.
+abbrev pub gaugeBy : (c : Call) → Answer c → (address before : ℕ) → ℕ
+gaugeBy (enrol settings a gauge) answer address before = pick (eqb a address && eqb answer 0) gauge before
+gaugeBy (hear minute a count reply) answer address before = before
+gaugeBy (remove a) answer address before = before
+gaugeBy (look-up a) answer address before = before
+gaugeBy (poll a raise reset out) answer address before = before
+
 unfoldable pub gaugeGiven : {calls : Records} {start rows : List Row} → History calls start rows → ℕ → ℕ
 gaugeGiven begun address = 0
-gaugeGiven (enrolled settings a gauge answer h e) address = pick (eqb a address && eqb answer 0) gauge (gaugeGiven h address)
-gaugeGiven (heard minute a count reply answer h e) address = gaugeGiven h address
-gaugeGiven (removed a answer h e) address = gaugeGiven h address
-gaugeGiven (looked a answer h e) address = gaugeGiven h address
-gaugeGiven (polled a raise reset out answer after h e) address = gaugeGiven h address
+gaugeGiven (called c answer h e) address = gaugeBy c answer address (gaugeGiven h address)
 
 pub record BoardPoll (calls : Records) : Type 0 where
   -- What is written is a poll of the address that was asked for, never with both bits set, and with one of them only to a marked row.

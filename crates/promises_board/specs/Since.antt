@@ -12,31 +12,37 @@ use Rattle.board.specs.declared.Row.{Row}
 use Rattle.board.specs.Row.{inUse, setsFault, Minute, never, at}
 use Rattle.board.specs.Calls.{minuteTold}
 use Rattle.promises_order.specs.Places.{rowAt, OnBoard, Empty}
-use Rattle.promises_order.specs.Calls.{Records}
-use Rattle.promises_board.specs.History.{History, begun, enrolled, heard, removed, looked, polled}
+use Rattle.promises_order.specs.Calls.{Records, Call, enrol, hear, remove, look-up, poll, Answer}
+use Rattle.promises_board.specs.History.{History, begun, called}
 
 -- The hearings of an address in a history that answered a fault of the row, since the last one that answered 0 or since its enrolment. A hearing
 -- that did not reach the row is not counted.
 abbrev pub counted : ℕ → ℕ → ℕ
 counted number n = pick (eqb number 0) 0 (pick (setsFault number) (suc n) n)
 
+abbrev pub sinceBy : (c : Call) → Answer c → (address n : ℕ) → ℕ
+sinceBy (enrol settings a gauge) answer address n = pick (eqb a address && eqb answer 0) 0 n
+sinceBy (hear minute a count reply) answer address n = pick (eqb a address) (counted (answer .number) n) n
+sinceBy (remove a) answer address n = n
+sinceBy (look-up a) answer address n = n
+sinceBy (poll a raise reset out) answer address n = n
+
 unfoldable pub since : {calls : Records} {start rows : List Row} → History calls start rows → ℕ → ℕ
 since begun address = 0
-since (enrolled settings a gauge answer h e) address = pick (eqb a address && eqb answer 0) 0 (since h address)
-since (heard minute a count reply answer h e) address = pick (eqb a address) (counted (answer .number) (since h address)) (since h address)
-since (removed a answer h e) address = since h address
-since (looked a answer h e) address = since h address
-since (polled a raise reset out answer after h e) address = since h address
+since (called c answer h e) address = sinceBy c answer address (since h address)
 
 -- The minute of the latest hearing of an address that reached its row, good or faulty; never where there is none since its enrolment.
+abbrev pub latestBy : (c : Call) → Answer c → ℕ → Minute → Minute
+latestBy (enrol settings a gauge) answer address before = pick (eqb a address && eqb answer 0) never before
+latestBy (hear minute a count reply) answer address before =
+    pick (eqb a address && (eqb (answer .number) 0 || setsFault (answer .number))) (at minute) before
+latestBy (remove a) answer address before = before
+latestBy (look-up a) answer address before = before
+latestBy (poll a raise reset out) answer address before = before
+
 unfoldable pub latest : {calls : Records} {start rows : List Row} → History calls start rows → ℕ → Minute
 latest begun address = never
-latest (enrolled settings a gauge answer h e) address = pick (eqb a address && eqb answer 0) never (latest h address)
-latest (heard minute a count reply answer h e) address =
-    pick (eqb a address && (eqb (answer .number) 0 || setsFault (answer .number))) (at minute) (latest h address)
-latest (removed a answer h e) address = latest h address
-latest (looked a answer h e) address = latest h address
-latest (polled a raise reset out answer after h e) address = latest h address
+latest (called c answer h e) address = latestBy c answer address (latest h address)
 
 pub record BoardSince (calls : Records) : Type 0 where
   -- On a board begun empty the count of a row in use is 0 exactly where its fault is.
