@@ -194,7 +194,7 @@ fewer-by true m n g k e f = omega arith
 fewer-by false m n g k e f = omega arith
 
 -- the rows in use and those given back are together those taken
-call-balance : (rows : List Row) (c : Call) (answer : Answer c) (after : List Row) → Does asItWas rows c answer after → (g k : ℕ) → used (boardOf rows) + g ≡ k → used (boardOf after) + givenBy c answer g ≡ takenBy c answer k
+pub call-balance : (rows : List Row) (c : Call) (answer : Answer c) (after : List Row) → Does asItWas rows c answer after → (g k : ℕ) → used (boardOf rows) + g ≡ k → used (boardOf after) + givenBy c answer g ≡ takenBy c answer k
 call-balance rows (enrol settings address gauge) answer after e g k b =
     ap (λ (n : ℕ). n + g) (enrol-used rows after settings address gauge answer (enrol-done rows settings address gauge answer after e)) ∙ more-by (eqb answer 0) (used (boardOf rows)) g k b
 call-balance rows (hear minute address count reply) answer after e g k b =

@@ -1,45 +1,41 @@
 -- The view over any calls, by induction on the calls made side by side. Of two boards of one view both are so kept or neither. Neither: every call is refused
 -- by 38 and leaves them. Both: each call does what it did of the board as it was (`OneView`), but for where rows stand, and no look tells of that; and
 -- there stay as many free rows, for free rows and rows in use are together all rows, and the calls count the latter alike.
-use mathlib.Core.Path.{_≡_, refl, sym, _∙_, ap}
+use mathlib.Core.Path.{_≡_, refl, sym, _∙_, ap, subst}
 use mathlib.Core.Bool.{Bool, true, false}
 use mathlib.Core.List.{List, [], _∷_, _++_}
 use Prim.Native.Nat.{ℕ, suc, _+_, _<_, _≤_, min}
 use native.Mathlib.Omega.{arith}
 use lib.Dec.{eqb, ltb}
-use lib.ListN.{length, length-take, List·getD-eq-default}
+use lib.ListN.{length, length-take, take-append-drop, List·getD-eq-default}
 use borrow.Author.Tests.{lt-ltb, le-ltb}
 use Rattle.frame.specs.Pick.{pick}
-use Rattle.board.specs.declared.Heard.{Heard}
 use Rattle.board.specs.declared.Looked.{Looked}
 use Rattle.board.specs.declared.Row.{Row}
 use Rattle.board.specs.Row.{isFree, inUse, freeRow}
 use Rattle.board.specs.Rows.{boardOf, beyond, placeOf, rowOf, placeFree, hasFree}
-use Rattle.board.specs.Calls.{Enrols, Hears, Removes, PollsRow, told, refusedLook, enrolNumber, enrolRows, findNumber, removeRows}
-use Rattle.board.specs.Order.{kept, inOrder}
-use Rattle.promises_order.specs.OldBoard.{oldEnrolRows, oldRemoveRows}
+use Rattle.board.specs.Calls.{told, refusedLook}
 use Rattle.board.proofs.Numbers.{find-0}
 use Rattle.promises_order.specs.Places.{rowAt, Empty}
 use Rattle.promises_board.specs.Calls.{Unknown}
-use Rattle.promises_board.specs.View.{view, SameView, FreeAlike, freeIn, AsManyFree, SideBySide, both-begun, both-enrol, both-hear, both-remove, both-look, both-poll, AnsweredAlike, BoardView}
+use Rattle.promises_board.specs.View.{view, SameView, FreeAlike, freeIn, AsManyFree, FreeFor, SideBySide, both-begun, both-call, AnsweredAlike, BoardView}
 use Rattle.promises_frame.proofs.Cases.{by-lt}
 use Rattle.promises_board.proofs.Places.{same-row, board-on, place-row}
 use Rattle.promises_order.proofs.Count.{used, used-none, used-full, used-room}
-use Rattle.promises_board.proofs.Done.{off-unknown, enrol-done, remove-done, hear-done}
+use Rattle.promises_board.proofs.Done.{off-unknown}
 use Rattle.promises_board.proofs.After.{look-told}
 use Rattle.promises_board.proofs.Readings.{looked-bad, looked-unknown}
-use Rattle.promises_board.proofs.History.{more, enrol-used, hear-used, remove-used}
+use Rattle.promises_board.specs.History.{takenBy, givenBy}
+use Rattle.promises_board.proofs.History.{call-balance}
 use Rattle.promises_board.proofs.Since.{free-not-used}
 use Rattle.promises_board.proofs.OneView.{same-find, same-enrol, same-hear, enrol-same, hear-same, remove-same, poll-same}
 use Rattle.promises_order.specs.Order.{SoKept, SameInUse}
 use Rattle.promises_order.proofs.SoKept.{kept-so, not-kept}
 use Rattle.promises_order.proofs.Boards.{same-looked}
-use Rattle.promises_order.proofs.SameCalls.{Alike, enrol-alike, remove-alike}
-use Rattle.promises_order.specs.Calls.{enrol, hear, remove, look-up, poll}
-use Rattle.promises_order.proofs.Order.{in-order, out-of-order, self, old-enrol-length, old-remove-length, enrol-length, remove-length, board-order}
+use Rattle.promises_order.specs.Calls.{today, Call, enrol, hear, remove, look-up, poll, Answer, Does}
+use Rattle.promises_order.proofs.Order.{in-order, out-of-order, said, left-then, has-then, pair-same, in-use-then, board-order}
 use Rattle.promises_board.proofs.OldView.{view as oldView, SameView as OldSameView}
-use Rattle.promises_board.proofs.Free.{board-of}
-use Rattle.promises_board.proofs.Now.{by-order, enrolled-before, enrols-before, removed-before, removes-before}
+use Rattle.promises_board.proofs.Now.{by-order}
 use Rattle.promises_board.proofs.SameHistory.{on-both, row-both}
 use Rattle.promises_board.proofs.HistoryNow.{call-past, empty-kept, kept-once}
 
@@ -69,45 +65,29 @@ board-many rows after e = length-take 30 after ∙ ap (min 30) e ∙ sym (length
 free-after : (rows after : List Row) → length after ≡ length rows → freeIn (boardOf after) + used (boardOf after) ≡ freeIn (boardOf rows) + used (boardOf rows)
 free-after rows after e = free-and-used (boardOf after) ∙ board-many rows after e ∙ sym (free-and-used (boardOf rows))
 
--- one row taken on both boards, or on neither; one given back, or none
-taken-by : (t : Bool) (f g u v f' g' u' v' : ℕ) → f ≡ g → f' + u' ≡ f + u → g' + v' ≡ g + v → u' ≡ pick t (suc u) u → v' ≡ pick t (suc v) v → f' ≡ g'
-taken-by true f g u v f' g' u' v' e a b c d = omega arith
-taken-by false f g u v f' g' u' v' e a b c d = omega arith
+-- as many taken on both boards, and as many given back
+even-by : (f g u v f' g' u' v' m n : ℕ) → f ≡ g → f' + u' ≡ f + u → g' + v' ≡ g + v → u' + m ≡ u + n → v' + m ≡ v + n → f' ≡ g'
+even-by f g u v f' g' u' v' m n e a b c d = omega arith
 
-given-by : (t : Bool) (f g u v f' g' u' v' : ℕ) → f ≡ g → f' + u' ≡ f + u → g' + v' ≡ g + v → pick t (suc u') u' ≡ u → pick t (suc v') v' ≡ v → f' ≡ g'
-given-by true f g u v f' g' u' v' e a b c d = omega arith
-given-by false f g u v f' g' u' v' e a b c d = omega arith
+plus-by : (t : Bool) (n : ℕ) → pick t (suc n) n ≡ n + pick t 1 0
+plus-by true n = omega arith
+plus-by false n = omega arith
+
+taken-plus : (c : Call) (answer : Answer c) (n : ℕ) → takenBy c answer n ≡ n + takenBy c answer 0
+taken-plus (enrol settings address gauge) answer n = plus-by (eqb answer 0) n
+taken-plus (hear minute address count reply) answer n = omega arith
+taken-plus (remove address) answer n = omega arith
+taken-plus (look-up address) answer n = omega arith
+taken-plus (poll address raise reset out) answer n = omega arith
 
 -- The rows in use after a call of rows so kept, counted.
-module _ (rows after : List Row) (so : SoKept rows) where
-  made : (now : List Row) → length now ≡ length (boardOf rows) → after ≡ inOrder (boardOf rows) now (boardOf rows) ++ beyond rows → boardOf after ≡ now
-  made now long e = ap boardOf (e ∙ ap (λ (zs : List Row). zs ++ beyond rows) (in-order (boardOf rows) now (boardOf rows) (kept-so rows so))) ∙ board-of rows now long
-
-  enrol-counts : (settings address gauge answer : ℕ) → Enrols rows settings address gauge answer after → used (boardOf after) ≡ more answer (used (boardOf rows))
-  enrol-counts settings address gauge answer e =
-      let n : ℕ = enrolNumber (boardOf rows) settings address gauge in
-      let before : List Row = enrolled-before rows settings address gauge in
-      let was = enrols-before rows settings address gauge in
-      ap used (made (enrolRows (boardOf rows) settings address gauge) (enrol-length (boardOf rows) settings address gauge) (e .leaves))
-      ∙ sym (enrol-alike (boardOf rows) (boardOf rows) (self (boardOf rows) (kept-so rows so)) settings address gauge .many)
-      ∙ sym (ap used (board-of rows (oldEnrolRows (boardOf rows) settings address gauge) (old-enrol-length (boardOf rows) settings address gauge)))
-      ∙ enrol-used rows before settings address gauge n (enrol-done rows settings address gauge n before was)
-      ∙ ap (λ (m : ℕ). more m (used (boardOf rows))) (board-order .as-before rows (enrol settings address gauge) n answer before after so was e .0)
-
-  remove-counts : (address answer : ℕ) → Removes rows address answer after → more answer (used (boardOf after)) ≡ used (boardOf rows)
-  remove-counts address answer e =
-      let n : ℕ = findNumber (boardOf rows) address in
-      let before : List Row = removed-before rows address in
-      let was = removes-before rows address in
-      ap (more answer) (ap used (made (removeRows (boardOf rows) address) (remove-length (boardOf rows) address) (e .leaves))
-      ∙ sym (remove-alike (boardOf rows) (boardOf rows) (self (boardOf rows) (kept-so rows so)) address .many)
-      ∙ sym (ap used (board-of rows (oldRemoveRows (boardOf rows) address) (old-remove-length (boardOf rows) address))))
-      ∙ ap (λ (m : ℕ). more m (used (boardOf before))) (sym (board-order .as-before rows (remove address) n answer before after so was e .0))
-      ∙ remove-used rows before address n (remove-done rows address n before was)
-
-  hear-counts : (minute address count : ℕ) (reply : List ℕ) (answer : Heard) → Hears rows minute address count reply answer after → used (boardOf after) ≡ used (boardOf rows)
-  hear-counts minute address count reply answer e =
-      hear-used rows after minute address count reply answer (hear-done rows minute address count reply answer after (board-order .very-outcome rows (hear minute address count reply) answer after so tt e))
+call-counts : (rows after : List Row) → SoKept rows → (c : Call) (answer : Answer c) → Does today rows c answer after → used (boardOf after) + givenBy c answer 0 ≡ used (boardOf rows) + takenBy c answer 0
+call-counts rows after so c answer e =
+    let same = board-order .as-before rows c (said (boardOf rows) c) answer (left-then rows c) after so (has-then rows c) e .0 in
+    ap (λ (n : ℕ). n + givenBy c answer 0) (sym (in-use-then rows c answer after so e))
+    ∙ subst (λ (a : Answer c). used (boardOf (left-then rows c)) + givenBy c a 0 ≡ takenBy c a (used (boardOf rows))) same
+    (call-balance rows c (said (boardOf rows) c) (left-then rows c) (has-then rows c) 0 (used (boardOf rows)) (omega arith))
+    ∙ taken-plus c answer (used (boardOf rows))
 
 -- The view of rows so kept is what a look told of the board as it was; of others every look is refused by 38.
 module _ (rows : List Row) where
@@ -134,143 +114,77 @@ moved-view before after same address = same-looked (boardOf before) (boardOf aft
 to-view : (rows others : List Row) → SoKept rows → SoKept others → OldSameView rows others → SameView rows others
 to-view rows others so too old address = view-so rows so address ∙ old address ∙ sym (view-so others too address)
 
+-- What a call made of two boards of one view, as the board was: the same answer, and two boards of one view.
+module _ (rows others : List Row) (old : OldSameView rows others) (so : SoKept rows) (too : SoKept others) where
+  left-view : OldSameView (boardOf rows ++ beyond rows) (boardOf others ++ beyond others)
+  left-view k = ap (λ (zs : List Row). oldView zs k) (take-append-drop 30 rows) ∙ old k ∙ sym (ap (λ (zs : List Row). oldView zs k) (take-append-drop 30 others))
+
+  same-then : (c : Call) → FreeFor c rows others → (said (boardOf rows) c ≡ said (boardOf others) c) × OldSameView (left-then rows c) (left-then others c)
+  same-then (enrol settings address gauge) free =
+      let is = same-enrol rows others old free settings address gauge in
+      (is, enrol-same rows others _ _ old address settings gauge _ _ is (has-then rows (enrol settings address gauge)) (has-then others (enrol settings address gauge)))
+  same-then (hear minute address count reply) free =
+      let is = same-hear address count reply rows others old in
+      (is, hear-same rows others _ _ old address minute count reply _ _ is (has-then rows (hear minute address count reply)) (has-then others (hear minute address count reply)))
+  same-then (remove address) free =
+      let is = same-find rows others old address in
+      (is, remove-same rows others _ _ old address _ _ is (kept-once rows so) (kept-once others too) (has-then rows (remove address)) (has-then others (remove address)))
+  same-then (look-up address) free = (old address, left-view)
+  same-then (poll address raise reset out) free =
+      let is = poll-same rows others old address raise reset out _ _ _ _ (has-then rows (poll address raise reset out) .0) (has-then others (poll address raise reset out) .0) in
+      (pair-same _ _ _ _ (is .0) (is .1), left-view)
+
 -- One call of two boards of one view.
-module _ (rows others after later : List Row) (same : SameView rows others) where
-  stay-view : after ≡ rows → later ≡ others → SameView after later
-  stay-view e f address = ap (λ (zs : List Row). view zs address) e ∙ same address ∙ sym (ap (λ (zs : List Row). view zs address) f)
+module _ (rows others after later : List Row) (same : SameView rows others) (c : Call) (a b : Answer c) (e : Does today rows c a after) (f : Does today others c b later) where
+  kept-both : FreeFor c rows others → SoKept rows → SoKept others → OldSameView rows others → (a ≡ b) × SameView after later
+  kept-both free so too old =
+      let p = board-order .as-before rows c (said (boardOf rows) c) a (left-then rows c) after so (has-then rows c) e in
+      let q = board-order .as-before others c (said (boardOf others) c) b (left-then others c) later too (has-then others c) f in
+      let s = same-then rows others old so too c free in (
+        sym (p .0) ∙ s .0 ∙ q .0,
+        to-view after later (board-order .keeps rows c a after so e) (board-order .keeps others c b later too f)
+            (λ k. sym (moved-view (left-then rows c) after (p .1) k) ∙ s .1 k ∙ moved-view (left-then others c) later (q .1) k),
+      )
 
-  stay-many : AsManyFree rows others → after ≡ rows → later ≡ others → AsManyFree after later
-  stay-many many e f = ap (λ (zs : List Row). freeIn (boardOf zs)) e ∙ many ∙ sym (ap (λ (zs : List Row). freeIn (boardOf zs)) f)
+  call-both : FreeFor c rows others → (a ≡ b) × SameView after later
+  call-both free =
+      both-so rows others same (kept-both free)
+      (λ none none-too.
+      let p = board-order .is-38 rows c a after none e in
+      let q = board-order .is-38 others c b later none-too f in
+      (p .0 ∙ sym (q .0), λ k. ap (λ (zs : List Row). view zs k) (p .1) ∙ same k ∙ sym (ap (λ (zs : List Row). view zs k) (q .1))))
 
-  module _ (settings address gauge a b : ℕ) (e : Enrols rows settings address gauge a after) (f : Enrols others settings address gauge b later) where
-    enrol-kept : FreeAlike rows others → SoKept rows → SoKept others → OldSameView rows others → (a ≡ b) × SameView after later
-    enrol-kept free so too old =
-        let m : ℕ = enrolNumber (boardOf rows) settings address gauge in
-        let n : ℕ = enrolNumber (boardOf others) settings address gauge in
-        let x : List Row = enrolled-before rows settings address gauge in
-        let y : List Row = enrolled-before others settings address gauge in
-        let p = board-order .as-before rows (enrol settings address gauge) m a x after so (enrols-before rows settings address gauge) e in
-        let q = board-order .as-before others (enrol settings address gauge) n b y later too (enrols-before others settings address gauge) f in
-        let is : m ≡ n = same-enrol rows others old free settings address gauge in
-        let s : OldSameView x y = enrol-same rows others x y old address settings gauge m n is (enrols-before rows settings address gauge) (enrols-before others settings address gauge) in (
-          sym (p .0) ∙ is ∙ q .0,
-          to-view after later (board-order .keeps rows (enrol settings address gauge) a after so e) (board-order .keeps others (enrol settings address gauge) b later too f) (λ k. sym (moved-view x after (p .1) k) ∙ s k ∙ moved-view y later (q .1) k),
-        )
-
-    enrol-both : FreeAlike rows others → (a ≡ b) × SameView after later
-    enrol-both free =
-        both-so rows others same (enrol-kept free)
-        (λ none none-too.
-        let p = board-order .is-38 rows (enrol settings address gauge) a after none e in
-        let q = board-order .is-38 others (enrol settings address gauge) b later none-too f in
-        (p .0 ∙ sym (q .0), stay-view (p .1) (q .1)))
-
-    enrol-many : a ≡ b → AsManyFree rows others → AsManyFree after later
-    enrol-many is many =
-        both-so rows others same
-        (λ so too old.
-        taken-by (eqb a 0) (freeIn (boardOf rows)) (freeIn (boardOf others)) (used (boardOf rows)) (used (boardOf others)) _ _ _ _ many
-        (free-after rows after (call-past rows (enrol settings address gauge) a after e .as-many)) (free-after others later (call-past others (enrol settings address gauge) b later f .as-many))
-        (enrol-counts rows after so settings address gauge a e) (enrol-counts others later too settings address gauge b f ∙ ap (λ (n : ℕ). more n (used (boardOf others))) (sym is)))
-        (λ none none-too. stay-many many (board-order .is-38 rows (enrol settings address gauge) a after none e .1) (board-order .is-38 others (enrol settings address gauge) b later none-too f .1))
-
-  module _ (address a b : ℕ) (e : Removes rows address a after) (f : Removes others address b later) where
-    remove-kept : SoKept rows → SoKept others → OldSameView rows others → (a ≡ b) × SameView after later
-    remove-kept so too old =
-        let m : ℕ = findNumber (boardOf rows) address in
-        let n : ℕ = findNumber (boardOf others) address in
-        let x : List Row = removed-before rows address in
-        let y : List Row = removed-before others address in
-        let p = board-order .as-before rows (remove address) m a x after so (removes-before rows address) e in
-        let q = board-order .as-before others (remove address) n b y later too (removes-before others address) f in
-        let is : m ≡ n = same-find rows others old address in
-        let s : OldSameView x y = remove-same rows others x y old address m n is (kept-once rows so) (kept-once others too) (removes-before rows address) (removes-before others address) in (
-          sym (p .0) ∙ is ∙ q .0,
-          to-view after later (board-order .keeps rows (remove address) a after so e) (board-order .keeps others (remove address) b later too f) (λ k. sym (moved-view x after (p .1) k) ∙ s k ∙ moved-view y later (q .1) k),
-        )
-
-    remove-both : (a ≡ b) × SameView after later
-    remove-both =
-        both-so rows others same remove-kept
-        (λ none none-too.
-        let p = board-order .is-38 rows (remove address) a after none e in
-        let q = board-order .is-38 others (remove address) b later none-too f in
-        (p .0 ∙ sym (q .0), stay-view (p .1) (q .1)))
-
-    remove-many : a ≡ b → AsManyFree rows others → AsManyFree after later
-    remove-many is many =
-        both-so rows others same
-        (λ so too old.
-        given-by (eqb a 0) (freeIn (boardOf rows)) (freeIn (boardOf others)) (used (boardOf rows)) (used (boardOf others)) _ _ _ _ many
-        (free-after rows after (call-past rows (remove address) a after e .as-many)) (free-after others later (call-past others (remove address) b later f .as-many))
-        (remove-counts rows after so address a e) (ap (λ (n : ℕ). more n (used (boardOf later))) is ∙ remove-counts others later too address b f))
-        (λ none none-too. stay-many many (board-order .is-38 rows (remove address) a after none e .1) (board-order .is-38 others (remove address) b later none-too f .1))
-
-  module _ (minute address count : ℕ) (reply : List ℕ) (a b : Heard) (e : Hears rows minute address count reply a after) (f : Hears others minute address count reply b later) where
-    hear-kept : SoKept rows → SoKept others → OldSameView rows others → (a ≡ b) × SameView after later
-    hear-kept so too old =
-        let p = board-order .very-outcome rows (hear minute address count reply) a after so tt e in
-        let q = board-order .very-outcome others (hear minute address count reply) b later too tt f in
-        let is : a ≡ b = p .answers ∙ same-hear address count reply rows others old ∙ sym (q .answers) in
-        (is, to-view after later (board-order .keeps rows (hear minute address count reply) a after so e) (board-order .keeps others (hear minute address count reply) b later too f) (hear-same rows others after later old address minute count reply a b is p q))
-
-    hear-both : (a ≡ b) × SameView after later
-    hear-both =
-        both-so rows others same hear-kept
-        (λ none none-too.
-        let p = board-order .is-38 rows (hear minute address count reply) a after none e in
-        let q = board-order .is-38 others (hear minute address count reply) b later none-too f in
-        (p .0 ∙ sym (q .0), stay-view (p .1) (q .1)))
-
-    hear-many : AsManyFree rows others → AsManyFree after later
-    hear-many many =
-        both-so rows others same
-        (λ so too old.
-        taken-by false (freeIn (boardOf rows)) (freeIn (boardOf others)) (used (boardOf rows)) (used (boardOf others)) _ _ _ _ many
-        (free-after rows after (call-past rows (hear minute address count reply) a after e .as-many)) (free-after others later (call-past others (hear minute address count reply) b later f .as-many))
-        (hear-counts rows after so minute address count reply a e) (hear-counts others later too minute address count reply b f))
-        (λ none none-too. stay-many many (board-order .is-38 rows (hear minute address count reply) a after none e .1) (board-order .is-38 others (hear minute address count reply) b later none-too f .1))
-
-poll-both : (rows others : List Row) → SameView rows others → (address raise reset : ℕ) (out : List ℕ) (a b : ℕ) (after later : List ℕ) → PollsRow rows address raise reset out a after → PollsRow others address raise reset out b later → (a ≡ b) × (after ≡ later)
-poll-both rows others same address raise reset out a b after later e f =
-    both-so rows others same
-    (λ so too old. poll-same rows others old address raise reset out a b after later (board-order .very-outcome rows (poll address raise reset out) (a, after) rows so tt (e, refl) .0) (board-order .very-outcome others (poll address raise reset out) (b, later) others too tt (f, refl) .0))
-    (λ none none-too.
-    let p = board-order .is-38 rows (poll address raise reset out) (a, after) rows none (e, refl) .0 in
-    let q = board-order .is-38 others (poll address raise reset out) (b, later) others none-too (f, refl) .0 in
-    let is = p ∙ sym q in
-    (ap (λ (o : ℕ × List ℕ). o .0) is, ap (λ (o : ℕ × List ℕ). o .1) is))
+  call-many : a ≡ b → AsManyFree rows others → AsManyFree after later
+  call-many is many =
+      both-so rows others same
+      (λ so too old.
+      even-by (freeIn (boardOf rows)) (freeIn (boardOf others)) (used (boardOf rows)) (used (boardOf others)) (freeIn (boardOf after)) (freeIn (boardOf later)) (used (boardOf after)) (used (boardOf later)) (givenBy c a 0) (takenBy c a 0) many
+      (free-after rows after (call-past rows c a after e .as-many)) (free-after others later (call-past others c b later f .as-many)) (call-counts rows after so c a e)
+      (subst (λ (x : Answer c). used (boardOf later) + givenBy c x 0 ≡ used (boardOf others) + takenBy c x 0) (sym is) (call-counts others later too c b f)))
+      (λ none none-too.
+      ap (λ (zs : List Row). freeIn (boardOf zs)) (board-order .is-38 rows c a after none e .1) ∙ many
+      ∙ sym (ap (λ (zs : List Row). freeIn (boardOf zs)) (board-order .is-38 others c b later none-too f .1)))
 
 -- What holds of two boards side by side.
 record Even (rows others : List Row) : Type 0 where
   same : SameView rows others
   many : AsManyFree rows others
 
+free-for : (rows others : List Row) → AsManyFree rows others → (c : Call) → FreeFor c rows others
+free-for rows others many (enrol settings address gauge) = free-alike rows others many
+free-for rows others many (hear minute address count reply) = tt
+free-for rows others many (remove address) = tt
+free-for rows others many (look-up address) = tt
+free-for rows others many (poll address raise reset out) = tt
+
 -- Calls made of both keep it, and are answered alike.
 run : (start begin rows others : List Row) → Even start begin → (calls : SideBySide start begin rows others) → AnsweredAlike calls × Even rows others
 run start begin rows others even both-begun = (tt, even)
-run start begin after later even (both-enrol {rows} {others} settings address gauge a b calls e f) =
+run start begin after later even (both-call {rows} {others} c a b calls e f) =
     let r = run start begin rows others even calls in
     let l = r .1 in
-    let s = enrol-both rows others after later (l .same) settings address gauge a b e f (free-alike rows others (l .many)) in
-    ((s .0, r .0), record { same = s .1; many = enrol-many rows others after later (l .same) settings address gauge a b e f (s .0) (l .many) })
-run start begin after later even (both-hear {rows} {others} minute address count reply a b calls e f) =
-    let r = run start begin rows others even calls in
-    let l = r .1 in
-    let s = hear-both rows others after later (l .same) minute address count reply a b e f in
-    ((s .0, r .0), record { same = s .1; many = hear-many rows others after later (l .same) minute address count reply a b e f (l .many) })
-run start begin after later even (both-remove {rows} {others} address a b calls e f) =
-    let r = run start begin rows others even calls in
-    let l = r .1 in
-    let s = remove-both rows others after later (l .same) address a b e f in
-    ((s .0, r .0), record { same = s .1; many = remove-many rows others after later (l .same) address a b e f (s .0) (l .many) })
-run start begin rows others even (both-look address a b calls e f) =
-    let r = run start begin rows others even calls in
-    ((e .answers ∙ r .1 .same address ∙ sym (f .answers), r .0), r .1)
-run start begin rows others even (both-poll address raise reset out a b after later calls e f) =
-    let r = run start begin rows others even calls in
-    let p = poll-both rows others (r .1 .same) address raise reset out a b after later e f in
-    ((p .0, p .1, r .0), r .1)
+    let s = call-both rows others after later (l .same) c a b e f (free-for rows others (l .many) c) in
+    ((s .0, r .0), record { same = s .1; many = call-many rows others after later (l .same) c a b e f (s .0) (l .many) })
 
 -- An address is on the board exactly where the row of it is in use.
 module _ (rows : List Row) (address : ℕ) where
@@ -322,11 +236,7 @@ board-view =
     record {
       told = λ rows address answer e. e .answers;
       wherever = λ rows others so too same. to-view rows others so too (wherever rows others same);
-      enrol = λ rows others after later settings address gauge a b same free e f. enrol-both rows others after later same settings address gauge a b e f free;
-      hear = λ rows others after later minute address count reply a b same e f. hear-both rows others after later same minute address count reply a b e f;
-      remove = λ rows others after later address a b same e f. remove-both rows others after later same address a b e f;
-      look-up = λ rows others address a b same e f. e .answers ∙ same address ∙ sym (f .answers);
-      poll = λ rows others address raise reset out after later a b same e f. poll-both rows others same address raise reset out a b after later e f;
+      one-call = λ rows others after later c a b same free e f. call-both rows others after later same c a b e f free;
       any-calls = λ start begin rows others same many calls.
           let r = run start begin rows others (record { same = same; many = many }) calls in
           (r .0, r .1 .same, r .1 .many);

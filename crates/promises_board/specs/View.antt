@@ -7,15 +7,15 @@ use mathlib.Core.List.{List, [], _∷_}
 use Prim.Native.Nat.{ℕ, suc, _≤_, min}
 use lib.ListN.{length}
 use Rattle.frame.specs.Pick.{pick}
-use Rattle.board.specs.declared.Heard.{Heard}
 use Rattle.board.specs.declared.Looked.{Looked}
 use Rattle.board.specs.declared.Row.{Row}
 use Rattle.board.specs.Row.{isFree}
 use Rattle.board.specs.Rows.{boardOf, rowOf, hasFree}
 use Rattle.board.specs.Order.{inOrder}
-use Rattle.board.specs.Calls.{Enrols, Hears, Removes, LooksUp, PollsRow, lookedAt, refusedLook}
+use Rattle.board.specs.Calls.{LooksUp, lookedAt, refusedLook}
 use Rattle.promises_order.specs.Places.{Empty}
 use Rattle.promises_order.specs.Order.{SoKept}
+use Rattle.promises_order.specs.Calls.{today, Call, enrol, hear, remove, look-up, poll, Answer, Does}
 
 -- What a look tells of an address, and two boards of which every look tells the same.
 abbrev pub view : List Row → ℕ → Looked
@@ -36,28 +36,24 @@ freeIn (row ∷ rows) = pick (isFree row) (suc (freeIn rows)) (freeIn rows)
 abbrev pub AsManyFree : List Row → List Row → Type 0
 AsManyFree rows others = freeIn (boardOf rows) ≡ freeIn (boardOf others)
 
+-- What a call asks beside the view: an enrolment a free row on both or on neither, and no other call anything.
+abbrev pub FreeFor : Call → List Row → List Row → Type 0
+FreeFor (enrol settings address gauge) rows others = FreeAlike rows others
+FreeFor (hear minute address count reply) rows others = Unit {0}
+FreeFor (remove address) rows others = Unit {0}
+FreeFor (look-up address) rows others = Unit {0}
+FreeFor (poll address raise reset out) rows others = Unit {0}
+
 -- Two boards side by side: the same calls, the latest last, are made of both, each with an outcome that its contract allows.
 pub data SideBySide (start begin : List Row) : List Row → List Row → Type 0 where
   both-begun : SideBySide start begin start begin
-  both-enrol : {rows others after later : List Row} (settings address gauge a b : ℕ) → SideBySide start begin rows others
-      → Enrols rows settings address gauge a after → Enrols others settings address gauge b later → SideBySide start begin after later
-  both-hear : {rows others after later : List Row} (minute address count : ℕ) (reply : List ℕ) (a b : Heard) → SideBySide start begin rows others
-      → Hears rows minute address count reply a after → Hears others minute address count reply b later → SideBySide start begin after later
-  both-remove : {rows others after later : List Row} (address a b : ℕ) → SideBySide start begin rows others
-      → Removes rows address a after → Removes others address b later → SideBySide start begin after later
-  both-look : {rows others : List Row} (address : ℕ) (a b : Looked) → SideBySide start begin rows others
-      → LooksUp rows address a → LooksUp others address b → SideBySide start begin rows others
-  both-poll : {rows others : List Row} (address raise reset : ℕ) (out : List ℕ) (a b : ℕ) (after later : List ℕ) → SideBySide start begin rows others
-      → PollsRow rows address raise reset out a after → PollsRow others address raise reset out b later → SideBySide start begin rows others
+  both-call : {rows others after later : List Row} (c : Call) (a b : Answer c) → SideBySide start begin rows others
+      → Does today rows c a after → Does today others c b later → SideBySide start begin after later
 
 -- Every call of both was answered alike.
 abbrev pub AnsweredAlike : {start begin rows others : List Row} → SideBySide start begin rows others → Type 0
 AnsweredAlike both-begun = Unit {0}
-AnsweredAlike (both-enrol settings address gauge a b calls e f) = (a ≡ b) × AnsweredAlike calls
-AnsweredAlike (both-hear minute address count reply a b calls e f) = (a ≡ b) × AnsweredAlike calls
-AnsweredAlike (both-remove address a b calls e f) = (a ≡ b) × AnsweredAlike calls
-AnsweredAlike (both-look address a b calls e f) = (a ≡ b) × AnsweredAlike calls
-AnsweredAlike (both-poll address raise reset out a b after later calls e f) = (a ≡ b) × (after ≡ later) × AnsweredAlike calls
+AnsweredAlike (both-call c a b calls e f) = (a ≡ b) × AnsweredAlike calls
 
 pub record BoardView : Type 0 where
   -- The view is what a look tells.
@@ -67,15 +63,8 @@ pub record BoardView : Type 0 where
       → ((address : ℕ) → address ≤ 999 → rowOf address (boardOf rows) ≡ rowOf address (boardOf others))
       → SameView rows others
   -- One call of two boards of one view.
-  pub enrol : (rows others after later : List Row) (settings address gauge a b : ℕ) → SameView rows others → FreeAlike rows others
-      → Enrols rows settings address gauge a after → Enrols others settings address gauge b later → (a ≡ b) × SameView after later
-  pub hear : (rows others after later : List Row) (minute address count : ℕ) (reply : List ℕ) (a b : Heard) → SameView rows others
-      → Hears rows minute address count reply a after → Hears others minute address count reply b later → (a ≡ b) × SameView after later
-  pub remove : (rows others after later : List Row) (address a b : ℕ) → SameView rows others → Removes rows address a after
-      → Removes others address b later → (a ≡ b) × SameView after later
-  pub look-up : (rows others : List Row) (address : ℕ) (a b : Looked) → SameView rows others → LooksUp rows address a → LooksUp others address b → a ≡ b
-  pub poll : (rows others : List Row) (address raise reset : ℕ) (out after later : List ℕ) (a b : ℕ) → SameView rows others
-      → PollsRow rows address raise reset out a after → PollsRow others address raise reset out b later → (a ≡ b) × (after ≡ later)
+  pub one-call : (rows others after later : List Row) (c : Call) (a b : Answer c) → SameView rows others → FreeFor c rows others
+      → Does today rows c a after → Does today others c b later → (a ≡ b) × SameView after later
   -- Any calls of two boards of one view with as many free rows: every answer is the same, and so is the view at the end.
   pub any-calls : (start begin rows others : List Row) → SameView start begin → AsManyFree start begin
       → (calls : SideBySide start begin rows others) → AnsweredAlike calls × SameView rows others × AsManyFree rows others

@@ -26,6 +26,7 @@ use Rattle.promises_order.specs.Places.{rowAt, OnBoard, Empty}
 use Rattle.promises_order.specs.OldBoard.{oldEnrolRows, oldRemoveRows}
 use Rattle.promises_order.specs.Calls.{today, asItWas, Call, enrol, hear, remove, look-up, poll, Answer, Does, numberIn, refused38, MovesNone}
 use Rattle.promises_order.specs.Order.{SoKept, SameCalls, begin, call, AnsweredSame, Never38, SameInUse, Past, Front, IsPlaceFor, Inserted, Closed, BoardOrder}
+use Rattle.promises_order.proofs.Count.{used}
 use Rattle.promises_order.proofs.Held.{length-insert, length-without}
 use Rattle.promises_order.proofs.SoKept.{so-kept, kept-so, not-kept}
 use Rattle.promises_order.proofs.Boards.{same-find, same-enrol, same-looked, same-hear, same-named, same-poll, same-bytes}
@@ -191,7 +192,7 @@ said board (remove address) = findNumber board address
 said board (look-up address) = lookedAt board address
 said board (poll address raise reset out) = (rowPollNumber board address raise reset out, rowPollBytes board address raise reset out)
 
-abbrev made : List Row → Call → List Row
+abbrev pub made : List Row → Call → List Row
 made board (enrol settings address gauge) = enrolRows board settings address gauge
 made board (hear minute address count reply) = hearRows board minute address count reply
 made board (remove address) = removeRows board address
@@ -206,18 +207,18 @@ made-then board (look-up address) = board
 made-then board (poll address raise reset out) = board
 
 -- The record of any call, in these words.
-record Now (rows : List Row) (c : Call) (answer : Answer c) (after : List Row) : Type 0 where
-  answers : answer ≡ inOrder (boardOf rows) (said (boardOf rows) c) (refused38 c)
-  leaves : after ≡ inOrder (boardOf rows) (made (boardOf rows) c) (boardOf rows) ++ beyond rows
+pub record Now (rows : List Row) (c : Call) (answer : Answer c) (after : List Row) : Type 0 where
+  pub answers : answer ≡ inOrder (boardOf rows) (said (boardOf rows) c) (refused38 c)
+  pub leaves : after ≡ inOrder (boardOf rows) (made (boardOf rows) c) (boardOf rows) ++ beyond rows
 
 record Then (rows : List Row) (c : Call) (answer : Answer c) (after : List Row) : Type 0 where
   answers : answer ≡ said (boardOf rows) c
   leaves : after ≡ made-then (boardOf rows) c ++ beyond rows
 
-abbrev pair : ℕ → List ℕ → ℕ × List ℕ
+abbrev pub pair : ℕ → List ℕ → ℕ × List ℕ
 pair m n = (m, n)
 
-pair-same : (m x : ℕ) (n u : List ℕ) → m ≡ x → n ≡ u → pair m n ≡ pair x u
+pub pair-same : (m x : ℕ) (n u : List ℕ) → m ≡ x → n ≡ u → pair m n ≡ pair x u
 pair-same m x n u e f = ap (λ (i : ℕ). pair i n) e ∙ ap (pair x) f
 
 pair-picked : (t : Bool) (m x y : ℕ) (n u v : List ℕ) → m ≡ pick t x y → n ≡ pick t u v → pair m n ≡ pick t (pair x u) (pair y v)
@@ -228,7 +229,7 @@ unmoved : (t : Bool) (rows after : List Row) → after ≡ rows → after ≡ pi
 unmoved true rows after e = e ∙ sym (take-append-drop 30 rows)
 unmoved false rows after e = e ∙ sym (take-append-drop 30 rows)
 
-now : (rows : List Row) (c : Call) (answer : Answer c) (after : List Row) → Does today rows c answer after → Now rows c answer after
+pub now : (rows : List Row) (c : Call) (answer : Answer c) (after : List Row) → Does today rows c answer after → Now rows c answer after
 now rows (enrol settings address gauge) answer after e = record { answers = e .answers; leaves = e .leaves }
 now rows (hear minute address count reply) answer after e = record { answers = e .answers; leaves = e .leaves }
 now rows (remove address) answer after e = record { answers = e .answers; leaves = e .leaves }
@@ -269,7 +270,7 @@ said-small board (remove address) = find-small board address
 said-small board (look-up address) = look-small board address
 said-small board (poll address raise reset out) = poll-small board address raise reset out
 
-made-length : (board : List Row) (c : Call) → length (made board c) ≡ length board
+pub made-length : (board : List Row) (c : Call) → length (made board c) ≡ length board
 made-length board (enrol settings address gauge) = enrol-length board settings address gauge
 made-length board (hear minute address count reply) = hear-length board minute address count reply
 made-length board (remove address) = remove-length board address
@@ -356,6 +357,10 @@ self board k = record { held = λ a. refl; many = refl; long = refl; order = k }
 
 even : (rows : List Row) → SoKept rows → Both rows rows rows
 even rows so = record { alike = self (boardOf rows) (kept-so rows so); past = refl; past-too = refl; many = refl; many-too = refl }
+
+-- As many rows are in use as on the old board.
+pub in-use-then : (rows : List Row) (c : Call) (answer : Answer c) (after : List Row) → SoKept rows → Does today rows c answer after → used (boardOf (left-then rows c)) ≡ used (boardOf after)
+in-use-then rows c answer after so e = call-both rows rows rows (left-then rows c) after (even rows so) c (said (boardOf rows) c) answer (has-then rows c) e .2 .alike .many
 
 -- Which rows move: what an answer of 0 says of the board, and what is then left of it.
 enrol-moved : (rows : List Row) (settings address gauge : ℕ) (after : List Row) → SoKept rows → Enrols rows settings address gauge 0 after → (n i : ℕ) → Front rows n → IsPlaceFor rows address n i → Inserted rows i n (newRow settings address gauge) after
