@@ -30,6 +30,9 @@ use Rattle.board.specs.inside.ByValue.{mayPoll, orPoll}
 use Rattle.board.proofs.Faults.{sets-by, sets-7, sets-26, not-10, not-11, not-14, not-17}
 use Rattle.board.proofs.Numbers.{hear-11, hear-14, hear-17, readNumber, read-refused, read-outside, read-good, hear-read, find-11, find-17, find-0, may-11, may-17, may-by, may-28, may-0, denied, polled}
 use Rattle.promises_order.specs.Places.{rowAt}
+use Rattle.promises_order.specs.Calls.{today, Call, enrol, hear, remove, look-up, poll, Answer, Does}
+use Rattle.promises_order.proofs.Order.{board-order}
+use Rattle.promises_frame.specs.One.{One}
 use Rattle.promises_board.specs.Calls.{IsRowOf, OnlyRow, HearPromise, LookPromise, MayAsk, neither, to-raise, to-reset, PollPromise, BoardOneOutcome}
 use Rattle.promises_board.specs.Profiles.{OutOfRange}
 use Rattle.promises_frame.specs.Calls.{PollLeft}
@@ -43,31 +46,18 @@ use Rattle.promises_board.proofs.Places.{row-place, row-on, row-is, unk
 use Rattle.promises_board.proofs.After.{look-refused, look-told, hear-keeps, hear-faults, hear-sets, no-place, its-place, refused-is, lost-is, read-is, settings-10, at-most-9}
 use Rattle.promises_board.proofs.Told.{tells}
 
+same-of : (rows : List Row) (c : Call) (a b : Answer c × List Row) → Does today rows c (a .0) (a .1) → Does today rows c (b .0) (b .1) → a ≡ b
+same-of rows c a b p q = λ i. let s = board-order .one-outcome rows c (a .0) (b .0) (a .1) (b .1) p q in (s .0 i, s .1 i)
+
+one-of : (rows : List Row) (c : Call) → One (Answer c × List Row) (λ o. Does today rows c (o .0) (o .1))
+one-of rows (enrol settings address gauge) = record { same = same-of rows (enrol settings address gauge); some = (_, _); allowed = record { answers = refl; leaves = refl } }
+one-of rows (hear minute address count reply) = record { same = same-of rows (hear minute address count reply); some = (_, _); allowed = record { answers = refl; leaves = refl } }
+one-of rows (remove address) = record { same = same-of rows (remove address); some = (_, _); allowed = record { answers = refl; leaves = refl } }
+one-of rows (look-up address) = record { same = same-of rows (look-up address); some = (_, rows); allowed = (record { answers = refl }, refl) }
+one-of rows (poll address raise reset out) = record { same = same-of rows (poll address raise reset out); some = ((_, _), rows); allowed = (record { answers = refl; leaves = refl }, refl) }
+
 pub board-one-outcome : BoardOneOutcome
-board-one-outcome =
-    record {
-      enrol = λ rows settings address gauge. record {
-        same = λ a b p q i. ((p .answers ∙ sym (q .answers)) i, (p .leaves ∙ sym (q .leaves)) i);
-        some = (_, _);
-        allowed = record { answers = refl; leaves = refl };
-      };
-      hear = λ rows minute address count reply. record {
-        same = λ a b p q i. ((p .answers ∙ sym (q .answers)) i, (p .leaves ∙ sym (q .leaves)) i);
-        some = (_, _);
-        allowed = record { answers = refl; leaves = refl };
-      };
-      remove = λ rows address. record {
-        same = λ a b p q i. ((p .answers ∙ sym (q .answers)) i, (p .leaves ∙ sym (q .leaves)) i);
-        some = (_, _);
-        allowed = record { answers = refl; leaves = refl };
-      };
-      look-up = λ rows address. record { same = λ a b p q. p .answers ∙ sym (q .answers); some = _; allowed = record { answers = refl } };
-      poll = λ rows address raise reset out. record {
-        same = λ a b p q i. ((p .answers ∙ sym (q .answers)) i, (p .leaves ∙ sym (q .leaves)) i);
-        some = (_, _);
-        allowed = record { answers = refl; leaves = refl };
-      };
-    }
+board-one-outcome = record { any-call = one-of }
 
 -- the rows at a place, where the place and the row that was put are known by other names
 placed : (rows after : List Row) (at i : ℕ) (put row : Row) → i ≡ at → put ≡ row → at < length (boardOf rows) → after ≡ set (boardOf rows) at put ++ beyond rows → OnlyRow rows i row after

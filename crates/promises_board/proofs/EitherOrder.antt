@@ -23,7 +23,8 @@ use Rattle.promises_order.specs.OldBoard.{OldHears as Hears}
 use Rattle.board.proofs.Places.{place-le, place-before, place-at, place-is}
 use Rattle.promises_frame.proofs.Cases.{by-lt}
 use Rattle.promises_board.proofs.After.{numberBy}
-use Rattle.promises_board.proofs.Free.{board-of, hear-length}
+use Rattle.promises_order.proofs.Order.{hear-length}
+use Rattle.promises_board.proofs.Free.{board-of}
 
 -- One row set, to a row of which every test holds as of the one before it.
 module _ (board : List Row) (p : ℕ) (row : Row) (l : p < length board) (same : (x : ℕ) → holds x row ≡ holds x (getD board p freeRow)) where
@@ -200,14 +201,14 @@ pub either-order : (rows one both other again : List Row) (m a k n b l : ℕ) (y
 either-order rows one both other again m a k n b l y z p q r s ne hp hq hr hs =
     let board : List Row = boardOf rows in
     let en : b ≡ a → ⊥ = λ e. ne (sym e) in
-    let one-is : boardOf one ≡ hearRows board m a k y = ap boardOf (hp .leaves) ∙ board-of rows (hearRows board m a k y) (hear-length m a k y board) in
-    let other-is : boardOf other ≡ hearRows board n b l z = ap boardOf (hr .leaves) ∙ board-of rows (hearRows board n b l z) (hear-length n b l z board) in (
+    let one-is : boardOf one ≡ hearRows board m a k y = ap boardOf (hp .leaves) ∙ board-of rows (hearRows board m a k y) (hear-length board m a k y) in
+    let other-is : boardOf other ≡ hearRows board n b l z = ap boardOf (hr .leaves) ∙ board-of rows (hearRows board n b l z) (hear-length board n b l z) in (
       hp .answers ∙ sym (ap (λ (i : ℕ). heardAs i (hearPlace board a k y)) (second-number board n b l z m a k y en)) ∙ sym (ap (heardAs (hearNumber (hearRows board n b l z) a k y)) (second-named board n b l z m a k y en))
           ∙ ap (λ (zs : List Row). heardAs (hearNumber zs a k y) (hearPlace zs a k y)) (sym other-is) ∙ sym (hs .answers),
       hq .answers ∙ ap (λ (zs : List Row). heardAs (hearNumber zs b l z) (hearPlace zs b l z)) one-is
           ∙ ap (λ (i : ℕ). heardAs i (hearPlace (hearRows board m a k y) b l z)) (second-number board m a k y n b l z ne) ∙ ap (heardAs (hearNumber board b l z)) (second-named board m a k y n b l z ne) ∙ sym (hr .answers),
       hq .leaves ∙ ap (λ (zs : List Row). hearRows zs n b l z ++ beyond one) one-is ∙ ap (λ (zs : List Row). zs ++ beyond one) (rows-meet board m a k y n b l z ne)
           ∙ ap (λ (zs : List Row). hearRows zs m a k y ++ beyond one) (sym other-is)
-          ∙ ap (λ (zs : List Row). hearRows (boardOf other) m a k y ++ zs) (past rows one (hearRows board m a k y) (hear-length m a k y board) (hp .leaves) ∙ sym (past rows other (hearRows board n b l z) (hear-length n b l z board) (hr .leaves)))
+          ∙ ap (λ (zs : List Row). hearRows (boardOf other) m a k y ++ zs) (past rows one (hearRows board m a k y) (hear-length board m a k y) (hp .leaves) ∙ sym (past rows other (hearRows board n b l z) (hear-length board n b l z) (hr .leaves)))
           ∙ sym (hs .leaves),
     )

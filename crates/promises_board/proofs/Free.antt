@@ -7,28 +7,23 @@ use mathlib.Core.List.{List, [], _∷_, _++_, map, append-nil}
 use Prim.Native.Nat.{ℕ, zero, suc, _<_, _≤_, min}
 use native.Mathlib.Omega.{arith}
 use lib.Dec.{eqb, leb, ltb}
-use lib.ListN.{length, drop, set, getD, length-map, length-set, length-take, drop-of-length-le, List·getD-map, List·getD-eq-default}
+use lib.ListN.{length, set, getD, length-map, length-set, length-take, drop-of-length-le, List·getD-map, List·getD-eq-default}
 use lib.Seq.{take-at, take-all}
 use borrow.Author.Tests.{ltb-true, ltb-false}
-use Rattle.frame.specs.Faults.{_gives_, firstOf}
 use Rattle.frame.proofs.Both.{both-left}
-use Rattle.frame.specs.Kinds.{isSet}
-use Rattle.frame.specs.Line.{line, firstBytes}
-use Rattle.frame.specs.Poll.{pollLine}
+use Rattle.frame.specs.Line.{line}
 use Rattle.frame.specs.Pick.{pick}
 use Rattle.frame.specs.Level.{levelOf, placeLost}
 use Rattle.frame.specs.Reply.{modeIn, readingAt}
-use Rattle.board.specs.declared.Heard.{Heard}
 use Rattle.board.specs.declared.Row.{Row}
-use Rattle.board.specs.Gauge.{profileMisplaced, unmarked, atOnce}
 use Rattle.board.specs.Row.{isFree, inUse, freeRow, newRow, withReading, withFault, setsFault, heardAt}
 use Rattle.board.specs.Rows.{boardOf, beyond, holds, placeBy, placeOf, placeFree, rowOf, onBoard, hasFree}
 use Rattle.board.specs.Order.{allFree, keptFrom, kept, inOrder, pushed, insertRow, closed, withoutRow}
-use Rattle.board.specs.Calls.{enrolNumber, enrolRows, removeRows, hearNumber, hearPlace, hearRows, heardAs, findNumber, lookedAt, told, refusedLook, rowPollNumber, rowPollBytes}
+use Rattle.board.specs.Calls.{enrolNumber, enrolRows, removeRows, hearNumber, hearPlace, hearRows, findNumber}
 use Rattle.board.proofs.Places.{place-at}
-use Rattle.promises_order.proofs.Order.{pick-length}
-use Rattle.promises_order.proofs.Held.{length-insert, length-without}
-use Rattle.promises_board.proofs.After.{numberBy}
+use Rattle.promises_order.specs.Calls.{Call, enrol, hear, remove, look-up, poll, refused38}
+use Rattle.promises_order.proofs.Boards.{same-find as find-same, same-enrol as enrol-same, same-hear as hear-same}
+use Rattle.promises_order.proofs.Order.{pick-length, said, made, now, same-said, made-length}
 use Rattle.promises_board.specs.Free.{cleared, Alike, BoardFree}
 
 -- A row cleared is free where the row is, and holds an address where the row does.
@@ -140,6 +135,9 @@ module _ (x y : List Row) (alike : map cleared x ≡ map cleared y) where
   same-free : placeFree x ≡ placeFree y
   same-free = sym (place-clear isFree clear-free x) ∙ ap (placeBy isFree) alike ∙ place-clear isFree clear-free y
 
+  same-room : hasFree x ≡ hasFree y
+  same-room = ap (λ (k : ℕ). ltb k (length x)) same-free ∙ ap (ltb (placeFree y)) same-length
+
   same-kept : kept x ≡ kept y
   same-kept = sym (kept-clear 0 x) ∙ ap kept alike ∙ kept-clear 0 y
 
@@ -182,12 +180,7 @@ module _ (x y : List Row) (alike : map cleared x ≡ map cleared y) where
     same-on = ap (λ (k : ℕ). ltb k (length x)) same-place ∙ ap (λ (n : ℕ). ltb (placeOf address y) n) same-length
 
     same-find : findNumber x address ≡ findNumber y address
-    unfolding findNumber
-    same-find = ap (λ (t : Bool). firstOf (ltb 999 address gives 11 ∷ not t gives 17 ∷ [])) same-on
-
-    same-looked : lookedAt x address ≡ lookedAt y address
-    unfolding lookedAt
-    same-looked = ap (λ (n : ℕ). pick (eqb n 0) (told (rowOf address x)) (refusedLook n)) same-find ∙ ap (λ (r : Row). pick (eqb (findNumber y address) 0) (told r) (refusedLook (findNumber y address))) same-row
+    same-find = find-same x y address same-on
 
     -- the rows at a place set to the same row
     set-alike : (i j : ℕ) (row : Row) → i ≡ j → map cleared (set x i row) ≡ map cleared (set y j row)
@@ -205,11 +198,7 @@ module _ (x y : List Row) (alike : map cleared x ≡ map cleared y) where
 
     module _ (settings gauge : ℕ) where
       same-enrol : enrolNumber x settings address gauge ≡ enrolNumber y settings address gauge
-      unfolding enrolNumber
-      same-enrol =
-          ap (λ (t : Bool). firstOf (ltb 15 settings gives 10 ∷ ltb 999 address gives 11 ∷ profileMisplaced settings gauge gives 27 ∷ t gives 18 ∷ not (hasFree x) gives 19 ∷ [])) same-on
-          ∙ ap (λ (t : Bool). firstOf (ltb 15 settings gives 10 ∷ ltb 999 address gives 11 ∷ profileMisplaced settings gauge gives 27 ∷ onBoard address y gives 18 ∷ not t gives 19 ∷ []))
-          (ap (λ (k : ℕ). ltb k (length x)) same-free ∙ ap (λ (n : ℕ). ltb (placeFree y) n) same-length)
+      same-enrol = enrol-same x y address same-on settings gauge same-room
 
       enrol-alike : map cleared (enrolRows x settings address gauge) ≡ map cleared (enrolRows y settings address gauge)
       unfolding enrolRows
@@ -218,33 +207,13 @@ module _ (x y : List Row) (alike : map cleared x ≡ map cleared y) where
           (insert-clear (newRow settings address gauge) refl x ∙ ap (insertRow (newRow settings address gauge)) alike ∙ sym (insert-clear (newRow settings address gauge) refl y))
           ∙ ap (λ (n : ℕ). map cleared (pick (eqb n 0) (insertRow (newRow settings address gauge) y) y)) same-enrol
 
-    module _ (raise reset : ℕ) (out : List ℕ) where
-      -- the number of a poll, by whether the address is on the board and by its row
-      abbrev polls : Bool → Row → ℕ
-      polls on row =
-          firstOf (ltb 999 address gives 11 ∷ not on gives 17 ∷ unmarked (row .gauge) raise reset gives 28 ∷ atOnce raise reset gives 28 ∷ ltb (length out) 2 gives 15 ∷ [])
-
-      same-polled : rowPollNumber x address raise reset out ≡ rowPollNumber y address raise reset out
-      unfolding rowPollNumber
-      same-polled = ap (λ (t : Bool). polls t (rowOf address x)) same-on ∙ ap (λ (r : Row). polls (onBoard address y) r) same-row
-
-      same-bytes : rowPollBytes x address raise reset out ≡ rowPollBytes y address raise reset out
-      unfolding rowPollBytes
-      same-bytes = ap (λ (n : ℕ). pick (eqb n 0) (firstBytes 2 (pollLine address (isSet raise) (isSet reset)) ++ drop 2 out) out) same-polled
-
     module _ (minute count : ℕ) (reply : List ℕ) where
       same-hear : hearNumber x address count reply ≡ hearNumber y address count reply
-      unfolding hearNumber
-      same-hear =
-          ap (λ (t : Bool). numberBy address count reply t (rowOf address x)) same-on ∙ ap (λ (r : Row). numberBy address count reply (onBoard address y) r) same-row
+      same-hear = hear-same x y address same-on same-row count reply
 
       -- the place that a number names
       abbrev named : Row → ℕ → ℕ
       named row n = pick (eqb n 7) (placeLost (levelOf (modeIn (row .settings)) (line reply))) 0
-
-      same-named : hearPlace x address count reply ≡ hearPlace y address count reply
-      unfolding hearPlace
-      same-named = ap (λ (n : ℕ). named (rowOf address x) n) same-hear ∙ ap (λ (r : Row). named r (hearNumber y address count reply)) same-row
 
       -- what a hearing leaves, by its number
       abbrev left : List Row → Row → ℕ → ℕ → List Row
@@ -264,6 +233,13 @@ module _ (x y : List Row) (alike : map cleared x ≡ map cleared y) where
           left-alike (rowOf address x) (placeOf address x) (placeOf address y) (hearNumber x address count reply) same-place
           ∙ ap (λ (r : Row). map cleared (left y r (placeOf address y) (hearNumber x address count reply))) same-row
           ∙ ap (λ (n : ℕ). map cleared (left y (rowOf address y) (placeOf address y) n)) same-hear
+
+  made-alike : (c : Call) → map cleared (made x c) ≡ map cleared (made y c)
+  made-alike (enrol settings address gauge) = enrol-alike address settings gauge
+  made-alike (hear minute address count reply) = hear-alike address minute count reply
+  made-alike (remove address) = remove-alike address
+  made-alike (look-up address) = alike
+  made-alike (poll address raise reset out) = alike
 
 -- The board after a call is what the call left of the board.
 pub board-of : (rows now : List Row) → length now ≡ length (boardOf rows) → boardOf (now ++ beyond rows) ≡ now
@@ -287,56 +263,21 @@ after-alike Made long rows others after later e f same =
     ap (λ (zs : List Row). map cleared (boardOf zs)) e ∙ ap (map cleared) (board-of rows (Made (boardOf rows)) (long (boardOf rows))) ∙ same ∙ sym (ap (map cleared) (board-of others (Made (boardOf others)) (long (boardOf others))))
     ∙ sym (ap (λ (zs : List Row). map cleared (boardOf zs)) f)
 
-enrol-length : (settings address gauge : ℕ) (board : List Row) → length (enrolRows board settings address gauge) ≡ length board
-unfolding enrolRows
-enrol-length settings address gauge board = pick-length (eqb (enrolNumber board settings address gauge) 0) (insertRow (newRow settings address gauge) board) board (length-insert (newRow settings address gauge) board)
-
-remove-length : (address : ℕ) (board : List Row) → length (removeRows board address) ≡ length board
-unfolding removeRows
-remove-length address board = pick-length (eqb (findNumber board address) 0) (withoutRow address board) board (length-without address board)
-
-pub hear-length : (minute address count : ℕ) (reply : List ℕ) (board : List Row) → length (hearRows board minute address count reply) ≡ length board
-unfolding hearRows
-hear-length minute address count reply board = go (eqb (hearNumber board address count reply) 0) (setsFault (hearNumber board address count reply))
-  where
-    go : (s t : Bool) → length (pick s (set board (placeOf address board) (withReading (heardAt (rowOf address board) minute) (readingAt (rowOf address board .settings) count (line reply)) minute)) (pick t (set board (placeOf address board) (withFault (heardAt (rowOf address board) minute) (hearNumber board address count reply) (hearPlace board address count reply))) board)) ≡ length board
-    go true t = length-set board _ _
-    go false true = length-set board _ _
-    go false false = refl
-
 -- as many rows, with the order asked first
 ordered-length : (Made : List Row → List Row) → ((board : List Row) → length (Made board) ≡ length board) → (board : List Row) → length (inOrder board (Made board) board) ≡ length board
 ordered-length Made long board = pick-length (kept board) (Made board) board (long board)
 
-abbrev saidOf : List Row → ℕ → ℕ → List ℕ → Heard
-saidOf board address count reply = heardAs (hearNumber board address count reply) (hearPlace board address count reply)
-
 pub board-free : BoardFree
 board-free =
     record {
-      enrol = λ rows others after later settings address gauge a b same e f. (
-        e .answers ∙ same-answer (boardOf rows) (boardOf others) same (enrolNumber (boardOf rows) settings address gauge) (enrolNumber (boardOf others) settings address gauge) 38 (same-enrol (boardOf rows) (boardOf others) same address settings gauge) ∙ sym (f .answers),
-        after-alike (λ board. inOrder board (enrolRows board settings address gauge) board) (ordered-length (λ board. enrolRows board settings address gauge) (enrol-length settings address gauge)) rows others after later (e .leaves) (f .leaves)
-            (ordered-alike (boardOf rows) (boardOf others) same (enrolRows (boardOf rows) settings address gauge) (enrolRows (boardOf others) settings address gauge) (enrol-alike (boardOf rows) (boardOf others) same address settings gauge)),
-      );
-      hear = λ rows others after later minute address count reply a b same e f. (
-        e .answers
-            ∙ same-answer (boardOf rows) (boardOf others) same (saidOf (boardOf rows) address count reply) (saidOf (boardOf others) address count reply) (heardAs 38 0)
-            (ap (λ (n : ℕ). heardAs n (hearPlace (boardOf rows) address count reply)) (same-hear (boardOf rows) (boardOf others) same address minute count reply)
-            ∙ ap (heardAs (hearNumber (boardOf others) address count reply)) (same-named (boardOf rows) (boardOf others) same address minute count reply))
-            ∙ sym (f .answers),
-        after-alike (λ board. inOrder board (hearRows board minute address count reply) board) (ordered-length (λ board. hearRows board minute address count reply) (hear-length minute address count reply)) rows others after later (e .leaves) (f .leaves)
-            (ordered-alike (boardOf rows) (boardOf others) same (hearRows (boardOf rows) minute address count reply) (hearRows (boardOf others) minute address count reply) (hear-alike (boardOf rows) (boardOf others) same address minute count reply)),
-      );
-      remove = λ rows others after later address a b same e f. (
-        e .answers ∙ same-answer (boardOf rows) (boardOf others) same (findNumber (boardOf rows) address) (findNumber (boardOf others) address) 38 (same-find (boardOf rows) (boardOf others) same address) ∙ sym (f .answers),
-        after-alike (λ board. inOrder board (removeRows board address) board) (ordered-length (λ board. removeRows board address) (remove-length address)) rows others after later (e .leaves) (f .leaves)
-            (ordered-alike (boardOf rows) (boardOf others) same (removeRows (boardOf rows) address) (removeRows (boardOf others) address) (remove-alike (boardOf rows) (boardOf others) same address)),
-      );
-      look-up = λ rows others address a b same e f.
-          e .answers ∙ same-answer (boardOf rows) (boardOf others) same (lookedAt (boardOf rows) address) (lookedAt (boardOf others) address) (refusedLook 38) (same-looked (boardOf rows) (boardOf others) same address) ∙ sym (f .answers);
-      poll = λ rows others address raise reset out after later a b same e f. (
-        e .answers ∙ same-answer (boardOf rows) (boardOf others) same (rowPollNumber (boardOf rows) address raise reset out) (rowPollNumber (boardOf others) address raise reset out) 38 (same-polled (boardOf rows) (boardOf others) same address raise reset out) ∙ sym (f .answers),
-        e .leaves ∙ same-answer (boardOf rows) (boardOf others) same (rowPollBytes (boardOf rows) address raise reset out) (rowPollBytes (boardOf others) address raise reset out) out (same-bytes (boardOf rows) (boardOf others) same address raise reset out) ∙ sym (f .leaves),
-      );
+      any-call = λ rows others after later c a b same e f.
+          let p = now rows c a after e in
+          let q = now others c b later f in (
+            p .answers
+                ∙ same-answer (boardOf rows) (boardOf others) same (said (boardOf rows) c) (said (boardOf others) c) (refused38 c)
+                (same-said (boardOf rows) (boardOf others) (same-on (boardOf rows) (boardOf others) same) (same-row (boardOf rows) (boardOf others) same) (same-room (boardOf rows) (boardOf others) same) c)
+                ∙ sym (q .answers),
+            after-alike (λ board. inOrder board (made board c) board) (ordered-length (λ board. made board c) (λ board. made-length board c)) rows others after later (p .leaves) (q .leaves)
+                (ordered-alike (boardOf rows) (boardOf others) same (made (boardOf rows) c) (made (boardOf others) c) (made-alike (boardOf rows) (boardOf others) same c)),
+          );
     }

@@ -23,6 +23,7 @@ use Rattle.board.specs.Calls.{Enrols, Hears, Removes, LooksUp, PollsRow, heardA
 use Rattle.promises_frame.specs.One.{One}
 use Rattle.promises_frame.specs.Bits.{bitAt}
 use Rattle.promises_order.specs.Places.{rowAt, OnBoard}
+use Rattle.promises_order.specs.Calls.{today, Call, Answer, Does}
 use Rattle.promises_order.specs.Order.{SoKept, Front, IsPlaceFor, Inserted, Closed}
 use Rattle.promises_board.specs.Profiles.{OutOfRange, Checked}
 
@@ -164,10 +165,4 @@ pub record BoardCalls : Type 0 where
 
 -- Of each call any two outcomes that its contract allows, answer and memory, are equal, and there is one.
 pub record BoardOneOutcome : Type 0 where
-  pub enrol : (rows : List Row) (settings address gauge : ℕ) → One (ℕ × List Row) (λ o. Enrols rows settings address gauge (o .0) (o .1))
-  pub hear : (rows : List Row) (minute address count : ℕ) (reply : List ℕ)
-      → One (Heard × List Row) (λ o. Hears rows minute address count reply (o .0) (o .1))
-  pub remove : (rows : List Row) (address : ℕ) → One (ℕ × List Row) (λ o. Removes rows address (o .0) (o .1))
-  pub look-up : (rows : List Row) (address : ℕ) → One Looked (LooksUp rows address)
-  pub poll : (rows : List Row) (address raise reset : ℕ) (out : List ℕ)
-      → One (ℕ × List ℕ) (λ o. PollsRow rows address raise reset out (o .0) (o .1))
+  pub any-call : (rows : List Row) (c : Call) → One (Answer c × List Row) (λ o. Does today rows c (o .0) (o .1))

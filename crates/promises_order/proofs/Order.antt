@@ -284,20 +284,21 @@ then-length board (remove address) = old-remove-length board address
 then-length board (look-up address) = refl
 then-length board (poll address raise reset out) = refl
 
--- Of boards alike the answers are the same, and they stay alike.
-module _ (x y : List Row) (w : Alike x y) where
-  same-said : (c : Call) → said x c ≡ said y c
-  same-said (enrol settings address gauge) = same-enrol x y address (on-same x y w address) settings gauge (free-same x y w)
+-- Two boards that say the same of every address, and of a free row, are answered alike.
+module _ (x y : List Row) (on : (a : ℕ) → onBoard a x ≡ onBoard a y) (there : (a : ℕ) → rowOf a x ≡ rowOf a y) (free : hasFree x ≡ hasFree y) where
+  pub same-said : (c : Call) → said x c ≡ said y c
+  same-said (enrol settings address gauge) = same-enrol x y address (on address) settings gauge free
   same-said (hear minute address count reply) =
-      ap (λ (i : ℕ). heardAs i (hearPlace x address count reply)) (same-hear x y address (on-same x y w address) (row-same x y w address) count reply)
-      ∙ ap (heardAs (hearNumber y address count reply)) (same-named x y address (on-same x y w address) (row-same x y w address) count reply)
-  same-said (remove address) = same-find x y address (on-same x y w address)
-  same-said (look-up address) = same-looked x y address (on-same x y w address) (row-same x y w address)
+      ap (λ (i : ℕ). heardAs i (hearPlace x address count reply)) (same-hear x y address (on address) (there address) count reply)
+      ∙ ap (heardAs (hearNumber y address count reply)) (same-named x y address (on address) (there address) count reply)
+  same-said (remove address) = same-find x y address (on address)
+  same-said (look-up address) = same-looked x y address (on address) (there address)
   same-said (poll address raise reset out) =
       pair-same (rowPollNumber x address raise reset out) (rowPollNumber y address raise reset out) (rowPollBytes x address raise reset out) (rowPollBytes y address raise reset out)
-      (same-poll x y address (on-same x y w address) (row-same x y w address) raise reset out)
-      (same-bytes x y address (on-same x y w address) (row-same x y w address) raise reset out)
+      (same-poll x y address (on address) (there address) raise reset out) (same-bytes x y address (on address) (there address) raise reset out)
 
+-- Boards alike stay so.
+module _ (x y : List Row) (w : Alike x y) where
   made-alike : (c : Call) → Alike (made-then x c) (made y c)
   made-alike (enrol settings address gauge) = enrol-alike x y w settings address gauge
   made-alike (hear minute address count reply) = hear-alike x y w minute address count reply
@@ -314,7 +315,7 @@ call-both start rows others after later b c m n e f =
     let p = then rows c m after e in
     let q = now others c n later f in
     let is : n ≡ said (boardOf others) c = q .answers ∙ in-order (boardOf others) (said (boardOf others) c) (refused38 c) (w .order) in (
-      p .answers ∙ same-said (boardOf rows) (boardOf others) w c ∙ sym is,
+      p .answers ∙ same-said (boardOf rows) (boardOf others) (on-same (boardOf rows) (boardOf others) w) (row-same (boardOf rows) (boardOf others) w) (free-same (boardOf rows) (boardOf others) w) c ∙ sym is,
       not-38 (numberIn c n) (numberIn c (said (boardOf others) c)) (ap (numberIn c) is) (said-small (boardOf others) c),
       both-after start rows others after later (made-then (boardOf rows) c) (made (boardOf others) c) b (then-length (boardOf rows) c) (made-length (boardOf others) c) (p .leaves)
           (q .leaves ∙ ap (λ (zs : List Row). zs ++ beyond others) (in-order (boardOf others) (made (boardOf others) c) (boardOf others) (w .order))) (made-alike (boardOf rows) (boardOf others) w c),
