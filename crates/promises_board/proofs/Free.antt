@@ -7,7 +7,7 @@ use mathlib.Core.List.{List, [], _∷_, _++_, map, append-nil}
 use Prim.Native.Nat.{ℕ, zero, suc, _<_, _≤_, min}
 use native.Mathlib.Omega.{arith}
 use lib.Dec.{eqb, leb, ltb}
-use lib.ListN.{length, set, getD, length-map, length-set, length-take, drop-of-length-le, List·getD-map, List·getD-eq-default}
+use lib.ListN.{length, set, getD, length-map, length-take, drop-of-length-le, List·getD-map, List·getD-eq-default}
 use lib.Seq.{take-at, take-all}
 use borrow.Author.Tests.{ltb-true, ltb-false}
 use Rattle.frame.proofs.Both.{both-left}

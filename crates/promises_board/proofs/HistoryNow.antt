@@ -1,7 +1,7 @@
 -- Any sequence of today's calls. Rows so kept stay so by `BoardOrder`, one call after another, and none of them is answered 38; addresses that rise stand
 -- once each. That the rows stay as many, and those past the thirtieth what they were, is so of each call, whatever rows were lent. Room is that of the
 -- history beside it (`SameHistory`).
-use mathlib.Core.Path.{_≡_, refl, _∙_, ap, subst}
+use mathlib.Core.Path.{_≡_, refl, _∙_, ap}
 use mathlib.Core.Bool.{true, false}
 use mathlib.Core.List.{List}
 use Prim.Native.Nat.{ℕ, _+_, _<_, _≤_, min}

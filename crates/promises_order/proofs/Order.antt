@@ -13,19 +13,17 @@ use Rattle.frame.specs.Faults.{Test, _gives_, firstOf}
 use Rattle.frame.specs.Line.{line, formed}
 use Rattle.frame.specs.Pick.{pick}
 use Rattle.frame.specs.Reply.{replyTests, replyFault, readingAt}
-use Rattle.board.specs.declared.Heard.{Heard}
-use Rattle.board.specs.declared.Looked.{Looked}
 use Rattle.board.specs.declared.Row.{Row}
 use Rattle.board.specs.Gauge.{profileMisplaced, unmarked, atOnce}
 use Rattle.board.specs.Row.{isFree, inUse, freeRow, newRow, withReading, withFault, setsFault, heardAt}
 use Rattle.board.specs.Rows.{boardOf, beyond, placeOf, rowOf, onBoard, hasFree}
 use Rattle.board.specs.Order.{kept, inOrder, insertRow, withoutRow}
-use Rattle.board.specs.Calls.{Enrols, Hears, Removes, LooksUp, PollsRow, heardAs, refusedLook, told, enrolNumber, enrolRows, faultBy, outsideAt, hearNumber, hearPlace, hearRows, findNumber, removeRows, lookedAt, rowPollNumber, rowPollBytes}
+use Rattle.board.specs.Calls.{Enrols, Removes, heardAs, refusedLook, told, enrolNumber, enrolRows, faultBy, outsideAt, hearNumber, hearPlace, hearRows, findNumber, removeRows, lookedAt, rowPollNumber, rowPollBytes}
 use Rattle.board.proofs.Order.{neither}
 use Rattle.promises_order.specs.Places.{rowAt, OnBoard, Empty}
 use Rattle.promises_order.specs.OldBoard.{oldEnrolRows, oldRemoveRows}
 use Rattle.promises_order.specs.Calls.{today, asItWas, Call, enrol, hear, remove, look-up, poll, Answer, Does, numberIn, refused38, MovesNone}
-use Rattle.promises_order.specs.Order.{SoKept, SameCalls, begin, call, AnsweredSame, Never38, SameInUse, Past, Front, IsPlaceFor, Inserted, Closed, BoardOrder}
+use Rattle.promises_order.specs.Order.{SoKept, SameCalls, begin, call, AnsweredSame, Never38, Past, Front, IsPlaceFor, Inserted, Closed, BoardOrder}
 use Rattle.promises_order.proofs.Count.{used}
 use Rattle.promises_order.proofs.Held.{length-insert, length-without}
 use Rattle.promises_order.proofs.SoKept.{so-kept, kept-so, not-kept}
@@ -309,8 +307,6 @@ module _ (x y : List Row) (w : Alike x y) where
 -- One call of both.
 call-both : (start rows others after later : List Row) → Both start rows others → (c : Call) (m n : Answer c) → Does asItWas rows c m after → Does today others c n later → (m ≡ n) × (numberIn c n ≡ 38 → ⊥) × Both start after later
 call-both start rows others after later b c m n e f =
-    let x : List Row = boardOf rows in
-    let y : List Row = boardOf others in
     let w : Alike (boardOf rows) (boardOf others) = b .alike in
     let p = then rows c m after e in
     let q = now others c n later f in
