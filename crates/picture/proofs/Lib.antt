@@ -1,0 +1,3 @@
+-- The laws that several proofs cite, each in a file named for what it speaks of.
+pub mod Extents
+pub mod Rooms

@@ -1,0 +1,46 @@
+-- `picture::section::put_frame` meets its contract: the beginning, the layer, the end. Assumes nothing.
+use mathlib.Core.Path.{_≡_, refl, sym, ap, _∙_}
+use native.Mathlib.Omega.{arith}
+use Rattle.listing.proofs.Putting.{then, text-is, at-most, nothing-put}
+use Rattle.picture.specs.Page.{frameText}
+use borrow.Author.Needs.{needs}
+use Rattle.picture.proofs.section.put_frame.Statement.{statement}
+use Rattle.picture.proofs.section.put_frame.Tie as tie
+
+put-begin-requires : tie.Need-put-begin-requires
+put-begin-requires c κs = search needs
+
+put-layer-requires : tie.Need-put-layer-requires
+put-layer-requires c κs = search needs
+
+slice-aggregate-put-choice : tie.Need-slice-aggregate-put-choice
+slice-aggregate-put-choice c = search needs
+
+slice-aggregate-put-choice-2 : tie.Need-slice-aggregate-put-choice-2
+slice-aggregate-put-choice-2 c = search needs
+
+put-choice-requires : tie.Need-put-choice-requires
+put-choice-requires c κs = search needs
+
+same-length : tie.Need-same-length
+same-length c = search needs
+
+returns : tie.Need-returns
+unfolding frameText
+returns c =
+    let end = c .before .before in
+    let drawn = end .before .before .before .before .before .before in
+    let begun = drawn .before .before .before .before in
+    at-most (omega arith) (then (then (begun .put-begin .ensures) (drawn .put-layer .ensures)) (end .put-choice .ensures))
+
+pub put-frame-spec : {M : Type 1} → statement M
+put-frame-spec =
+    tie.close
+    (tie.spec
+    put-begin-requires
+    put-layer-requires
+    slice-aggregate-put-choice
+    slice-aggregate-put-choice-2
+    put-choice-requires
+    same-length
+    returns)

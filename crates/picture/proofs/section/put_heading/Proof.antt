@@ -1,0 +1,68 @@
+-- `picture::section::put_heading` meets its contract: its parts are put one after another. Assumes nothing.
+use mathlib.Core.Path.{_≡_, refl, sym, ap, _∙_}
+use native.Mathlib.Omega.{arith}
+use Rattle.listing.proofs.Putting.{then, text-is, at-most, nothing-put}
+use Rattle.picture.specs.Page.{headingText}
+use borrow.Author.Needs.{needs}
+use Rattle.picture.proofs.section.put_heading.Statement.{statement}
+use Rattle.picture.proofs.section.put_heading.Tie as tie
+
+slice-aggregate-put-form : tie.Need-slice-aggregate-put-form
+slice-aggregate-put-form c = search needs
+
+cast-t16 : tie.Need-cast-t16
+cast-t16 c = search needs
+
+slice-aggregate-put-form-2 : tie.Need-slice-aggregate-put-form-2
+slice-aggregate-put-form-2 c = search needs
+
+put-form-requires : tie.Need-put-form-requires
+put-form-requires c κs = search needs
+
+put-mode-requires : tie.Need-put-mode-requires
+put-mode-requires c κs = search needs
+
+slice-aggregate-put-word : tie.Need-slice-aggregate-put-word
+slice-aggregate-put-word c = search needs
+
+put-word-requires : tie.Need-put-word-requires
+put-word-requires c κs = search needs
+
+put-type-requires : tie.Need-put-type-requires
+put-type-requires c κs = search needs
+
+slice-aggregate-put-word-2 : tie.Need-slice-aggregate-put-word-2
+slice-aggregate-put-word-2 c = search needs
+
+put-word-requires-2 : tie.Need-put-word-requires-2
+put-word-requires-2 c κs = search needs
+
+same-length : tie.Need-same-length
+same-length c = search needs
+
+returns : tie.Need-returns
+unfolding headingText
+returns c =
+    let end = c .before .before in
+    let kind = end .before .before .before .before .before in
+    let gap = kind .before .before .before .before in
+    let mode = gap .before .before .before .before .before in
+    let begun = mode .before .before .before .before in
+    at-most (omega arith) (then (then (then (then (begun .put-form .ensures) (mode .put-mode .ensures)) (gap .put-word .ensures)) (kind .put-type .ensures)) (end .put-word2 .ensures))
+
+pub put-heading-spec : {M : Type 1} → statement M
+put-heading-spec =
+    tie.close
+    (tie.spec
+    slice-aggregate-put-form
+    cast-t16
+    slice-aggregate-put-form-2
+    put-form-requires
+    put-mode-requires
+    slice-aggregate-put-word
+    put-word-requires
+    put-type-requires
+    slice-aggregate-put-word-2
+    put-word-requires-2
+    same-length
+    returns)

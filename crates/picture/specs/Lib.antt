@@ -1,0 +1,6 @@
+-- Our request 18, "A month to look at": what the page of a card says.
+pub mod Extent
+pub mod Page
+pub mod Calls
+-- What only the code needs.
+pub mod inside
