@@ -20,7 +20,7 @@
  *
  * Some answers have padding (struct sisal_poll, sisal_reply and sisal_item one byte, sisal_slot two, sisal_made three, sisal_lines_told
  * six, sisal_done, sisal_kept, sisal_rounded and sisal_rounded_page seven). It holds anything: compare answers field by field. Rows,
- * summaries, rounds and what is heard of the lines so far have none.
+ * summaries, rounds, the stores of a save and what is heard of the lines so far have none.
  */
 #ifndef SISALCOVE_H
 #define SISALCOVE_H
