@@ -1,0 +1,30 @@
+-- `recorder::told::reading` meets its contract: each field is what a call of `frame::kinds` answers.
+use mir.Syntax.{w16}
+use mir.Facts.{toZ-ofZ}
+use borrow.Author.Needs.{needs}
+use Rattle.export.proofs.told.reading.Statement.{statement}
+use Rattle.export.proofs.told.reading.Tie as tie
+
+tenths-of-requires : tie.Need-tenths-of-requires
+tenths-of-requires c κs = search needs
+
+kind-of-requires : tie.Need-kind-of-requires
+kind-of-requires c κs = search needs
+
+marked-requires : tie.Need-marked-requires
+marked-requires c κs = search needs
+
+marked-requires-2 : tie.Need-marked-requires-2
+marked-requires-2 c κs = search needs
+
+returns : tie.Need-returns
+returns c =
+    let m = c .before in
+    let k = m .before in
+    let t = k .before in
+    simp (toZ-ofZ {w = w16} {z = t .tenths-of .result} (record { sfits = t .tenths-of .ok }), k .kind-of .ensures, m .marked .ensures, c .marked2 .ensures) (cc (t .tenths-of .ensures))
+
+pub reading-spec : {M : Type 1} → statement M
+reading-spec =
+    tie.close
+    (tie.spec tenths-of-requires kind-of-requires marked-requires marked-requires-2 returns)

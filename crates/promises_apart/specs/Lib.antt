@@ -1,3 +1,0 @@
--- Item records and areas, a folder for each and a file for each promise.
-pub mod enraf
-pub mod areas

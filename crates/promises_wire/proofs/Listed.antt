@@ -1,0 +1,164 @@
+-- The listing of a sheet whose slots are a row from the first on, slot by slot: the lines joined are those of the row, since a blank slot has none, and the
+-- list is as long as the row has records. Record by record these are the lines that are expected.
+use mathlib.Core.Path.{_≡_, refl, sym, ap, ap₂, _∙_}
+use mathlib.Core.Bool.{Bool, true, false}
+use mathlib.Core.List.{List, [], _∷_, _++_, map, append-nil, append-assoc}
+use Prim.Native.Nat.{ℕ, zero, suc, _+_, _<_, _≤_}
+use native.Mathlib.Omega.{arith}
+use native.Mathlib.Nat.{add-zero, zero-add}
+use borrow.Author.Tests.{eqb-true, ltb-false}
+use lib.Dec.{leb}
+use lib.ListN.{length, getD, length-append}
+use Rattle.frame.specs.Pick.{pick}
+use Rattle.frame.specs.Reply.{replyOf}
+use Rattle.sheet.specs.Record.{lengthOf}
+use Rattle.sheet.specs.Slots.{Slot, blank, spoiled, holds, recordIn, sizeAllowed, slots, slotAt, slotOf, listOf}
+use Rattle.sheet.specs.Save.{storesMade}
+use Rattle.listing.specs.Text.{ascii, decimal}
+use Rattle.listing.specs.Lines.{headLine, recordText, lineOf, linesUpTo, countLine, listingOf}
+use Rattle.promises_card.specs.sheet.History.{Save, allStores, isClosed, recordsOf}
+use Rattle.promises_card.specs.sheet.SlotsInOrder.{hasSlot, slotOfSave, slotsOfSaves}
+use Rattle.promises_card.specs.listing.InOrder.{joined}
+use Rattle.promises_card.proofs.sheet.ListAndFull.{slots-of, long-so, sized, list-and-full}
+use Rattle.promises_card.proofs.sheet.SlotsInOrder.{fills, slots-in-order}
+use Rattle.promises_wire.specs.Expected.{Known, storesFor, uncut, lineFor, linesFrom, uncutFrom, listingFor}
+use Rattle.promises_wire.proofs.Parts.{Order, Stored}
+use Rattle.promises_wire.proofs.Rows.{entryIn, takesSlot, slotFor, rowFrom, rowed}
+
+-- Lines joined: the first one first.
+joined-first : (f : ℕ → List ℕ) (k : ℕ) → joined f (suc k) ≡ f 0 ++ joined (λ j. f (suc j)) k
+unfolding joined
+joined-first f zero = sym (append-nil (f 0))
+joined-first f (suc k) = ap (λ (l : List ℕ). l ++ f (suc k)) (joined-first f k) ∙ append-assoc (f 0) (joined (λ j. f (suc j)) k) (f (suc k))
+
+joined-same : (f g : ℕ → List ℕ) (k : ℕ) → ((j : ℕ) → j < k → f j ≡ g j) → joined f k ≡ joined g k
+unfolding joined
+joined-same f g zero e = refl
+joined-same f g (suc k) e = ap₂ (λ (a b : List ℕ). a ++ b) (joined-same f g k (λ j h. e j (omega arith))) (e k (omega arith))
+
+joined-none : (k : ℕ) → joined (λ j. []) k ≡ []
+unfolding joined
+joined-none zero = refl
+joined-none (suc k) = ap (λ (l : List ℕ). l ++ []) (joined-none k)
+
+-- The lines of a row of slots that begins with slot k, and its records.
+abbrev linesOfRow : ℕ → List Slot → List ℕ
+linesOfRow k [] = []
+linesOfRow k (y ∷ ys) = lineOf k y ++ linesOfRow (suc k) ys
+
+abbrev holdsIn : List Slot → ℕ
+holdsIn [] = 0
+holdsIn (y ∷ ys) = length (recordIn y) + holdsIn ys
+
+row-lines : (row : List Slot) (base k : ℕ) → length row ≤ k → joined (λ j. lineOf (base + j) (getD row j blank)) k ≡ linesOfRow base row
+row-lines [] base k h = joined-none k
+row-lines (y ∷ ys) base zero h = absurd (omega arith)
+row-lines (y ∷ ys) base (suc k) h =
+    joined-first (λ j. lineOf (base + j) (getD (y ∷ ys) j blank)) k
+    ∙ ap₂ (λ (a b : List ℕ). a ++ b) (ap (λ (j : ℕ). lineOf j y) (add-zero base))
+    (joined-same (λ j. lineOf (base + suc j) (getD ys j blank)) (λ j. lineOf (suc base + j) (getD ys j blank)) k
+    (λ j l. let place : base + suc j ≡ suc base + j = omega arith in ap (λ (i : ℕ). lineOf i (getD ys j blank)) place)
+    ∙ row-lines ys (suc base) k (omega arith))
+
+sheet-lines : (s : List ℕ) (row : List Slot) (k : ℕ) → ((j : ℕ) → j < k → slotOf (slotAt s j) ≡ getD row j blank)
+    → linesUpTo s k ≡ joined (λ j. lineOf (0 + j) (getD row j blank)) k
+unfolding linesUpTo joined
+sheet-lines s row zero e = refl
+sheet-lines s row (suc k) e =
+    ap₂ (λ (a b : List ℕ). a ++ b) (sheet-lines s row k (λ j h. e j (omega arith)))
+    (ap (lineOf k) (e k (omega arith)) ∙ ap (λ (i : ℕ). lineOf i (getD row k blank)) (sym (zero-add k)))
+
+-- The records of a history are those of its slots.
+holds-append : (ys zs : List Slot) → holdsIn (ys ++ zs) ≡ holdsIn ys + holdsIn zs
+holds-append [] zs = sym (zero-add (holdsIn zs))
+holds-append (y ∷ ys) zs = omega (arith, holds-append ys zs)
+
+one-record : (x : Save) (c b : Bool) → isClosed x ≡ c → hasSlot x ≡ b
+    → length (pick c (x .entry ∷ []) []) ≡ holdsIn (pick b (pick c (holds (x .entry)) spoiled ∷ []) [])
+one-record x true true p q = refl
+one-record x true false p q =
+    absurd (omega (arith, eqb-true (storesMade (x .answer)) (allStores x) p, ltb-false 0 (storesMade (x .answer)) q))
+one-record x false true p q = refl
+one-record x false false p q = refl
+
+records-held : (h : List Save) → length (recordsOf h) ≡ holdsIn (slotsOfSaves h)
+unfolding recordsOf slotsOfSaves
+records-held [] = refl
+records-held (x ∷ h) =
+    length-append (recordsOf h) (pick (isClosed x) (x .entry ∷ []) [])
+    ∙ ap₂ (λ (a b : ℕ). a + b) (records-held h) (one-record x (isClosed x) (hasSlot x) refl refl)
+    ∙ sym (holds-append (slotsOfSaves h) (pick (hasSlot x) (slotOfSave x ∷ []) []))
+
+-- What is expected of a record.
+abbrev pub knownOrder : Order → Known
+knownOrder o =
+    record {
+      minute = o .polled .minute;
+      address = o .polled .address;
+      says = replyOf (o .polled .settings) (o .polled .address) (o .count) (o .bytes);
+      size = length (o .bytes);
+      allowance = o .polled .allowance;
+    }
+
+stores-as : (o : Order) → lengthOf (entryIn o) + 2 ≡ storesFor (knownOrder o)
+stores-as o = omega arith
+
+slot-line : (k : ℕ) (o : Order) → lineOf k (slotFor o) ≡ lineFor k (knownOrder o)
+unfolding recordText
+slot-line k o = go (leb (lengthOf (entryIn o) + 2) (o .polled .allowance)) (ap (λ (m : ℕ). leb m (o .polled .allowance)) (stores-as o))
+  where
+    go : (b : Bool) → b ≡ uncut (knownOrder o) → lineOf k (pick b (holds (entryIn o)) spoiled) ≡ lineFor k (knownOrder o)
+    go true e = rw (sym e)
+    go false e = rw (sym e)
+
+slot-count : (o : Order) → length (recordIn (slotFor o)) ≡ pick (uncut (knownOrder o)) 1 0
+slot-count o = go (leb (lengthOf (entryIn o) + 2) (o .polled .allowance)) (ap (λ (m : ℕ). leb m (o .polled .allowance)) (stores-as o))
+  where
+    go : (b : Bool) → b ≡ uncut (knownOrder o) → length (recordIn (pick b (holds (entryIn o)) spoiled)) ≡ pick (uncut (knownOrder o)) 1 0
+    go true e = rw (sym e)
+    go false e = rw (sym e)
+
+order-lines : (n k : ℕ) (os : List Order) → linesOfRow k (rowFrom n k os) ≡ linesFrom n k (map knownOrder os)
+unfolding rowFrom linesFrom
+order-lines n k [] = refl
+order-lines n k (o ∷ os) = go (takesSlot n k o) (order-lines n (suc k) os) (order-lines n k os)
+  where
+    go : (b : Bool) → linesOfRow (suc k) (rowFrom n (suc k) os) ≡ linesFrom n (suc k) (map knownOrder os)
+        → linesOfRow k (rowFrom n k os) ≡ linesFrom n k (map knownOrder os)
+        → linesOfRow k (pick b (slotFor o ∷ rowFrom n (suc k) os) (rowFrom n k os))
+        ≡ pick b (lineFor k (knownOrder o) ++ linesFrom n (suc k) (map knownOrder os)) (linesFrom n k (map knownOrder os))
+    go true e f = ap₂ (λ (a b : List ℕ). a ++ b) (slot-line k o) e
+    go false e f = f
+
+order-count : (n k : ℕ) (os : List Order) → holdsIn (rowFrom n k os) ≡ uncutFrom n k (map knownOrder os)
+unfolding rowFrom uncutFrom
+order-count n k [] = refl
+order-count n k (o ∷ os) = go (takesSlot n k o) (order-count n (suc k) os) (order-count n k os)
+  where
+    go : (b : Bool) → holdsIn (rowFrom n (suc k) os) ≡ uncutFrom n (suc k) (map knownOrder os)
+        → holdsIn (rowFrom n k os) ≡ uncutFrom n k (map knownOrder os)
+        → holdsIn (pick b (slotFor o ∷ rowFrom n (suc k) os) (rowFrom n k os))
+        ≡ pick b (pick (uncut (knownOrder o)) 1 0 + uncutFrom n (suc k) (map knownOrder os)) (uncutFrom n k (map knownOrder os))
+    go true e f = ap₂ (λ (a b : ℕ). a + b) (slot-count o) e
+    go false e f = f
+
+listing-is : (s : List ℕ) (n m : ℕ) (lines : List ℕ) → sizeAllowed s ≡ true → slots s ≡ n → linesUpTo s n ≡ lines → length (listOf s) ≡ m
+    → listingOf s ≡ (ascii "sheet " ++ decimal n ++ ascii "\n") ++ lines ++ (ascii "records " ++ decimal m ++ ascii "\n")
+unfolding listingOf headLine countLine
+listing-is s n m lines size all e c =
+    rw size
+    (λ i. (ascii "sheet " ++ decimal (all i) ++ ascii "\n") ++ (ap (linesUpTo s) all ∙ e) i ++ (ascii "records " ++ decimal (c i) ++ ascii "\n"))
+
+-- The listing of a sheet on which records were stored.
+pub listed-as : (n : ℕ) → n ≤ 2048 → (os : List Order) (s : List ℕ) → Stored n os s → listingOf s ≡ listingFor n (map knownOrder os)
+listed-as n few os s st =
+    let r = rowed n few st in
+    let h = r .history in
+    let row : List Slot = slotsOfSaves (r .saves) in
+    let all : slots s ≡ n = slots-of n few s (long-so n few (r .saves) s h) in
+    let enough : length row ≤ n = slots-in-order .enough n (r .saves) s (record { allowed = few; history = h }) in
+    let lines : linesUpTo s n ≡ linesFrom n 0 (map knownOrder os)
+    = sheet-lines s row n (fills n few h .each) ∙ row-lines row 0 n enough ∙ ap (linesOfRow 0) (r .row) ∙ order-lines n 0 os in
+    let count : length (listOf s) ≡ uncutFrom n 0 (map knownOrder os)
+    = ap length (list-and-full .whole n (r .saves) s (record { allowed = few; history = h })) ∙ records-held (r .saves) ∙ ap holdsIn (r .row) ∙ order-count n 0 os in
+    listing-is s n (uncutFrom n 0 (map knownOrder os)) (linesFrom n 0 (map knownOrder os)) (sized n few (r .saves) s h) all lines count
