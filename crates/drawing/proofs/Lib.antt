@@ -1,4 +1,4 @@
 -- Laws that the proofs of the functions cite.
-pub mod Filling
+pub mod Idle
 pub mod Rest
 pub mod Answers

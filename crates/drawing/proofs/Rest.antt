@@ -1,12 +1,15 @@
 -- What is left of a drawing from a sample on: whole bits are passed by their number, and the rest is the rest of one bit and the bits after it. Assumes
 -- nothing.
 use mathlib.Core.Path.{_≡_, refl, sym, ap, ap₂, _∙_}
+use mathlib.Core.Bool.{Bool, true, false}
 use mathlib.Core.List.{List, [], _∷_, _++_}
-use Prim.Native.Nat.{ℕ, zero, suc, _+_, _-_, _*_, _/_, _%_, _≤_}
+use Prim.Native.Nat.{ℕ, zero, suc, _+_, _-_, _*_, _/_, _%_, _≤_, _<_}
 use native.Mathlib.Omega.{arith}
 use native.Mathlib.Numerals.{unary-clauses}
 use native.Mathlib.Nat.{div-add-mod', zero-add}
-use lib.ListN.{length, drop, replicate, length-append, length-replicate}
+use borrow.Author.Tests.{leb-true, leb-false}
+use lib.Dec.{leb}
+use lib.ListN.{length, drop, replicate, length-append, length-replicate, length-drop}
 use lib.Seq.{drop-nil, drop-append-le, drop-append-add}
 use Rattle.drawing.specs.Pulses.{lineOf, bitAfter, bitsAfter, drawn, drawing}
 
@@ -22,6 +25,23 @@ one-long low still bit =
 pub bit-first : (low still bit : ℕ) (bits : List ℕ) → drawn low still (bit ∷ bits) ≡ one low still bit ++ drawn low still bits
 unfolding drawn
 bit-first low still bit bits = refl
+
+-- so many samples to a bit
+pub bits-after-long : (before count : ℕ) (message : List ℕ) → length (bitsAfter before count message) ≡ count
+unfolding bitsAfter
+bits-after-long before zero message = refl
+bits-after-long before (suc count) message = ap suc (bits-after-long (suc before) count message)
+
+drawn-long : (low still : ℕ) (bits : List ℕ) → length (drawn low still bits) ≡ length bits * (low + still)
+unfolding drawn
+drawn-long low still [] = omega arith
+drawn-long low still (b ∷ bits) =
+    ap length (bit-first low still b bits) ∙ length-append (one low still b) (drawn low still bits)
+    ∙ omega (arith, one-long low still b, drawn-long low still bits)
+
+pub drawing-long : (low still count : ℕ) (message : List ℕ) → length (drawing low still count message) ≡ count * (low + still)
+drawing-long low still count message =
+    drawn-long low still (bitsAfter 0 count message) ∙ ap (λ (n : ℕ). n * (low + still)) (bits-after-long 0 count message)
 
 -- a run passed in part
 drop-run : (p n x : ℕ) → _≡_ {A = List ℕ} (drop p (replicate n x)) (replicate (n - p) x)
@@ -74,6 +94,12 @@ module _ (low still : ℕ) (message : List ℕ) where
       ap (restOf 0 count) (sym (div-add-mod' from (low + still))) ∙ passing b 0 count (from % (low + still))
       ∙ ap (λ (k : ℕ). restOf k (count - b) (from % (low + still))) (zero-add b)
 
+  pub samples-left : (count from : ℕ)
+      → length (restOf (from / (low + still)) (count - from / (low + still)) (from % (low + still))) ≡ count * (low + still) - from
+  samples-left count from =
+      ap length (sym (from-sample count from)) ∙ length-drop from (drawing low still count message)
+      ∙ ap (λ (n : ℕ). n - from) (drawing-long low still count message)
+
   -- the rest of one bit, and the bits after it
   pub next-bit : (before count passed : ℕ) → 1 ≤ count → passed ≤ low + still
       → restOf before count passed ≡ drop passed (one low still (bitAfter message before)) ++ restOf (before + 1) (count - 1) 0
@@ -87,6 +113,26 @@ module _ (low still : ℕ) (message : List ℕ) where
       ∙ drop-append-le passed (one low still b) (drawn low still (bitsAfter (suc before) count message)) (omega (arith, one-long low still b))
       ∙ ap₂ (λ (k n : ℕ). drop passed (one low still b) ++ drawn low still (bitsAfter k n message)) next left
 
+  pub samples-of-bit : (bit count passed : ℕ) → bit < count → passed ≤ low + still
+      → length (restOf bit (count - bit) passed) ≡ low + still - passed + length (restOf (bit + 1) (count - (bit + 1)) 0)
+  samples-of-bit bit count passed more h =
+      let b = bitAfter message bit in
+      let left : count - bit - 1 ≡ count - (bit + 1) = omega arith in
+      ap length (next-bit bit (count - bit) passed (omega arith) h ∙ ap (λ (n : ℕ). drop passed (one low still b) ++ restOf (bit + 1) n 0) left)
+      ∙ length-append (drop passed (one low still b)) (restOf (bit + 1) (count - (bit + 1)) 0)
+      ∙ ap (λ (n : ℕ). n + length (restOf (bit + 1) (count - (bit + 1)) 0)) (length-drop passed (one low still b) ∙ ap (λ (n : ℕ). n - passed) (one-long low still b))
+
   pub no-bits : (before count passed : ℕ) → count ≡ 0 → restOf before count passed ≡ []
   unfolding drawn bitsAfter
   no-bits before count passed e = ap (λ (n : ℕ). restOf before n passed) e ∙ drop-nil passed
+
+  -- where samples are left there is a bit
+  pub some-bit : (bit count passed i end : ℕ) → i < end → end ≤ i + length (restOf bit (count - bit) passed) → bit < count
+  some-bit bit count passed i end more enough = go (leb count bit) refl
+    where
+      go : (b : Bool) → leb count bit ≡ b → bit < count
+      go true e =
+          let h = leb-true count bit e in
+          let z : count - bit ≡ 0 = omega arith in
+          absurd (omega (arith, ap length (no-bits bit (count - bit) passed z)))
+      go false e = leb-false count bit e

@@ -1,8 +1,8 @@
-// Pulses put into an output, run by run: a run of equal samples is filled at once.
+// Pulses put into an output that was made idle: a run of equal samples is filled at once.
 ghost use mathlib.Core.Path.{_≡_};
-ghost use mathlib.Core.List.{_++_};
 ghost use Prim.Native.Nat.{_+_, _-_, _/_, _<_, _≤_, min};
 ghost use lib.ListN.{length, drop, replicate};
+ghost use lib.Seq.{sets};
 ghost use Rattle.drawing.specs.Pulses.{lineOf, bitAfter, drawing};
 ghost use Rattle.drawing.specs.inside.Fills.{Fills};
 
@@ -18,49 +18,33 @@ fn line_of(message: &[u8], passed: usize) -> u8
     }
 }
 
-// What is left of a run.
+// What is left of so many samples after some.
 fn rest(size: usize, passed: usize) -> usize
     ensures { λ r. ⌜ r ≡ size - passed ⌝ }
 {
     if passed < size { size - passed } else { 0 }
 }
 
-// The place after so many samples from a place on, or the end of the output where they do not fit.
-fn end_of(from: usize, many: usize, size: usize) -> usize
-    requires { ⌜ from ≤ size ⌝ }
-    ensures { λ r. ⌜ r ≡ from + min (size - from) many ⌝ }
+fn least(m: usize, n: usize) -> usize
+    ensures { λ r. ⌜ r ≡ min m n ⌝ }
 {
-    if many < size - from {
-        from + many
-    } else {
-        size
-    }
+    if m < n { m } else { n }
 }
 
-// Fills so many samples from a place on, or as many as fit. Answers the place after them.
-fn fill(out: &mut [u8], from: usize, many: usize, sample: u8) -> usize
-    requires { ⌜ from ≤ length (now out) ⌝ }
-    ensures { λ r. ⌜ Fills (replicate many sample) (now (out .entry)) from r (now (out .exit)) ⌝ }
+// Fills an output with one sample, from a place up to another.
+fn fill(out: &mut [u8], from: usize, end: usize, sample: u8)
+    requires { ⌜ from ≤ end ⌝ }
+    requires { ⌜ end ≤ length (now out) ⌝ }
+    ensures { λ r. ⌜ now (out .exit) ≡ sets (now (out .entry)) from (replicate (end - from) sample) ⌝ }
 {
-    let end = end_of(from, many, out.len());
     let mut i = from;
     while i < end {
         out[i] = sample;
         i += 1;
     }
-    end
 }
 
-// The rest of one bit, of which some samples have passed: what is left of its pulse, and then of the idle after it.
-fn draw_bit(low: usize, still: usize, line: u8, passed: usize, out: &mut [u8], from: usize) -> usize
-    requires { ⌜ from ≤ length (now out) ⌝ }
-    ensures { λ r. ⌜ Fills (drop passed (replicate low line ++ replicate still 0)) (now (out .entry)) from r (now (out .exit)) ⌝ }
-{
-    let end = fill(out, from, rest(low, passed), line);
-    fill(out, end, rest(still, rest(passed, low)), 0)
-}
-
-// Bit after bit, the first of them from where the samples begin.
+// All of it idle first, and then the pulse of each bit, the first of them from where the samples begin.
 pub(crate) fn draw(
     low: usize,
     still: usize,
@@ -77,16 +61,21 @@ pub(crate) fn draw(
     ensures { λ r. ⌜ Fills (drop from (drawing low still count (now (message .entry)))) (now (out .entry)) 0 r (now (out .exit)) ⌝ }
 {
     let size = low + still;
+    let end = least(out.len(), rest(count * size, from));
+    fill(out, 0, end, 0);
     let mut bit = from / size;
     let mut passed = from % size;
     let mut i = 0;
-    while bit < count {
-        if i == out.len() {
-            return i;
-        }
-        i = draw_bit(low, still, line_of(message, bit), passed, out, i);
+    while i < end {
+        fill(
+            out,
+            i,
+            least(end, i + rest(low, passed)),
+            line_of(message, bit),
+        );
+        i += size - passed;
         bit += 1;
         passed = 0;
     }
-    i
+    end
 }
