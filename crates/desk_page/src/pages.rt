@@ -87,7 +87,7 @@ fn with_file(page: Page, name: &[u8]) -> Page {
     }
     let before = page.summary;
     let next = more.summary;
-    page_of(summary::sisal_summary_join(before, next), name)
+    page_of(joins::sisal_summary_join(before, next), name)
 }
 
 // A page with the card that argument i names. The first card begins the page: joined to a blank one it would be refused for records that have no line.

@@ -16,7 +16,6 @@ pub mod Shaped
 pub mod StillRight
 pub mod RecordAdded
 pub mod PutAll
-pub mod Merging
 pub mod LinesAdded
 pub mod Entering
 pub mod JoinTests

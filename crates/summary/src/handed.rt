@@ -59,7 +59,7 @@ fn place_right(count: u32, i: usize, least: u64, line: Line) -> bool
     levels_right(line)
 }
 
-pub(crate) fn misshapen(s: Summary) -> bool
+pub fn misshapen(s: Summary) -> bool
     ensures { λ r. ⌜ r ≡ said.misshapen s ⌝ }
 {
     let count = s.count;
@@ -89,7 +89,7 @@ fn counts_over(line: Line) -> bool
     1_000_000 < line.faulty
 }
 
-pub(crate) fn lines_over(s: Summary) -> bool
+pub fn lines_over(s: Summary) -> bool
     ensures { λ r. ⌜ r ≡ linesOver s ⌝ }
 {
     let lines = s.lines;

@@ -1,4 +1,4 @@
--- `summary::joining::add_lines` meets its contract. The invariant: the lines stored are the first of the two rows merged, and the rest is left of the rows.
+-- `joins::joining::add_lines` meets its contract. The invariant: the lines stored are the first of the two rows merged, and the rest is left of the rows.
 use mathlib.Core.Path.{_≡_, refl, sym, ap, _∙_}
 use mathlib.Core.List.{List, _∷_}
 use Prim.Native.Nat.{ℕ, suc, _+_, _-_, _<_, _≤_}
@@ -6,23 +6,17 @@ use native.Mathlib.Omega.{arith}
 use native.Mathlib.Numerals.{add-one}
 use borrow.Author.Needs.{needs}
 use lib.ListN.{length, getD, take, drop, set}
 use Rattle.summary.specs.declared.Line.{Line}
 use Rattle.summary.specs.declared.Summary.{Summary}
 use Rattle.summary.specs.Line.{page, blankLine, together}
 use Rattle.summary.specs.Handed.{linesOf, lineAt, most}
 use Rattle.summary.specs.Joined.{joinLines}
 use Rattle.summary.specs.inside.Joining.{merged, Turn}
 use Rattle.summary.proofs.LineAdded.{page-is}
 use Rattle.summary.proofs.LinesAdded.{count-of, line-of}
-use Rattle.summary.proofs.Merging.{Merging, PairsOf, pairs-of, turn-first, turn-second, turn-both, none-merged, place-free, one-merged, all-done, join-merged}
-use Rattle.summary.proofs.joining.add_lines.Statement.{statement}
-use Rattle.summary.proofs.joining.add_lines.Tie as tie
-use Rattle.summary.proofs.joining.add_lines.Reads as reads
-use Rattle.summary.proofs.joining.add_lines.Lts as lts
-use Rattle.summary.proofs.adding.pairs_in.Reads as pairs-in-reads
-use Rattle.summary.proofs.blank.Reads as blank-reads
-use Rattle.summary.proofs.figures.together.Reads as together-reads
-use Rattle.summary.proofs.joining.turn.Reads as turn-reads
+use Rattle.joins.proofs.Merging.{Merging, PairsOf, pairs-of, turn-first, turn-second, turn-both, none-merged, place-free, one-merged, all-done, join-merged}
+use Rattle.joins.proofs.joining.add_lines.Statement.{statement}
+use Rattle.joins.proofs.joining.add_lines.Tie as tie
 
 abbrev Inv-loop : tie.InvT-loop
 Inv-loop a n m left right first second lines₀ i₀ j₀ count₀ lines i j count =

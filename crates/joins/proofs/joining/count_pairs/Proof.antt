@@ -1,4 +1,4 @@
--- `summary::joining::count_pairs` meets its contract. The invariant, of any lines whose pairs these are: the turns made and the lines left are those of
+-- `joins::joining::count_pairs` meets its contract. The invariant, of any lines whose pairs these are: the turns made and the lines left are those of
 -- the rows merged.
 use mathlib.Core.Path.{_≡_, refl, sym, ap, _∙_}
 use mathlib.Core.List.{List, _∷_}
@@ -6,17 +6,13 @@ use Prim.Native.Nat.{ℕ, _+_, _-_, _<_, _≤_}
 use native.Mathlib.Omega.{arith}
 use borrow.Author.Needs.{needs}
 use lib.ListN.{length, drop}
 use Rattle.summary.specs.declared.Line.{Line}
 use Rattle.summary.specs.Handed.{linesOf}
 use Rattle.summary.specs.inside.Joining.{merged, Turn}
 use Rattle.summary.proofs.LinesAdded.{count-of}
-use Rattle.summary.proofs.Merging.{PairsOf, pairs-of, turn-first, turn-second, turn-both, next-none, join-merged}
-use Rattle.summary.proofs.joining.count_pairs.Statement.{statement}
-use Rattle.summary.proofs.joining.count_pairs.Tie as tie
-use Rattle.summary.proofs.joining.count_pairs.Reads as reads
-use Rattle.summary.proofs.joining.count_pairs.Lts as lts
-use Rattle.summary.proofs.adding.pairs_in.Reads as pairs-in-reads
-use Rattle.summary.proofs.joining.turn.Reads as turn-reads
+use Rattle.joins.proofs.Merging.{PairsOf, pairs-of, turn-first, turn-second, turn-both, next-none, join-merged}
+use Rattle.joins.proofs.joining.count_pairs.Statement.{statement}
+use Rattle.joins.proofs.joining.count_pairs.Tie as tie
 
 abbrev Inv-loop : tie.InvT-loop
 Inv-loop n m first second i₀ j₀ pairs₀ i j pairs =
