@@ -155,7 +155,7 @@ pub extern "C" fn sisal_save_stores(
 ) -> SaveStores
     ensures { λ r. ⌜ SisalSaveStores (now (sheet .entry)) settings minute address count (now (reply .entry)) r ⌝ }
 {
-    sheet::tell::save_stores(sheet, settings, minute, address, count, reply)
+    telling::save_stores(sheet, settings, minute, address, count, reply)
 }
 
 // Looks at a slot. Refuses 12.

@@ -18,4 +18,3 @@ pub mod LastUsedSlot
 pub mod SaveMade
 -- The rows of an answer that tells a save's stores.
 pub mod Rows
-pub mod Telling

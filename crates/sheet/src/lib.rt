@@ -1,4 +1,4 @@
-// The month sheet: records of polls kept in slots of 32 bytes, on a sheet that the caller lends. Its public calls are `save`, `tell::save_stores` and
+// The month sheet: records of polls kept in slots of 32 bytes, on a sheet that the caller lends. Its public calls are `save` and
 // `look`.
 mod bytes;
 pub mod into;
@@ -11,12 +11,13 @@ pub mod view;
 mod words;
 
 use into::put_into;
-use next::next_slot;
-use record::check;
 ghost use mathlib.Core.Path.{_≡_};
 ghost use Rattle.sheet.specs.Record.{entryOf};
 ghost use Rattle.sheet.specs.Slots.{lengthAllowed};
 ghost use Rattle.sheet.specs.Save.{Saves};
+pub use next::next_slot;
+pub use record::check;
+pub use stores::before_reply;
 pub use view::look;
 
 // What a record says beside its reply bytes.
@@ -49,7 +50,7 @@ pub enum Saved {
 }
 
 // A sheet's length is a multiple of 32, and at most 65,536.
-fn size_allowed(len: usize) -> bool
+pub fn size_allowed(len: usize) -> bool
     ensures { λ r. ⌜ r ≡ lengthAllowed len ⌝ }
 {
     if len % 32 == 0 { len <= 65536 } else { false }

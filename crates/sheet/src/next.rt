@@ -48,7 +48,7 @@ fn pass_blocks(sheet: &[u8], from: usize) -> usize
 
 // The slot after the last one that has a byte other than FF. The search goes backwards from the end: over the last eight slots one by one, so that a
 // nearly full sheet is answered at once, then by blocks while they are blank, then one by one again. A hole among used slots is never looked at.
-pub(crate) fn next_slot(sheet: &[u8]) -> usize
+pub fn next_slot(sheet: &[u8]) -> usize
     ensures { λ r. ⌜ r ≡ next (now (sheet .entry)) ⌝ }
 {
     let slots = sheet.len() / 32;

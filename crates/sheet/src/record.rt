@@ -16,7 +16,7 @@ ghost use Rattle.sheet.specs.Look.{headOf};
 ghost use Rattle.sheet.specs.inside.Word.{firstBits};
 
 // The number of the first check that a record fails, 0 where it passes them all. No check looks at the minute.
-pub(crate) fn check(settings: u8, address: u16, count: usize, reply: &[u8]) -> u8
+pub fn check(settings: u8, address: u16, count: usize, reply: &[u8]) -> u8
     ensures { λ r. ⌜ r ≡ firstOf (checks (entryOf settings 0 address count (now (reply .entry)))) ⌝ }
 {
     if 15 < settings {

@@ -35,7 +35,7 @@ fn left_after(allowance: usize, stores: usize) -> usize
 }
 
 // The bytes of a record between its length and its reply.
-pub(crate) fn before_reply(head: Head) -> [u8; 9]
+pub fn before_reply(head: Head) -> [u8; 9]
     requires { ⌜ head .count ≤ 64 ⌝ }
     ensures { λ r. ⌜ r ≡ bodyOf (entryWith head []) ⌝ }
 {

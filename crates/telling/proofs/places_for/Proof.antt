@@ -1,16 +1,16 @@
--- `sheet::tell::places_for` meets its contract: after i turns the first i places stand in the row, and zeros behind them. Assumes nothing.
+-- `telling::places_for` meets its contract: after i turns the first i places stand in the row, and zeros behind them. Assumes nothing.
 use mathlib.Core.Path.{_≡_, refl, sym, ap, _∙_}
 use mathlib.Core.List.{List, [], _∷_, _++_}
 use Prim.Native.Nat.{ℕ, suc, _+_, _-_, _<_, _≤_}
 use native.Mathlib.Numerals.{add-one}
 use native.Mathlib.Omega.{arith}
 use lib.ListN.{length, set, length-set, length-append, length-replicate}
 use Rattle.sheet.specs.StoresTold.{zerosBehind}
 use Rattle.sheet.specs.inside.Rows.{upFrom, placesRow}
 use Rattle.sheet.proofs.Rows.{one-more, two-more, up-length, up-more}
 use borrow.Author.Needs.{needs}
-use Rattle.sheet.proofs.tell.places_for.Statement.{statement}
-use Rattle.sheet.proofs.tell.places_for.Tie as tie
+use Rattle.telling.proofs.places_for.Statement.{statement}
+use Rattle.telling.proofs.places_for.Tie as tie
 
 abbrev Inv-loop : tie.InvT-loop
 Inv-loop size places₀ i₀ places i = (i ≤ size) × (places ≡ zerosBehind (upFrom 2 i))

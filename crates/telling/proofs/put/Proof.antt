@@ -1,4 +1,4 @@
--- `sheet::tell::put` meets its contract: after i turns the first i bytes stand in the row. Assumes nothing.
+-- `telling::put` meets its contract: after i turns the first i bytes stand in the row. Assumes nothing.
 use mathlib.Core.Path.{_≡_, sym, ap, _∙_}
 use Prim.Native.Nat.{ℕ, suc, _+_, _-_, _<_, _≤_}
 use native.Mathlib.Numerals.{add-one}
@@ -7,8 +7,8 @@ use mathlib.Core.List.{List}
 use lib.ListN.{length, set, getD}
 use lib.Seq.{paste, paste-zero, paste-suc, length-paste}
 use borrow.Author.Needs.{needs}
-use Rattle.sheet.proofs.tell.put.Statement.{statement}
-use Rattle.sheet.proofs.tell.put.Tie as tie
+use Rattle.telling.proofs.put.Statement.{statement}
+use Rattle.telling.proofs.put.Tie as tie
 
 abbrev Inv-loop : tie.InvT-loop
 Inv-loop at bytes row₀ i₀ row i = (i ≤ length bytes) × (row ≡ paste row₀ at bytes i)

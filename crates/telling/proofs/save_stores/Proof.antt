@@ -1,4 +1,4 @@
--- `sheet::tell::save_stores` meets its contract: each return is one case of what speaks against a save: the sheet's size, the record's checks, and whether
+-- `telling::save_stores` meets its contract: each return is one case of what speaks against a save: the sheet's size, the record's checks, and whether
 -- a slot is left. Assumes nothing.
 use mathlib.Core.Path.{_≡_, sym, ap, _∙_}
 use mathlib.Core.Bool.{true, false}
@@ -10,20 +10,15 @@ use borrow.Author.Tests.{eq-eqb, ne-eqb, leb-true, not-true, not-false}
 use lib.Dec.{eqb, leb}
 use lib.ListN.{length}
 use Rattle.frame.proofs.Both.{both-right}
 use Rattle.sheet.specs.Record.{Entry, entryOf, passes}
 use Rattle.sheet.specs.Slots.{sizeAllowed, slots, next}
 use Rattle.sheet.specs.Stores.{stores}
 use Rattle.sheet.specs.StoresTold.{telling}
 use Rattle.sheet.proofs.Records.{passes-formed, formed-few}
 use Rattle.sheet.proofs.Refusals.{Clear}
-use Rattle.sheet.proofs.Telling.{tells-stores, tells-12, tells-check, tells-13}
-use Rattle.sheet.proofs.tell.save_stores.Statement.{statement}
-use Rattle.sheet.proofs.tell.save_stores.Tie as tie
-use Rattle.sheet.proofs.next.next_slot.Reads as next-slot-reads
-use Rattle.sheet.proofs.record.check.Reads as check-reads
-use Rattle.sheet.proofs.size_allowed.Reads as size-allowed-reads
-use Rattle.sheet.proofs.tell.refused.Reads as refused-reads
-use Rattle.sheet.proofs.tell.told.Reads as told-reads
+use Rattle.telling.proofs.Telling.{tells-stores, tells-12, tells-check, tells-13}
+use Rattle.telling.proofs.save_stores.Statement.{statement}
+use Rattle.telling.proofs.save_stores.Tie as tie
 
 -- a sheet of an allowed size has at most 2,048 slots
 few-slots : (s : List ℕ) → sizeAllowed s ≡ true → slots s < 65536

@@ -1,4 +1,4 @@
--- `sheet::tell::bytes_for` meets its contract: the row is filled from the front, first with what stands before the reply, then with the reply, then with the length.
+-- `telling::bytes_for` meets its contract: the row is filled from the front, first with what stands before the reply, then with the reply, then with the length.
 -- Assumes nothing.
 use mathlib.Core.Path.{_≡_, ap, _∙_}
 use mathlib.Core.List.{List, [], _∷_, _++_}
@@ -7,16 +7,14 @@ use native.Mathlib.Omega.{arith}
 use borrow.Author.Needs.{needs}
 use lib.ListN.{length, replicate, set}
 use lib.Seq.{paste}
 use Rattle.sheet.specs.declared.Head.{Head}
 use Rattle.sheet.specs.Record.{bodyOf, lengthOf}
 use Rattle.sheet.specs.Look.{entryWith}
 use Rattle.sheet.specs.StoresTold.{zerosBehind}
 use Rattle.sheet.specs.inside.Rows.{bytesRow}
 use Rattle.sheet.proofs.Rows.{row-more, two-more}
-use Rattle.sheet.proofs.tell.bytes_for.Statement.{statement}
-use Rattle.sheet.proofs.tell.bytes_for.Tie as tie
-use Rattle.sheet.proofs.stores.before_reply.Reads as before-reply-reads
-use Rattle.sheet.proofs.tell.put.Reads as put-reads
+use Rattle.telling.proofs.bytes_for.Statement.{statement}
+use Rattle.telling.proofs.bytes_for.Tie as tie
 
 -- the row, filled from the front
 filled : (head : Head) (reply first one two : List ℕ) → length reply ≤ 8 → first ≡ bodyOf (entryWith head [])

@@ -1,22 +1,20 @@
--- `sheet::tell::told` meets its contract: the rows that it tells are those of the record's stores. Assumes nothing.
+-- `telling::told` meets its contract: the rows that it tells are those of the record's stores. Assumes nothing.
 use mathlib.Core.Path.{_≡_, sym, ap, _∙_}
 use mathlib.Core.List.{List}
 use Prim.Native.Nat.{ℕ, _+_, _≤_}
 use native.Mathlib.Omega.{arith}
 use borrow.Author.Needs.{needs}
 use lib.ListN.{length}
 use Rattle.sheet.specs.declared.Head.{Head}
 use Rattle.sheet.specs.Record.{lengthOf}
 use Rattle.sheet.specs.Stores.{stores}
 use Rattle.sheet.specs.Look.{entryWith}
 use Rattle.sheet.specs.StoresTold.{zerosBehind, telling}
 use Rattle.sheet.specs.inside.Rows.{placesRow, bytesRow}
 use Rattle.sheet.proofs.Storing.{stores-length}
 use Rattle.sheet.proofs.Rows.{stores-places, stores-bytes}
-use Rattle.sheet.proofs.tell.told.Statement.{statement}
-use Rattle.sheet.proofs.tell.told.Tie as tie
-use Rattle.sheet.proofs.tell.bytes_for.Reads as bytes-for-reads
-use Rattle.sheet.proofs.tell.places_for.Reads as places-for-reads
+use Rattle.telling.proofs.told.Statement.{statement}
+use Rattle.telling.proofs.told.Tie as tie
 
 -- the rows told are those of the stores
 told-is : (slot : ℕ) (head : Head) (reply places bytes : List ℕ) → length reply ≤ 8 → places ≡ zerosBehind (placesRow (9 + length reply))

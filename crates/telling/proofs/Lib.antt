@@ -1,0 +1,2 @@
+-- What the call answers, by what its tests gave.
+pub mod Telling
