@@ -1,4 +1,4 @@
--- `recorder::sisal_form` meets its contract: the number follows what `formed` answers.
+-- `export::sisal_form` meets its contract: the number follows what `formed` answers.
 use mathlib.Core.Path.{sym, _∙_}
 use borrow.Author.Needs.{needs}
 use Rattle.export.proofs.sisal_form.Statement.{statement}

@@ -1,4 +1,4 @@
--- `recorder::sisal_look` meets its contract. The count of a record fits one byte.
+-- `export::sisal_look` meets its contract. The count of a record fits one byte.
 use Rattle.export.proofs.Fits.{look-fits}
 use borrow.Author.Needs.{needs}
 use Rattle.export.proofs.sisal_look.Statement.{statement}

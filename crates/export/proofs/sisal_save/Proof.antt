@@ -1,4 +1,4 @@
--- `recorder::sisal_save` meets its contract: what `save` answers is told.
+-- `export::sisal_save` meets its contract: what `save` answers is told.
 use borrow.Author.Needs.{needs}
 use Rattle.export.proofs.sisal_save.Statement.{statement}
 use Rattle.export.proofs.sisal_save.Tie as tie

@@ -1,4 +1,4 @@
--- `recorder::sisal_write_poll` meets its contract: what `write_poll` answers is told.
+-- `export::sisal_write_poll` meets its contract: what `write_poll` answers is told.
 use borrow.Author.Needs.{needs}
 use Rattle.export.proofs.sisal_write_poll.Statement.{statement}
 use Rattle.export.proofs.sisal_write_poll.Tie as tie

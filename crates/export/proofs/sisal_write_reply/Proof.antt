@@ -1,4 +1,4 @@
--- `recorder::sisal_write_reply` meets its contract: the reading that is written is the one that the numbers stand for.
+-- `export::sisal_write_reply` meets its contract: the reading that is written is the one that the numbers stand for.
 use mir.Syntax.{w16}
 use mir.Facts.{toZ-ofZ}
 use borrow.Author.Needs.{needs}

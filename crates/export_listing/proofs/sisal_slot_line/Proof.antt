@@ -1,4 +1,4 @@
--- `recorder_listing::sisal_slot_line` meets its contract: what `slot_line` answers is told.
+-- `export_listing::sisal_slot_line` meets its contract: what `slot_line` answers is told.
 use borrow.Author.Needs.{needs}
 use Rattle.export_listing.proofs.sisal_slot_line.Statement.{statement}
 use Rattle.export_listing.proofs.sisal_slot_line.Tie as tie

@@ -1,4 +1,4 @@
--- `recorder::told::counted` meets its contract, case by case of the answer.
+-- `export::told::counted` meets its contract, case by case of the answer.
 use borrow.Author.Needs.{needs}
 use Rattle.export.proofs.told.counted.Statement.{statement}
 use Rattle.export.proofs.told.counted.Tie as tie

@@ -1,4 +1,4 @@
--- `recorder::told::poll` meets its contract, case by case of the answer.
+-- `export::told::poll` meets its contract, case by case of the answer.
 use borrow.Author.Needs.{needs}
 use Rattle.export.proofs.told.poll.Statement.{statement}
 use Rattle.export.proofs.told.poll.Tie as tie

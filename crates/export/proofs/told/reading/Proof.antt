@@ -1,4 +1,5 @@
--- `recorder::told::reading` meets its contract: each field is what a call of `frame::kinds` answers.
+-- `export::told::reading` meets its contract: each field is what a call of `frame::kinds` answers.
+use mathlib.Core.Path.{_∙_}
 use mir.Syntax.{w16}
 use mir.Facts.{toZ-ofZ}
 use borrow.Author.Needs.{needs}
@@ -22,7 +23,17 @@ returns c =
     let m = c .before in
     let k = m .before in
     let t = k .before in
-    simp (toZ-ofZ {w = w16} {z = t .tenths-of .result} (record { sfits = t .tenths-of .ok }), k .kind-of .ensures, m .marked .ensures, c .marked2 .ensures) (cc (t .tenths-of .ensures))
+    let tenths = toZ-ofZ {w = w16} {z = t .tenths-of .result} (record { sfits = t .tenths-of .ok }) ∙ t .tenths-of .ensures in
+    λ i.
+    record {
+      level = t .before .args .reading .level;
+      tenths = tenths i;
+      kind = k .kind-of .ensures i;
+      alarm1 = m .marked .ensures i;
+      alarm0 = c .marked2 .ensures i;
+      number = 0;
+      place = 0;
+    }
 
 pub reading-spec : {M : Type 1} → statement M
 reading-spec =

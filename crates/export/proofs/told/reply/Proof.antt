@@ -1,4 +1,4 @@
--- `recorder::told::reply` meets its contract, case by case of the answer.
+-- `export::told::reply` meets its contract, case by case of the answer.
 use mathlib.Core.Path.{_∙_}
 use borrow.Author.Needs.{needs}
 use Rattle.export.proofs.told.reply.Statement.{statement}

@@ -1,4 +1,4 @@
--- `recorder::told::saved` meets its contract, case by case of the answer.
+-- `export::told::saved` meets its contract, case by case of the answer.
 use borrow.Author.Needs.{needs}
 use Rattle.export.proofs.told.saved.Statement.{statement}
 use Rattle.export.proofs.told.saved.Tie as tie

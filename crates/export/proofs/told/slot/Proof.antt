@@ -1,4 +1,4 @@
--- `recorder::told::slot` meets its contract, case by case of what was found.
+-- `export::told::slot` meets its contract, case by case of what was found.
 use mathlib.Core.Path.{_∙_}
 use borrow.Author.Needs.{needs}
 use Rattle.export.proofs.told.slot.Statement.{statement}

@@ -1,4 +1,4 @@
--- `recorder::told::written` meets its contract, case by case of the answer.
+-- `export::told::written` meets its contract, case by case of the answer.
 use borrow.Author.Needs.{needs}
 use Rattle.export.proofs.told.written.Statement.{statement}
 use Rattle.export.proofs.told.written.Tie as tie
