@@ -20,7 +20,7 @@ use Rattle.sheet.specs.Slots.{Slot, blank, spoiled, foreign, holds, slotOf, slo
 use Rattle.sheet.specs.Look.{bare, told, lookOf}
 use Rattle.sheet.specs.View.{countOf}
 use Rattle.frame.proofs.ToldBack.{flag-back, reading-back}
-use Rattle.export.specs.Told.{pollTold, pollMeant, replyTold, replyMeant, writtenTold, writtenMeant, savedTold, savedMeant, countedTold, countedMeant, slotTold, slotMeant}
+use Rattle.export_told.specs.Told.{pollTold, pollMeant, replyTold, replyMeant, writtenTold, writtenMeant, savedTold, savedMeant, countedTold, countedMeant, slotTold, slotMeant}
 
 -- An answer comes back where a good one does, and a refusal does by any number but 0.
 by-fault : {A T : Type 0} (told : A → T) (meant : T → A) (good : A) (bad : ℕ → A) → meant (told good) ≡ good → ((n : ℕ) → eqb n 0 ≡ false → meant (told (bad n)) ≡ bad n) → (n : ℕ) → meant (told (pick (eqb n 0) good (bad n))) ≡ pick (eqb n 0) good (bad n)

@@ -13,7 +13,7 @@ use Rattle.sheet.specs.Record.{isRecord, fieldsOf}
 use Rattle.sheet.specs.Slots.{blank, spoiled, foreign, holds, slotOf, slotAt, slots, sizeAllowed}
 use Rattle.sheet.specs.Look.{bare, told, lookOf}
 use Rattle.sheet.proofs.Records.{record-passes, passes-formed, formed-few}
-use Rattle.export.specs.Told.{countFits}
+use Rattle.export_told.specs.Told.{countFits}
 
 record-fits : (x : List ℕ) → isRecord x ≡ true → fieldsOf x .count < 256
 record-fits x h =

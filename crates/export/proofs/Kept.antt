@@ -22,11 +22,11 @@ use Rattle.sheet.specs.Save.{Saves, saveFault, savedNumber}
 use Rattle.sheet.specs.Look.{Looks, foundNumber}
 use Rattle.sheet.specs.View.{Counts, countedNumber}
 use Rattle.frame.specs.Kinds.{isSet, readingBy}
-use Rattle.export.specs.declared.PollTold.{PollTold}
-use Rattle.export.specs.declared.ReplyTold.{ReplyTold}
-use Rattle.export.specs.declared.Done.{Done}
-use Rattle.export.specs.declared.SlotTold.{SlotTold}
-use Rattle.export.specs.Told.{pollTold, pollMeant, replyTold, replyMeant, writtenTold, writtenMeant, savedTold, savedMeant, countedTold, countedMeant, slotTold, slotMeant, stateMeant, headMeant, pollSaid}
+use Rattle.export_told.specs.declared.PollTold.{PollTold}
+use Rattle.export_told.specs.declared.ReplyTold.{ReplyTold}
+use Rattle.export_told.specs.declared.Done.{Done}
+use Rattle.export_told.specs.declared.SlotTold.{SlotTold}
+use Rattle.export_told.specs.Told.{pollTold, pollMeant, replyTold, replyMeant, writtenTold, writtenMeant, savedTold, savedMeant, countedTold, countedMeant, slotTold, slotMeant, stateMeant, headMeant, pollSaid}
 use Rattle.export.specs.Calls.{Tells, SisalReadPoll, SisalWritePoll, SisalReadReply, SisalWriteReply, SisalSave, SisalLook, SisalSlots}
 use Rattle.export.proofs.Back.{poll-back, reply-back, written-back, saved-back, counted-back, look-back}
 

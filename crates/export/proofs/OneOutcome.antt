@@ -12,11 +12,11 @@ use Rattle.sheet.specs.Look.{Looks}
 use Rattle.sheet.specs.View.{Counts}
 use Rattle.sheet.specs.declared.tell.SaveStores.{SaveStores}
 use Rattle.frame.specs.Kinds.{isSet, readingBy}
-use Rattle.export.specs.declared.PollTold.{PollTold}
-use Rattle.export.specs.declared.ReplyTold.{ReplyTold}
-use Rattle.export.specs.declared.Done.{Done}
-use Rattle.export.specs.declared.SlotTold.{SlotTold}
-use Rattle.export.specs.Told.{pollTold, replyTold, writtenTold, savedTold, countedTold, slotTold}
+use Rattle.export_told.specs.declared.PollTold.{PollTold}
+use Rattle.export_told.specs.declared.ReplyTold.{ReplyTold}
+use Rattle.export_told.specs.declared.Done.{Done}
+use Rattle.export_told.specs.declared.SlotTold.{SlotTold}
+use Rattle.export_told.specs.Told.{pollTold, replyTold, writtenTold, savedTold, countedTold, slotTold}
 use Rattle.export.specs.Calls.{Tells, SisalForm, SisalReadPoll, SisalWritePoll, SisalReadReply, SisalWriteReply, SisalSave, SisalSaveStores, SisalLook, SisalSlots}
 
 -- Two answers that tell of the same one are equal.

@@ -15,11 +15,11 @@ use Rattle.sheet.specs.View.{Counts}
 use Rattle.sheet.specs.declared.tell.SaveStores.{SaveStores}
 use Rattle.sheet.specs.StoresTold.{TellsStores}
 use Rattle.frame.specs.Kinds.{isSet, readingBy}
-use Rattle.export.specs.declared.PollTold.{PollTold}
-use Rattle.export.specs.declared.ReplyTold.{ReplyTold}
-use Rattle.export.specs.declared.Done.{Done}
-use Rattle.export.specs.declared.SlotTold.{SlotTold}
-use Rattle.export.specs.Told.{pollTold, replyTold, writtenTold, savedTold, countedTold, slotTold}
+use Rattle.export_told.specs.declared.PollTold.{PollTold}
+use Rattle.export_told.specs.declared.ReplyTold.{ReplyTold}
+use Rattle.export_told.specs.declared.Done.{Done}
+use Rattle.export_told.specs.declared.SlotTold.{SlotTold}
+use Rattle.export_told.specs.Told.{pollTold, replyTold, writtenTold, savedTold, countedTold, slotTold}
 
 -- An answer tells what the call below answers: one that its contract allows, told in integers.
 pub record Tells {A T : Type 0} (told : A → T) (allowed : A → Type 0) (answer : T) : Type 0 where

@@ -1,4 +1,3 @@
--- What the calls for the host answer: how the answers of the crates below are told in integers, and the contract of each call.
-pub mod Told
+-- What the calls for the host answer: the contract of each call.
 pub mod Calls
 pub mod Version

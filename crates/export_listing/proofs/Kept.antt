@@ -9,9 +9,9 @@ use lib.ListN.{length}
 use Rattle.sheet.specs.Slots.{sizeAllowed, slots}
 use Rattle.listing.specs.Lines.{headLine, slotLine, lastLine, listingOf}
 use Rattle.listing.specs.Calls.{Writes, WritesHead, WritesSlot, WritesLast, WritesListing, writeFault, roomFor}
-use Rattle.export.specs.declared.Done.{Done}
+use Rattle.export_told.specs.declared.Done.{Done}
 use Rattle.export.specs.Calls.{Tells}
-use Rattle.export.specs.Told.{writtenTold, writtenMeant}
+use Rattle.export_told.specs.Told.{writtenTold, writtenMeant}
 use Rattle.export.proofs.Back.{written-back}
 use Rattle.export.proofs.Kept.{from, kept}
 use Rattle.export.proofs.OneOutcome.{one}

@@ -3,9 +3,9 @@
 use mathlib.Core.List.{List}
 use Prim.Native.Nat.{ℕ}
 use Rattle.listing.specs.Calls.{WritesHead, WritesSlot, WritesLast, WritesListing}
-use Rattle.export.specs.declared.Done.{Done}
+use Rattle.export_told.specs.declared.Done.{Done}
 use Rattle.export.specs.Calls.{Tells}
-use Rattle.export.specs.Told.{writtenTold}
+use Rattle.export_told.specs.Told.{writtenTold}
 
 abbrev pub SisalHeadLine : (sheet out : List ℕ) (answer : Done) (after : List ℕ) → Type 0
 SisalHeadLine sheet out answer after = Tells writtenTold (λ below. WritesHead sheet out below after) answer

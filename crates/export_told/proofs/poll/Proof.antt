@@ -1,7 +1,7 @@
--- `export::told::poll` meets its contract, case by case of the answer.
+-- `export_told::poll` meets its contract, case by case of the answer.
 use borrow.Author.Needs.{needs}
-use Rattle.export.proofs.told.poll.Statement.{statement}
-use Rattle.export.proofs.told.poll.Tie as tie
+use Rattle.export_told.proofs.poll.Statement.{statement}
+use Rattle.export_told.proofs.poll.Tie as tie
 
 enum-known-answer : tie.Need-enum-known-answer
 enum-known-answer c = search needs

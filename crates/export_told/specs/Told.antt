@@ -22,10 +22,10 @@ use Rattle.sheet.specs.declared.Saved.the-variants as saved
 use Rattle.sheet.specs.declared.view.Counted.{Counted}
 use Rattle.sheet.specs.declared.view.Counted.the-variants as counted
 use Rattle.frame.specs.Kinds.{isSet, kindOf, tenthsOf, readingBy}
-use Rattle.export.specs.declared.PollTold.{PollTold}
-use Rattle.export.specs.declared.ReplyTold.{ReplyTold}
-use Rattle.export.specs.declared.Done.{Done}
-use Rattle.export.specs.declared.SlotTold.{SlotTold}
+use Rattle.export_told.specs.declared.PollTold.{PollTold}
+use Rattle.export_told.specs.declared.ReplyTold.{ReplyTold}
+use Rattle.export_told.specs.declared.Done.{Done}
+use Rattle.export_told.specs.declared.SlotTold.{SlotTold}
 
 -- A poll: its address, raise and reset; beside a refusal all else is 0.
 abbrev pub pollTold : PollAnswer → PollTold

@@ -1,10 +1,6 @@
 // What the calls below answer, told in integers.
 ghost use mathlib.Core.Path.{_≡_};
-ghost use Rattle.export.specs.Told.{pollTold, readingTold, refusedTold, replyTold, writtenTold, savedTold, countedTold, bareTold, countFits, slotTold};
-use crate::Done;
-use crate::PollTold;
-use crate::ReplyTold;
-use crate::SlotTold;
+ghost use Rattle.export_told.specs.Told.{pollTold, readingTold, refusedTold, replyTold, writtenTold, savedTold, countedTold, bareTold, countFits, slotTold};
 use frame::PollAnswer;
 use frame::Reading;
 use frame::Reply;
@@ -15,7 +11,50 @@ use sheet::Looked;
 use sheet::Saved;
 use sheet::view::Counted;
 
-pub(crate) fn poll(answer: PollAnswer) -> PollTold
+// What reading a poll answers: raise and reset are 0 or 1; beside a refusal all else is 0.
+#[repr(C)]
+pub struct PollTold {
+    pub address: u16,
+    pub raise: u8,
+    pub reset: u8,
+    pub number: u8,
+}
+
+// What reading a reply answers: alarms are 0 or 1; beside a refusal all else is 0, but for the place beside 7.
+#[repr(C)]
+pub struct ReplyTold {
+    pub level: u16,
+    pub tenths: i16,
+    // As in a row of the board: 0 no reading, 1 degrees, 2 above, 3 below, 4 absent.
+    pub kind: u8,
+    pub alarm1: u8,
+    pub alarm0: u8,
+    pub number: u8,
+    // Beside number 7 the place of the first digit in no chart, counted from 0 at the top; else 0.
+    pub place: u8,
+}
+
+// What writing, saving and counting answer: the bytes written, the stores made or the slots there are; beside a refusal 0.
+#[repr(C)]
+pub struct Done {
+    pub count: usize,
+    pub number: u8,
+}
+
+// What looking at a slot answers: of a record what it says, its reply bytes from the first on; all else is 0.
+#[repr(C)]
+pub struct SlotTold {
+    pub reply: [u8; 8],
+    pub minute: u32,
+    pub address: u16,
+    pub settings: u8,
+    pub count: u8,
+    // 0 beside a refusal, 1 blank, 2 spoiled, 3 a record, 4 foreign.
+    pub state: u8,
+    pub number: u8,
+}
+
+pub fn poll(answer: PollAnswer) -> PollTold
     ensures { λ r. ⌜ r ≡ pollTold answer ⌝ }
 {
     match answer {
@@ -65,7 +104,7 @@ fn refused_reply(number: u8, place: u8) -> ReplyTold
     }
 }
 
-pub(crate) fn reply(answer: Reply) -> ReplyTold
+pub fn reply(answer: Reply) -> ReplyTold
     ensures { λ r. ⌜ r ≡ replyTold answer ⌝ }
 {
     match answer {
@@ -90,7 +129,7 @@ pub fn written(answer: Written) -> Done
     }
 }
 
-pub(crate) fn saved(answer: Saved) -> Done
+pub fn saved(answer: Saved) -> Done
     ensures { λ r. ⌜ r ≡ savedTold answer ⌝ }
 {
     match answer {
@@ -105,7 +144,7 @@ pub(crate) fn saved(answer: Saved) -> Done
     }
 }
 
-pub(crate) fn counted(answer: Counted) -> Done
+pub fn counted(answer: Counted) -> Done
     ensures { λ r. ⌜ r ≡ countedTold answer ⌝ }
 {
     match answer {
@@ -135,7 +174,7 @@ fn bare(reply: [u8; 8], state: u8, number: u8) -> SlotTold
     }
 }
 
-pub(crate) fn slot(looked: Looked) -> SlotTold
+pub fn slot(looked: Looked) -> SlotTold
     requires { ⌜ countFits (looked .found) ⌝ }
     ensures { λ r. ⌜ r ≡ slotTold looked ⌝ }
 {

@@ -1,7 +1,7 @@
--- `export::told::saved` meets its contract, case by case of the answer.
+-- `export_told::saved` meets its contract, case by case of the answer.
 use borrow.Author.Needs.{needs}
-use Rattle.export.proofs.told.saved.Statement.{statement}
-use Rattle.export.proofs.told.saved.Tie as tie
+use Rattle.export_told.proofs.saved.Statement.{statement}
+use Rattle.export_told.proofs.saved.Tie as tie
 
 enum-known-answer : tie.Need-enum-known-answer
 enum-known-answer c = search needs

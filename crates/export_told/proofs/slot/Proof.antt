@@ -1,8 +1,8 @@
--- `export::told::slot` meets its contract, case by case of what was found.
+-- `export_told::slot` meets its contract, case by case of what was found.
 use mathlib.Core.Path.{_∙_}
 use borrow.Author.Needs.{needs}
-use Rattle.export.proofs.told.slot.Statement.{statement}
-use Rattle.export.proofs.told.slot.Tie as tie
+use Rattle.export_told.proofs.slot.Statement.{statement}
+use Rattle.export_told.proofs.slot.Tie as tie
 
 enum-told : tie.Need-enum-told
 enum-told c = search needs

@@ -1,7 +1,7 @@
--- `export::told::written` meets its contract, case by case of the answer.
+-- `export_told::written` meets its contract, case by case of the answer.
 use borrow.Author.Needs.{needs}
-use Rattle.export.proofs.told.written.Statement.{statement}
-use Rattle.export.proofs.told.written.Tie as tie
+use Rattle.export_told.proofs.written.Statement.{statement}
+use Rattle.export_told.proofs.written.Tie as tie
 
 enum-known-answer : tie.Need-enum-known-answer
 enum-known-answer c = search needs

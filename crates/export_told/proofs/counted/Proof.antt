@@ -1,7 +1,7 @@
--- `export::told::counted` meets its contract, case by case of the answer.
+-- `export_told::counted` meets its contract, case by case of the answer.
 use borrow.Author.Needs.{needs}
-use Rattle.export.proofs.told.counted.Statement.{statement}
-use Rattle.export.proofs.told.counted.Tie as tie
+use Rattle.export_told.proofs.counted.Statement.{statement}
+use Rattle.export_told.proofs.counted.Tie as tie
 
 enum-known-answer : tie.Need-enum-known-answer
 enum-known-answer c = search needs

@@ -1,10 +1,10 @@
--- `export::told::reading` meets its contract: each field is what a call of `frame::kinds` answers.
+-- `export_told::reading` meets its contract: each field is what a call of `frame::kinds` answers.
 use mathlib.Core.Path.{_∙_}
 use mir.Syntax.{w16}
 use mir.Facts.{toZ-ofZ}
 use borrow.Author.Needs.{needs}
-use Rattle.export.proofs.told.reading.Statement.{statement}
-use Rattle.export.proofs.told.reading.Tie as tie
+use Rattle.export_told.proofs.reading.Statement.{statement}
+use Rattle.export_told.proofs.reading.Tie as tie
 
 tenths-of-requires : tie.Need-tenths-of-requires
 tenths-of-requires c κs = search needs

@@ -1,8 +1,8 @@
--- `export::told::reply` meets its contract, case by case of the answer.
+-- `export_told::reply` meets its contract, case by case of the answer.
 use mathlib.Core.Path.{_∙_}
 use borrow.Author.Needs.{needs}
-use Rattle.export.proofs.told.reply.Statement.{statement}
-use Rattle.export.proofs.told.reply.Tie as tie
+use Rattle.export_told.proofs.reply.Statement.{statement}
+use Rattle.export_told.proofs.reply.Tie as tie
 
 enum-known-answer : tie.Need-enum-known-answer
 enum-known-answer c = search needs
