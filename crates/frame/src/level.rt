@@ -4,9 +4,8 @@ ghost use Prim.Native.Nat.{_+_, _-_, _*_, _/_, _%_, _^_, _<_, _≤_};
 ghost use Rattle.frame.specs.Charts.{sizeOf};
 ghost use Rattle.frame.specs.Level.{Level, readRow};
 ghost use Rattle.frame.specs.inside.Packed.{chartOf, digitOf, rowOf, readCode, Below, levelNumber};
-ghost use Rattle.frame.specs.inside.Constants.{fillAt, digitBits, readBy};
+ghost use Rattle.frame.specs.inside.Constants.{fillAt, digitBits, readAt};
 use crate::charts;
-use crate::modes::Constants;
 
 // What the reader gives for a digit in no chart: this, and the digit's place. Every level is below it.
 pub(crate) const LOST: u64 = 1 << 32;
@@ -85,21 +84,28 @@ pub(crate) fn judged(largest: u64, v: u64) -> u64
 }
 
 // A level by its mode's constants: the level, or 2 ^ 16 times the fault, to which 7 adds the place of the digit in no chart.
-// Fill is tested before code, code before range.
-pub(crate) fn read_by(k: Constants, n: u64) -> u64
-    requires { ⌜ k .digits ≤ 5 ⌝ }
-    requires { ⌜ 16 ≤ k .first ⌝ }
-    requires { ⌜ k .first ≤ 17 ⌝ }
-    requires { ⌜ k .before ≤ 1 ⌝ }
-    requires { ⌜ k .after ≤ 6 ⌝ }
-    ensures { λ r. ⌜ r ≡ readBy k n ⌝ }
+// Fill is tested before code, code before range. The constants come one by one: handed over as numbers that are known where this is called, they
+// leave of the reader what their mode needs.
+pub(crate) fn read_by(
+    digits: u64,
+    first: u64,
+    before: u64,
+    after: u64,
+    largest: u64,
+    charts: u64,
+    start: bool,
+    n: u64,
+) -> u64
+    requires { ⌜ digits ≤ 5 ⌝ }
+    requires { ⌜ 16 ≤ first ⌝ }
+    requires { ⌜ first ≤ 17 ⌝ }
+    requires { ⌜ before ≤ 1 ⌝ }
+    requires { ⌜ after ≤ 6 ⌝ }
+    ensures { λ r. ⌜ r ≡ readAt digits first before after largest charts start n ⌝ }
 {
-    if !fill_clear(n, k.before, k.after) {
+    if !fill_clear(n, before, after) {
         return 6 * FAULT;
     }
-    let bits = digit_bits(n, k.first, k.after);
-    judged(
-        k.largest,
-        read_digits(k.charts, k.digits, bits, k.start, 0, 0),
-    )
+    let bits = digit_bits(n, first, after);
+    judged(largest, read_digits(charts, digits, bits, start, 0, 0))
 }

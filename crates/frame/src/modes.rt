@@ -3,7 +3,7 @@ ghost use mathlib.Core.Path.{_≡_};
 ghost use Prim.Native.Nat.{_<_, _^_};
 ghost use Rattle.frame.specs.Level.{modeOf, putLevel};
 ghost use Rattle.frame.specs.inside.Packed.{levelCode, secondCode};
-ghost use Rattle.frame.specs.inside.Constants.{fractional, decimalFeet, metres20, metres30, constantsBy, codesBy, writeBy};
+ghost use Rattle.frame.specs.inside.Constants.{fractional, decimalFeet, metres20, metres30, codesBy, readBy, readPairsBy, writeBy};
 use crate::level;
 use crate::level_writing;
 use crate::pairs;
@@ -34,6 +34,22 @@ impl Fractional {
         charts: 0x5432,
         start: false,
     };
+
+    fn read(n: u64) -> u64
+        ensures { λ r. ⌜ r ≡ readBy fractional n ⌝ }
+    {
+        let k = Self::CONSTANTS;
+        level::read_by(
+            k.digits,
+            k.first,
+            k.before,
+            k.after,
+            k.largest,
+            k.charts,
+            k.start,
+            n,
+        )
+    }
 
     // The codes of a level's digits: sixteenths, inches, feet, feet tens.
     fn codes(v: u64) -> u64
@@ -66,6 +82,29 @@ impl Decimal {
         start: false,
     };
 
+    fn read(n: u64) -> u64
+        ensures { λ r. ⌜ r ≡ readBy decimalFeet n ⌝ }
+    {
+        let k = Self::CONSTANTS;
+        level::read_by(
+            k.digits,
+            k.first,
+            k.before,
+            k.after,
+            k.largest,
+            k.charts,
+            k.start,
+            n,
+        )
+    }
+
+    fn read_by_pairs(n: u64) -> u64
+        ensures { λ r. ⌜ r ≡ readPairsBy decimalFeet n ⌝ }
+    {
+        let k = Self::CONSTANTS;
+        pairs::read_by(k.digits, k.first, k.before, k.after, k.largest, k.start, n)
+    }
+
     // The codes of a level's digits: hundredths, tenths, feet, feet tens.
     fn codes(v: u64) -> u64
         ensures { λ r. ⌜ (r ≡ codesBy decimalFeet v) × (r < 2 ^ 20) ⌝ }
@@ -95,6 +134,29 @@ impl Metres20 {
         start: false,
     };
 
+    fn read(n: u64) -> u64
+        ensures { λ r. ⌜ r ≡ readBy metres20 n ⌝ }
+    {
+        let k = Self::CONSTANTS;
+        level::read_by(
+            k.digits,
+            k.first,
+            k.before,
+            k.after,
+            k.largest,
+            k.charts,
+            k.start,
+            n,
+        )
+    }
+
+    fn read_by_pairs(n: u64) -> u64
+        ensures { λ r. ⌜ r ≡ readPairsBy metres20 n ⌝ }
+    {
+        let k = Self::CONSTANTS;
+        pairs::read_by(k.digits, k.first, k.before, k.after, k.largest, k.start, n)
+    }
+
     fn write(v: u64) -> u64
         ensures { λ r. ⌜ r ≡ writeBy metres20 v ⌝ }
     {
@@ -117,6 +179,29 @@ impl Metres30 {
         start: false,
     };
 
+    fn read(n: u64) -> u64
+        ensures { λ r. ⌜ r ≡ readBy metres30 n ⌝ }
+    {
+        let k = Self::CONSTANTS;
+        level::read_by(
+            k.digits,
+            k.first,
+            k.before,
+            k.after,
+            k.largest,
+            k.charts,
+            k.start,
+            n,
+        )
+    }
+
+    fn read_by_pairs(n: u64) -> u64
+        ensures { λ r. ⌜ r ≡ readPairsBy metres30 n ⌝ }
+    {
+        let k = Self::CONSTANTS;
+        pairs::read_by(k.digits, k.first, k.before, k.after, k.largest, k.start, n)
+    }
+
     fn write(v: u64) -> u64
         ensures { λ r. ⌜ r ≡ writeBy metres30 v ⌝ }
     {
@@ -125,33 +210,28 @@ impl Metres30 {
     }
 }
 
-// The constants of the mode of this number: no mode has code of its own, it is read and written by these.
-pub(crate) fn constants_of(mode: u64) -> Constants
-    ensures { λ r. ⌜ r ≡ constantsBy mode ⌝ }
-{
-    match mode {
-        0 => Fractional::CONSTANTS,
-        1 => Decimal::CONSTANTS,
-        2 => Metres20::CONSTANTS,
-        _ => Metres30::CONSTANTS,
-    }
-}
-
-// The level of a line in the mode of this number: the level, or 2 ^ 16 times the fault.
+// The level of a line in the mode of this number: the level, or 2 ^ 16 times the fault. There is one reader, and each mode hands it its constants.
 pub(crate) fn read_level(mode: u64, n: u64) -> u64
     ensures { λ r. ⌜ r ≡ levelCode (modeOf mode) n ⌝ }
 {
-    level::read_by(constants_of(mode), n)
+    match mode {
+        0 => Fractional::read(n),
+        1 => Decimal::read(n),
+        2 => Metres20::read(n),
+        _ => Metres30::read(n),
+    }
 }
 
 // The same, two digits at a time where all digits are decimal.
 pub(crate) fn read_level_by_pairs(mode: u64, n: u64) -> u64
     ensures { λ r. ⌜ r ≡ secondCode mode n ⌝ }
 {
-    if mode == 0 {
-        return read_level(mode, n);
+    match mode {
+        0 => Fractional::read(n),
+        1 => Decimal::read_by_pairs(n),
+        2 => Metres20::read_by_pairs(n),
+        _ => Metres30::read_by_pairs(n),
     }
-    pairs::read_by(constants_of(mode), n)
 }
 
 // The bits of a level in the mode of this number; the fill is 0.

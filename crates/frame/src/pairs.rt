@@ -7,9 +7,8 @@ ghost use Rattle.frame.specs.Pick.{pick};
 ghost use Rattle.frame.specs.Level.{Level};
 ghost use Rattle.frame.specs.Pairs.{noPair, entryOf, indexOf, readPairs, uncounted};
 ghost use Rattle.frame.specs.inside.Packed.{readCode, Below, levelNumber};
-ghost use Rattle.frame.specs.inside.Constants.{readPairsBy};
+ghost use Rattle.frame.specs.inside.Constants.{readPairsAt};
 use crate::level;
-use crate::modes::Constants;
 use crate::pair_table;
 
 // The mark for a pair in no chart. Every pair's number is below it.
@@ -107,18 +106,26 @@ fn judged(largest: u64, zeros: u64, v: u64) -> u64
 
 // A level by its mode's constants, as `level::read_by` has it, two digits at a time. A digit 0000 stands before digits that are odd in number: read
 // straight it is 0 and even, so that the first digit of the mode is still read straight.
-pub(crate) fn read_by(k: Constants, n: u64) -> u64
-    requires { ⌜ k .digits ≤ 5 ⌝ }
-    requires { ⌜ 16 ≤ k .first ⌝ }
-    requires { ⌜ k .first ≤ 17 ⌝ }
-    requires { ⌜ k .before ≤ 1 ⌝ }
-    requires { ⌜ k .after ≤ 6 ⌝ }
-    ensures { λ r. ⌜ r ≡ readPairsBy k n ⌝ }
+pub(crate) fn read_by(
+    digits: u64,
+    first: u64,
+    before: u64,
+    after: u64,
+    largest: u64,
+    start: bool,
+    n: u64,
+) -> u64
+    requires { ⌜ digits ≤ 5 ⌝ }
+    requires { ⌜ 16 ≤ first ⌝ }
+    requires { ⌜ first ≤ 17 ⌝ }
+    requires { ⌜ before ≤ 1 ⌝ }
+    requires { ⌜ after ≤ 6 ⌝ }
+    ensures { λ r. ⌜ r ≡ readPairsAt digits first before after largest start n ⌝ }
 {
-    if !level::fill_clear(n, k.before, k.after) {
+    if !level::fill_clear(n, before, after) {
         return 6 * level::FAULT;
     }
-    let bits = level::digit_bits(n, k.first, k.after);
-    let v = read_pairs((k.digits + 1) / 2, bits, k.start, 0, 0);
-    judged(k.largest, k.digits % 2, v)
+    let bits = level::digit_bits(n, first, after);
+    let v = read_pairs((digits + 1) / 2, bits, start, 0, 0);
+    judged(largest, digits % 2, v)
 }

@@ -33,22 +33,28 @@ abbrev pub digitBits : ℕ → ℕ → ℕ
 digitBits first after = 38 - first - after
 
 -- The bits of the digits.
-abbrev pub cutBy : Constants → ℕ → ℕ
-cutBy k n = n / 2 ^ (27 + k .after) % 2 ^ digitBits (k .first) (k .after)
+abbrev pub cutAt : ℕ → ℕ → ℕ → ℕ
+cutAt first after n = n / 2 ^ (27 + after) % 2 ^ digitBits first after
 
--- A level read by a mode's constants: the level, or 2 ^ 16 times the fault, to which 7 adds the place of the digit.
-abbrev pub readBy : Constants → ℕ → ℕ
-readBy k n =
-    pick (fillAt n (k .before) (k .after))
-    (levelNumber (k .largest) (readRow (rowOf (k .charts) (k .digits)) (cutBy k n) (k .start) 0 0))
+-- A level read by these numbers of a mode: the level, or 2 ^ 16 times the fault, to which 7 adds the place of the digit.
+abbrev pub readAt : ℕ → ℕ → ℕ → ℕ → ℕ → ℕ → Bool → ℕ → ℕ
+readAt digits first before after largest charts start n =
+    pick (fillAt n before after)
+    (levelNumber largest (readRow (rowOf charts digits) (cutAt first after n) start 0 0))
     (6 * 2 ^ 16)
+
+abbrev pub readBy : Constants → ℕ → ℕ
+readBy k n = readAt (k .digits) (k .first) (k .before) (k .after) (k .largest) (k .charts) (k .start) n
 
 -- The same two digits at a time, after a digit 0000 where they are odd in number.
-abbrev pub readPairsBy : Constants → ℕ → ℕ
-readPairsBy k n =
-    pick (fillAt n (k .before) (k .after))
-    (levelNumber (k .largest) (uncounted (k .digits % 2) (readPairs ((k .digits + 1) / 2) (cutBy k n) (k .start) 0 0)))
+abbrev pub readPairsAt : ℕ → ℕ → ℕ → ℕ → ℕ → Bool → ℕ → ℕ
+readPairsAt digits first before after largest start n =
+    pick (fillAt n before after)
+    (levelNumber largest (uncounted (digits % 2) (readPairs ((digits + 1) / 2) (cutAt first after n) start 0 0)))
     (6 * 2 ^ 16)
+
+abbrev pub readPairsBy : Constants → ℕ → ℕ
+readPairsBy k n = readPairsAt (k .digits) (k .first) (k .before) (k .after) (k .largest) (k .start) n
 
 -- The codes of a level's digits, written from the ones digit up.
 abbrev pub codesBy : Constants → ℕ → ℕ

@@ -27,7 +27,7 @@ mul-result c = search needs
 returns : tie.Need-returns
 returns c =
     let a = c .before .before .args in
-    let set : fillAt (a .n) (a .k .before) (a .k .after) ≡ false = sym (c .before .fill-clear .ensures) ∙ not-true _ (c .if1 .taken) in
+    let set : fillAt (a .n) (a .before) (a .after) ≡ false = sym (c .before .fill-clear .ensures) ∙ not-true _ (c .if1 .taken) in
     rw set
 
 digit-bits-requires : tie.Need-digit-bits-requires
@@ -36,7 +36,7 @@ digit-bits-requires c κs = search needs
 read-digits-requires : tie.Need-read-digits-requires
 read-digits-requires c κs =
     let a = c .before .before .before .args in
-    (omega (arith, sixteen-le (a .k .digits) (omega arith)), omega arith)
+    (omega (arith, sixteen-le (a .digits) (omega arith)), omega arith)
 
 judged-requires : tie.Need-judged-requires
 judged-requires c κs = search needs
@@ -44,12 +44,12 @@ judged-requires c κs = search needs
 returns-2 : tie.Need-returns-2
 returns-2 c =
     let a = c .before .before .before .before .before .args in
-    let clear : fillAt (a .n) (a .k .before) (a .k .after) ≡ true = sym (c .before .before .before .before .fill-clear .ensures) ∙ not-false _ (c .before .before .before .if1 .left) in
-    let bits = a .n / 2 ^ (27 + a .k .after) % 2 ^ digitBits (a .k .first) (a .k .after) in
-    let l = readRow (rowOf (a .k .charts) (a .k .digits)) bits (a .k .start) 0 0 in
+    let clear : fillAt (a .n) (a .before) (a .after) ≡ true = sym (c .before .before .before .before .fill-clear .ensures) ∙ not-false _ (c .before .before .before .if1 .left) in
+    let bits = a .n / 2 ^ (27 + a .after) % 2 ^ digitBits (a .first) (a .after) in
+    let l = readRow (rowOf (a .charts) (a .digits)) bits (a .start) 0 0 in
     let read : c .before .read-digits .result ≡ readCode l =
-    c .before .read-digits .ensures ∙ ap (λ (n : ℕ). readCode (readRow (rowOf (a .k .charts) (a .k .digits)) n (a .k .start) 0 0)) (c .before .before .digit-bits .ensures) in
-    rw clear (c .judged .ensures l (under (a .k .digits) l (omega arith) (row-below (a .k .charts) (a .k .digits) bits (a .k .start) 0 0)) read)
+    c .before .read-digits .ensures ∙ ap (λ (n : ℕ). readCode (readRow (rowOf (a .charts) (a .digits)) n (a .start) 0 0)) (c .before .before .digit-bits .ensures) in
+    rw clear (c .judged .ensures l (under (a .digits) l (omega arith) (row-below (a .charts) (a .digits) bits (a .start) 0 0)) read)
 
 pub read-by-spec : {M : Type 1} → statement M
 read-by-spec =

@@ -28,7 +28,7 @@ mul-result c = search needs
 returns : tie.Need-returns
 returns c =
     let a = c .before .before .args in
-    let set : fillAt (a .n) (a .k .before) (a .k .after) ≡ false = sym (c .before .fill-clear .ensures) ∙ not-true _ (c .if1 .taken) in
+    let set : fillAt (a .n) (a .before) (a .after) ≡ false = sym (c .before .fill-clear .ensures) ∙ not-true _ (c .if1 .taken) in
     rw set
 
 digit-bits-requires : tie.Need-digit-bits-requires
@@ -39,26 +39,26 @@ add-read-pairs c = search needs
 
 read-pairs-requires : tie.Need-read-pairs-requires
 read-pairs-requires c κs =
-    let b = c .before .before .before .before in
-    let few : (b .args .k .digits + 1) / 2 ≤ 3 = omega (arith, b .pre .0) in
-    (omega (arith, hundred-le ((b .args .k .digits + 1) / 2) (omega (arith, few))), omega (arith, few))
+    let b = c .before .before .before in
+    let few : (b .args .digits + 1) / 2 ≤ 3 = omega (arith, b .pre .0) in
+    (omega (arith, hundred-le ((b .args .digits + 1) / 2) (omega (arith, few))), omega (arith, few))
 
 judged-requires : tie.Need-judged-requires
 judged-requires c κs = search needs
 
 returns-2 : tie.Need-returns-2
 returns-2 c =
-    let d = c .before .before .before .before in
+    let d = c .before .before in
     let b = d .before .before .before in
     let a = b .args in
-    let left = (a .k .digits + 1) / 2 in
-    let clear : fillAt (a .n) (a .k .before) (a .k .after) ≡ true = sym (d .before .before .fill-clear .ensures) ∙ not-false _ (d .before .if1 .left) in
-    let bits = a .n / 2 ^ (27 + a .k .after) % 2 ^ digitBits (a .k .first) (a .k .after) in
-    let l = readPairs left bits (a .k .start) 0 0 in
-    let read : c .before .before .read-pairs .result ≡ readCode l =
-    c .before .before .read-pairs .ensures ∙ ap (λ (n : ℕ). readCode (readPairs left n (a .k .start) 0 0)) (d .digit-bits .ensures) in
+    let left = (a .digits + 1) / 2 in
+    let clear : fillAt (a .n) (a .before) (a .after) ≡ true = sym (d .before .before .fill-clear .ensures) ∙ not-false _ (d .before .if1 .left) in
+    let bits = a .n / 2 ^ (27 + a .after) % 2 ^ digitBits (a .first) (a .after) in
+    let l = readPairs left bits (a .start) 0 0 in
+    let read : c .before .read-pairs .result ≡ readCode l =
+    c .before .read-pairs .ensures ∙ ap (λ (n : ℕ). readCode (readPairs left n (a .start) 0 0)) (d .digit-bits .ensures) in
     let few : left ≤ 4 = omega (arith, b .pre .0) in
-    rw clear (c .judged .ensures l (under left l few (pairs-below left bits (a .k .start) 0 0)) read)
+    rw clear (c .judged .ensures l (under left l few (pairs-below left bits (a .start) 0 0)) read)
 
 pub read-by-spec : {M : Type 1} → statement M
 read-by-spec =
