@@ -9,6 +9,7 @@ pub mod items;
 pub mod joins;
 pub mod lines;
 pub mod order;
+pub mod pollings;
 pub mod profiles;
 pub mod rounds;
 pub mod since;
@@ -107,6 +108,57 @@ where
         assert_eq!(self.rows, rows, "{after}");
     }
 }
+
+/// The same of rounds that a core runs itself.
+macro_rules! polling_tests_on {
+    ($core:expr) => {
+        #[test]
+        fn rounds_begun_from_boards() {
+            $crate::vectors::pollings::begun_from_boards(&$core);
+        }
+
+        #[test]
+        fn a_round_from_its_beginning() {
+            $crate::vectors::pollings::from_the_beginning(&$core);
+        }
+
+        #[test]
+        fn answers_in_time_and_late() {
+            $crate::vectors::pollings::in_time(&$core);
+        }
+
+        #[test]
+        fn answers_spoiled_or_stuck() {
+            $crate::vectors::pollings::spoiled_or_stuck(&$core);
+        }
+
+        #[test]
+        fn the_bench_reply_polled_for() {
+            $crate::vectors::pollings::the_bench_reply(&$core);
+        }
+
+        #[test]
+        fn transmitters_asked_again() {
+            $crate::vectors::pollings::asked_again(&$core);
+        }
+
+        #[test]
+        fn rounds_at_a_bad_pace() {
+            $crate::vectors::pollings::bad_paces(&$core);
+        }
+
+        #[test]
+        fn patterns_of_a_round_under_way() {
+            $crate::vectors::pollings::patterns(&$core);
+        }
+
+        #[test]
+        fn a_whole_round_of_thirty() {
+            $crate::vectors::pollings::thirty(&$core);
+        }
+    };
+}
+pub(crate) use polling_tests_on;
 
 /// One test for each table, on a core.
 macro_rules! tests_on {
@@ -308,4 +360,5 @@ pub(crate) use tests_on;
 
 mod on_the_reading {
     super::tests_on!(crate::reading::IndependentReading);
+    super::polling_tests_on!(crate::reading::IndependentReading);
 }

@@ -9,12 +9,12 @@ use crate::types::{
 use std::ops::RangeInclusive;
 
 /// The rows that count: those past the thirtieth are never read or written.
-fn board(rows: &[Row]) -> &[Row] {
+pub(super) fn board(rows: &[Row]) -> &[Row] {
     &rows[..rows.len().min(ROWS)]
 }
 
 /// Refuses by 38 rows that are not kept in order: those in use first, by strictly rising address.
-fn kept(rows: &[Row]) -> Answer<()> {
+pub(super) fn kept(rows: &[Row]) -> Answer<()> {
     let used = board(rows).iter().filter(|row| row.in_use).count();
     let (front, behind) = board(rows).split_at(used);
     let rising = front.windows(2).all(|two| two[0].address < two[1].address);

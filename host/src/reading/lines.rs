@@ -222,7 +222,7 @@ impl Ear {
 
 /// How many samples from the first on are the same; 0 if there is none.
 #[inline]
-fn run_of(samples: &[u8]) -> usize {
+pub(super) fn run_of(samples: &[u8]) -> usize {
     const BLOCK: usize = 64;
     let Some(&first) = samples.first() else {
         return 0;

@@ -19,6 +19,7 @@ pub mod joins;
 pub mod lines;
 pub mod listing;
 mod modes;
+pub mod pollings;
 pub mod rounds;
 pub mod sheet;
 pub mod stores;
