@@ -7,6 +7,7 @@ use damaged::drawings::{Misdrawn, Pen};
 use damaged::items::{Clerk, Mistold};
 use damaged::joins::{Joiner, Misjoined};
 use damaged::lines::{Listener, Misheard};
+use damaged::pollings::{Mispolled, Poller};
 use damaged::rounds::{Misrounded, Rounder};
 use damaged::stores::{Mismade, Teller};
 use damaged::summaries::{Desk, Miscounted};
@@ -278,6 +279,87 @@ fn drawings() {
             (ByteOfNoBitsTaken, &[FORMS, ANYWHERE]),
             (RefusalChanges, &[FORMS, ANYWHERE]),
             (EndIsRefused, &[SHORT, FORMS, ANYWHERE, SAMPLES, HEARD]),
+        ],
+    }
+    .settle();
+}
+
+#[test]
+fn pollings() {
+    use Mispolled::*;
+    const BOARDS: &str = "polling, boards begun";
+    const SHORT: &str = "polling, all short answers";
+    const TIMES: &str = "polling, timing numbers";
+    const STATES: &str = "polling, states of every kind";
+    const BATCHES: &str = "polling, rounds in batches";
+    const EACH: &str = "polling, each transmitter, right";
+    Account {
+        checks: compare::pollings::checks,
+        mirrored: compare::pollings::checks,
+        core: Poller,
+        found_by: &[
+            (SettingsNotTaken, &[BOARDS, EACH]),
+            (OrderNotAsked, &[BOARDS]),
+            (RoundBesideRefusal, &[BOARDS]),
+            (FreeRowTaken, &[BOARDS]),
+            (LastOfThirtyLeftOut, &[BOARDS, EACH]),
+            (ThirtyFirstAsked, &[BOARDS]),
+            (MinuteLeftOut, &[BOARDS]),
+            (FirstAddressForAll, &[STATES, BATCHES, EACH]),
+            (NoDelayBeforeAgain, &[STATES, BATCHES, EACH]),
+            (RaiseInPoll, &[TIMES, STATES, BATCHES, EACH]),
+            (PollOneSampleShort, &[TIMES, STATES, BATCHES, EACH]),
+            (BatchBeginsThePoll, &[STATES, BATCHES, EACH]),
+            (DrawsWhileListening, &[TIMES, STATES, BATCHES, EACH]),
+            (OneByteMoreWritten, &[TIMES, STATES, BATCHES, EACH]),
+            (EndLeftDrawing, &[TIMES, STATES, BATCHES]),
+            (LargeAddressPolled, &[STATES, BATCHES]),
+            (OwnPollHeard, &[TIMES, STATES, BATCHES, EACH]),
+            (SilentOneLate, &[SHORT, TIMES, STATES, BATCHES, EACH]),
+            (SilentOneEarly, &[SHORT, STATES, BATCHES, EACH]),
+            (FirstLowAtWaitIsLate, &[SHORT, STATES, BATCHES, EACH]),
+            (GivenUpOneLate, &[SHORT, TIMES, STATES, BATCHES, EACH]),
+            (GivenUpBeforeClose, &[SHORT, STATES, BATCHES, EACH]),
+            (GivenUpIsSilence, &[SHORT, TIMES, STATES, BATCHES, EACH]),
+            (GivenUpIsSpoiled, &[SHORT, STATES, BATCHES, EACH]),
+            (SpoiledIsAtRest, &[SHORT, STATES, BATCHES, EACH]),
+            (RestTakenToo, &[SHORT, TIMES, STATES, BATCHES, EACH]),
+            (FaultyAskedAgain, &[SHORT, TIMES, STATES, BATCHES, EACH]),
+            (SpoiledNotAskedAgain, &[SHORT, STATES, BATCHES, EACH]),
+            (SilenceNotAskedAgain, &[SHORT, TIMES, STATES, BATCHES, EACH]),
+            (OneTryMore, &[SHORT, TIMES, STATES, BATCHES, EACH]),
+            (OneTryLess, &[SHORT, STATES, BATCHES, EACH]),
+            (TriedKeptForTheNext, &[STATES, BATCHES, EACH]),
+            (LastOnlyWhenJustReached, &[STATES]),
+            (LinesKept, &[SHORT, STATES, BATCHES]),
+            (MinuteOfTheBeginning, &[SHORT, TIMES, STATES, BATCHES, EACH]),
+            (MinuteSetWhenAskedAgain, &[SHORT, TIMES, STATES, BATCHES]),
+            (OldBitsLeft, &[STATES, BATCHES]),
+            (EightBytesAlways, &[SHORT, TIMES, STATES, BATCHES, EACH]),
+            (SettingsCleared, &[SHORT, TIMES, STATES, BATCHES, EACH]),
+            (UnusedCleared, &[STATES, BATCHES]),
+            (OverToldLate, &[STATES, BATCHES, EACH]),
+            (NextReplyTold, &[SHORT, TIMES, STATES, BATCHES, EACH]),
+            (NumberOnlyWhenAnswered, &[SHORT, STATES, BATCHES, EACH]),
+            (OverBeforeTiming, &[TIMES, STATES]),
+            (StateMeantBesideTiming, &[TIMES, STATES]),
+            (OverStateTidied, &[TIMES, STATES]),
+            (PassedComesRound, &[STATES]),
+            (ListeningOnlyByOne, &[STATES]),
+            (LinesKeptWhileDrawing, &[STATES]),
+            (StrangeLinesKept, &[TIMES, STATES]),
+            (BeyondThePollIsDrawing, &[STATES]),
+            (NoDelayRefused, &[TIMES, SHORT, STATES, BATCHES, EACH]),
+            (LongestDelayRefused, &[TIMES, STATES]),
+            (TenTriesTaken, &[TIMES, STATES]),
+            (TriesCutToByte, &[TIMES, STATES]),
+            (WaitAboveLongestTaken, &[TIMES, STATES]),
+            (WaitAtLongestRefused, &[TIMES, SHORT, STATES, BATCHES, EACH]),
+            (LowOutsidePulseRefused, &[TIMES, STATES, BATCHES, EACH]),
+            (StillAtGapRefused, &[TIMES, STATES, BATCHES, EACH]),
+            (GapAboveLongestRefused, &[TIMES, STATES, BATCHES, EACH]),
+            (TenMillionRefused, &[TIMES, STATES]),
+            (NumbersCutToTwoBytes, &[TIMES, STATES]),
         ],
     }
     .settle();

@@ -13,6 +13,7 @@ pub mod frames;
 pub mod items;
 pub mod joins;
 pub mod lines;
+pub mod pollings;
 pub mod rounds;
 pub mod sheets;
 pub mod stores;
@@ -73,6 +74,10 @@ pub struct Plan {
     pub months: usize,
     /// Saves told as their stores, each on a sheet of its own.
     pub told_saves: usize,
+    /// States of a round under way, and as many boards to begin from.
+    pub pollings: usize,
+    /// Whole rounds run against made-up transmitters, and half as many run in three batchings.
+    pub polled_rounds: usize,
 }
 
 impl Plan {
@@ -101,6 +106,8 @@ impl Plan {
             cut_rounds: 10_000,
             months: 20_000,
             told_saves: 20_000,
+            pollings: 100_000,
+            polled_rounds: 2_000,
         }
     }
 
@@ -129,6 +136,8 @@ impl Plan {
             cut_rounds: 2_000,
             months: 200,
             told_saves: 8_000,
+            pollings: 20_000,
+            polled_rounds: 200,
         }
     }
 }

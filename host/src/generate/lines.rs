@@ -106,7 +106,7 @@ fn with_bits(random: &mut Random, least: usize) -> SoFar {
 }
 
 /// A number between two, short ones and the ends more often than chance would have them.
-fn end_or(random: &mut Random, least: u32, most: u32) -> u32 {
+pub(super) fn end_or(random: &mut Random, least: u32, most: u32) -> u32 {
     match random.below(8) {
         0 => least,
         1 => most,
@@ -179,7 +179,7 @@ impl Drawn {
         self.run(0, more.min(ENOUGH / 8));
     }
 
-    fn message(&mut self, random: &mut Random, times: PulseTimes) {
+    pub(super) fn message(&mut self, random: &mut Random, times: PulseTimes) {
         let bits = bits(random, times);
         self.message_of(random, times, bits);
     }
@@ -205,7 +205,7 @@ impl Drawn {
     }
 
     /// A message with damage in it, anything between two gaps.
-    fn spoiled(&mut self, random: &mut Random, times: PulseTimes) {
+    pub(super) fn spoiled(&mut self, random: &mut Random, times: PulseTimes) {
         let before = match times.gap {
             1 => Vec::new(),
             _ => bits(random, times),
@@ -239,6 +239,14 @@ impl Drawn {
             }
         }
         self.close(random, times, Vec::new(), number);
+    }
+
+    /// Pulses with idle between them that closes nothing, so many samples or more; none for gap 1.
+    pub(super) fn restless(&mut self, random: &mut Random, times: PulseTimes, length: usize) {
+        while times.gap > 1 && self.samples.len() < length {
+            let mark = random.coin();
+            self.pulse(random, times, mark);
+        }
     }
 
     /// One thing that spoils; answers the number that it asks for.

@@ -6,6 +6,7 @@ mod drawings;
 mod items;
 mod joins;
 mod lines;
+mod pollings;
 mod replies;
 mod rounds;
 mod sheets;
@@ -18,6 +19,9 @@ pub use drawings::{drawing, from_sample, good_drawing, DrawingCase};
 pub use items::{framed, item, item_asked, mend, record, AskedCase};
 pub use joins::{joinable, shares};
 pub use lines::{bad_times, batches, drawn, pulse_times, samples, so_far, Drawn, Saying};
+pub use pollings::{
+    bad_pace, enrolled, few_samples, noise, pace, polling, quick_pace, sensed, Sensed,
+};
 pub use replies::{damage, damaged_reply, good_reply, reading, reply_of, with_parity, ReplyCase};
 pub use rounds::{polled, round, round_of};
 pub use sheets::{

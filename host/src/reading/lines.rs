@@ -83,6 +83,11 @@ pub fn hear(so_far: SoFar, times: PulseTimes, samples: &[u8]) -> LinesTold {
     told(ear.left(), taken)
 }
 
+/// The state that a state stands for: itself where calls leave it, else a spoiled message's.
+pub(super) fn meant(so_far: SoFar) -> SoFar {
+    Ear::meant(so_far).left()
+}
+
 /// Whether the timing numbers are ones that may be asked for.
 fn good(times: PulseTimes) -> bool {
     let PulseTimes { least, most, gap } = times;

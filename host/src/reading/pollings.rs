@@ -90,7 +90,9 @@ fn whole(polling: &Polling, pace: &Pace) -> u32 {
 
 /// Makes the state of a round that goes on the one that it stands for.
 fn mean(polling: &mut Polling, pace: &Pace) {
-    if polling.listening == 0 {
+    if polling.listening != 0 {
+        polling.lines = lines::meant(polling.lines);
+    } else {
         polling.lines = SoFar::default();
         if polling.passed < whole(polling, pace) {
             return;

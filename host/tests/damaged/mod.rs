@@ -5,6 +5,7 @@ pub mod drawings;
 pub mod items;
 pub mod joins;
 pub mod lines;
+pub mod pollings;
 pub mod rounds;
 pub mod stores;
 pub mod summaries;
