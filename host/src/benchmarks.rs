@@ -11,6 +11,7 @@ mod items;
 mod joins;
 pub mod lines;
 mod modes;
+mod pollings;
 mod rounds;
 mod stores;
 mod summaries;
@@ -388,12 +389,13 @@ mod tests {
         };
         benchmarks.lines(&mut tell);
         benchmarks.drawings(&mut tell);
+        benchmarks.pollings(&mut tell);
         benchmarks.items(&mut tell);
         benchmarks.areas(&mut tell);
         benchmarks.summaries(&mut tell);
         benchmarks.joins(&mut tell);
         benchmarks.rounds(&mut tell);
         benchmarks.stores(&mut tell);
-        assert_eq!(names.len(), 21, "{names:#?}");
+        assert_eq!(names.len(), 29, "{names:#?}");
     }
 }
