@@ -1,12 +1,13 @@
 /*
- * A small host over libsisalcove.a: a month at a depot with two made-up transmitters. Twice a day it draws a poll of each on the two
- * lines, hears the reply from samples of them, saves it on the card and lets the board hear it. One reply is damaged on the line, one does not come, one is
- * spoiled by a spike and asked for again, once the power fails in the middle of a save, and once right after its last store. At the end
- * it prints the listing of the card and how the transmitters stand on the board.
+ * A small host over libsisalcove.a: a month of mornings at a depot with three made-up transmitters. Each morning the recorder runs its
+ * round: the host drives the lines as it is told, senses them, and hands over what it sensed, until the round is over. Then it saves the
+ * round beside the desk's summary, and lets the board hear each reply. One reply is damaged by its transmitter, one does not come, one is
+ * spoiled by a spike and asked for again, one line stays low, and the power goes twice: in the middle of a save, and in the middle of a
+ * round. At the end it prints the listing of the card and how the transmitters stand on the board.
  *
  * It is the promise "from the wire to the listing" run once: beside the card it keeps what the listing is to say, from what the
  * transmitters said and where the power went alone, and compares the two at the end.
- * examples/desk.c is a day of the board's own calls.
+ * examples/desk.c is a day of the board's own calls, examples/round.c has more of rounds that are cut.
  *
  * ./build-library && examples/run
  */
@@ -17,37 +18,6 @@
 #include <stdlib.h>
 #include <string.h>
 
-/* ---- two made-up transmitters ---------------------------------------------------------------------------------------------------- */
-
-struct transmitter {
-    uint16_t address;
-    uint8_t settings;
-    uint16_t level;  /* on the first day, */
-    uint16_t a_day;  /* what is drawn each day, */
-    int16_t tenths;  /* the temperature at dawn, */
-    int16_t by_dusk; /* and how much warmer it is at dusk */
-    size_t low;      /* samples of its pulses, */
-    size_t still;    /* and of the idle after each */
-};
-
-static const struct transmitter site[] = {
-    /* a Model 1900 that tells hundredths of a foot */
-    {7, SISAL_MODE_DECIMAL, 3000, 61, -123, 188, 4, 5},
-    /* a Model 1800 that tells millimetres, with odd parity; at dusk it is beyond its range */
-    {310, SISAL_MODE_20_M | SISAL_TYPE_1800 | SISAL_ODD_PARITY, 9999, 217, 1905, 120, 7, 9},
-};
-
-enum { TRANSMITTERS = sizeof site / sizeof site[0], DAYS = 31 };
-
-/* What comes back on the line, and what the listing is to say of it after the address. */
-struct line {
-    uint8_t bytes[SISAL_REPLY_MOST_BYTES];
-    size_t count; /* bits */
-    char says[32];
-};
-
-static size_t bytes_of(const struct line *line) { return (line->count + 7) / 8; }
-
 /* A host that is refused what it never should be has a mistake in itself. */
 static void want(int holds, const char *what)
 {
@@ -57,144 +27,104 @@ static void want(int holds, const char *what)
     }
 }
 
-/* A transmitter answers a poll of its own address, and no other. An 1800 says "above" where it is warmer than it can tell. */
-static struct line answer(const struct transmitter *t, const struct line *poll, int day, int dusk)
-{
-    struct line line = {{0}, 0, "fault 1"};
-    struct sisal_poll asked = sisal_read_poll(poll->bytes, bytes_of(poll));
-    if (asked.number == SISAL_OK && asked.address == t->address) {
-        uint16_t level = (uint16_t)(t->level - day * t->a_day);
-        int16_t tenths = (int16_t)(t->tenths + (dusk ? t->by_dusk : 0));
-        int above = (t->settings & SISAL_TYPE_1800) && tenths > 1999;
-        uint8_t low = level < 1500;
-        uint8_t kind = above ? SISAL_KIND_ABOVE : SISAL_KIND_DEGREES;
-        struct sisal_done sent = sisal_write_reply(t->settings, t->address, level, kind, tenths, 0, low, line.bytes, sizeof line.bytes);
-        want(sent.number == SISAL_OK, "no reply");
-        line.count = 8 * sent.count;
-        if (above)
-            snprintf(line.says, sizeof line.says, "%u above 0 %u", level, low);
-        else
-            snprintf(line.says, sizeof line.says, "%u %d 0 %u", level, tenths, low);
-    }
-    return line;
-}
+/* ---- three made-up transmitters, and the lines --------------------------------------------------------------------------------------- */
 
-/* ---- the two lines --------------------------------------------------------------------------------------------------------------- */
-
-/* In samples: a poll's pulses and the idle after each, what is taken for a pulse, and the GAP of idle that a message ends in. */
-enum { LOW = 5, STILL = 6, LEAST = 3, MOST = 8, GAP = 40, PORT = 100, SAMPLES = 2048 };
-
-struct sampled {
-    uint8_t samples[SAMPLES];
-    size_t count;
+struct transmitter {
+    uint16_t address;
+    uint8_t settings;
+    uint16_t level; /* on the first day, */
+    uint16_t a_day; /* what is drawn each day, */
+    uint8_t kind;   /* and the temperature, if it tells one */
+    int16_t tenths;
+    size_t low;     /* samples of its pulses, */
+    size_t still;   /* and of the idle after each */
+    char says[32];  /* what the listing is to say of its last answer, behind the address */
 };
 
-static void idle(struct sampled *lines, size_t times)
-{
-    want(times <= SAMPLES - lines->count, "no room");
-    memset(lines->samples + lines->count, SISAL_SAMPLE_IDLE, times);
-    lines->count += times;
-}
+static struct transmitter site[] = {
+    /* a Model 1900 that tells hundredths of a foot */
+    {7, SISAL_MODE_DECIMAL, 3000, 61, SISAL_KIND_DEGREES, -123, 4, 5, ""},
+    /* a Model 1800 that tells millimetres, with odd parity; it is warmer than it can tell */
+    {310, SISAL_MODE_20_M | SISAL_TYPE_1800 | SISAL_ODD_PARITY, 9999, 217, SISAL_KIND_ABOVE, 0, 7, 9, ""},
+    /* one that tells sixteenths of an inch, and no temperature */
+    {742, SISAL_MODE_FRACTIONAL, 15000, 333, SISAL_KIND_ABSENT, 0, 5, 3, ""},
+};
 
-/* Draws a message in batches, as a port might take them: each goes on where the last one ended. */
-static void draw(struct sampled *lines, size_t low, size_t still, const struct line *line)
+enum { TRANSMITTERS = sizeof site / sizeof site[0], DAYS = 31, PORT = 100, LEAD = 25, SPIKE = 90 };
+
+/* The pace of a round, in samples. The transmitters' ears go by the same numbers as the recorder's. */
+static const struct sisal_pace pace = {
+    .low = 5, .still = 6, .delay = 60, .least = 3, .most = 8, .gap = 40, .wait = 200, .longest = 2000, .tries = 2};
+
+/* What comes on the lines after a poll: samples, and then one for ever. */
+static struct {
+    uint8_t samples[1024];
+    size_t count, at;
+    uint8_t then;
+} wire;
+static struct sisal_lines_so_far ear; /* what the transmitters heard of a poll */
+static int today;
+
+/* Every transmitter hears every poll; the one whose address it is answers. */
+static void answer(const struct sisal_lines_told *poll)
 {
-    for (size_t from = 0;;) {
-        want(PORT <= SAMPLES - lines->count, "no room");
-        struct sisal_done drawn =
-            sisal_draw(low, still, line->count, line->bytes, bytes_of(line), from, lines->samples + lines->count, PORT);
-        want(drawn.number == SISAL_OK, "not drawn");
-        if (drawn.count == 0)
+    static int spiked;
+    struct sisal_poll asked = sisal_read_poll(poll->message, SISAL_REPLY_BYTES(poll->count));
+    memset(&wire, SISAL_SAMPLE_IDLE, sizeof wire);
+    for (struct transmitter *t = site; asked.number == SISAL_OK && t < site + TRANSMITTERS; t++) {
+        if (t->address != asked.address)
+            continue;
+        uint8_t bytes[SISAL_REPLY_56_BYTES];
+        uint16_t level = (uint16_t)(t->level - today * t->a_day);
+        uint8_t low = level < 1500;
+        struct sisal_done sent = sisal_write_reply(t->settings, t->address, level, t->kind, t->tenths, 0, low, bytes, sizeof bytes);
+        if (t->kind == SISAL_KIND_DEGREES)
+            snprintf(t->says, sizeof t->says, "%u %d 0 %u", level, t->tenths, low);
+        else
+            snprintf(t->says, sizeof t->says, "%u %s 0 %u", level, t->kind == SISAL_KIND_ABOVE ? "above" : "-", low);
+        int silent = t->address == 7 && today == 11, stuck = t->address == 742 && today == 25;
+        if (silent || stuck) {
+            wire.then = stuck ? SISAL_SAMPLE_MARK : SISAL_SAMPLE_IDLE;
+            strcpy(t->says, "fault 1");
             return;
-        from += drawn.count;
-        lines->count += drawn.count;
-    }
-}
-
-/* What a sampler sees of a message, a spike in it or none. Where nothing comes there is idle alone. */
-static struct sampled sample(const struct line *line, size_t low, size_t still, int spike)
-{
-    struct sampled lines = {{0}, 0};
-    idle(&lines, 25);
-    draw(&lines, low, still, line);
-    idle(&lines, GAP);
-    if (spike)
-        lines.samples[90] = SISAL_SAMPLE_BOTH;
-    return lines;
-}
-
-/* Hears samples in uneven batches, as a driver might have them, up to the first message or report. Answers 0, or 21 or 22. */
-static uint8_t hear(const struct sampled *lines, struct line *line)
-{
-    struct sisal_lines_so_far so_far = {0, 0, 0, 0, 0};
-    size_t batch = 1;
-    line->count = 0;
-    for (size_t at = 0; at < lines->count;) {
-        size_t have = batch < lines->count - at ? batch : lines->count - at;
-        struct sisal_lines_told told = sisal_hear_lines(so_far, LEAST, MOST, GAP, lines->samples + at, have);
-        want(told.number != SISAL_FAULT_TIMING, "bad timing numbers");
-        if (told.number != SISAL_OK || told.count > 0) {
-            line->count = told.count;
-            memcpy(line->bytes, told.message, bytes_of(line));
-            return told.number;
         }
-        so_far = told.so_far;
-        at += told.taken;
-        batch = batch * 5 % 97 + 1;
+        if (t->address == 310 && today == 4) {
+            bytes[2] ^= 0x10; /* a bit turned over: no reading any more, but a message; it is not asked for again */
+            strcpy(t->says, "fault 5");
+        }
+        struct sisal_done drawn =
+            sisal_draw(t->low, t->still, 8 * sent.count, bytes, sent.count, 0, wire.samples + LEAD, sizeof wire.samples - LEAD);
+        want(sent.number == SISAL_OK && drawn.number == SISAL_OK, "no reply");
+        wire.count = LEAD + drawn.count;
+        if (t->address == 310 && today == 20 && !spiked++)
+            wire.samples[SPIKE] = SISAL_SAMPLE_BOTH;
     }
-    return SISAL_OK;
 }
 
-/* ---- the host -------------------------------------------------------------------------------------------------------------------- */
-
-static uint8_t card[SISAL_SHEET_BYTES];
-static struct sisal_row board[SISAL_ROWS];
-
-/* The board stands in memory that a power cut clears; the card keeps what is on it. */
-static void power_on(void)
+/* The recorder drives the lines. */
+static void drive(const uint8_t *port, size_t count)
 {
-    memset(board, 0, sizeof board);
-    for (int i = 0; i < TRANSMITTERS; i++)
-        want(sisal_board_enrol(SISAL_ROWS_OF(board), site[i].settings, site[i].address, 0) == SISAL_OK, "not enrolled");
+    struct sisal_lines_told told = sisal_lines_hear(&ear, pace.least, pace.most, pace.gap, port, count);
+    want(told.number == SISAL_OK && told.taken == count, "a poll was spoiled");
 }
 
-/* Draws a transmitter's poll. The transmitter hears it as we hear its reply. */
-static struct line poll_heard(const struct transmitter *t)
+/* The recorder senses the lines, in uneven batches, as a driver might have them. */
+static size_t sense(uint8_t *port)
 {
-    struct line poll = {{0}, 8 * SISAL_POLL_BYTES, ""}, heard = {{0}, 0, ""};
-    want(sisal_write_poll(t->address, 0, 0, poll.bytes, sizeof poll.bytes).number == SISAL_OK, "no poll");
-    struct sampled lines = sample(&poll, LOW, STILL, 0);
-    want(hear(&lines, &heard) == SISAL_OK, "a poll was spoiled");
-    return heard;
+    static size_t batch = 1;
+    if (ear.count > 0) { /* nobody drives any more: the gap closes the poll */
+        static const uint8_t gap[64] = {SISAL_SAMPLE_IDLE};
+        struct sisal_lines_told poll = sisal_lines_hear(&ear, pace.least, pace.most, pace.gap, gap, sizeof gap);
+        answer(&poll);
+    }
+    batch = batch * 5 % 97 + 1;
+    for (size_t i = 0; i < batch; i++)
+        port[i] = wire.at < wire.count ? wire.samples[wire.at++] : wire.then;
+    return batch;
 }
 
-/* Polls one transmitter and hears its reply; a reply that was spoiled on the lines is asked for once more. */
-static struct line ask(const struct transmitter *t, uint32_t minute, int day, int dusk)
-{
-    struct line poll = poll_heard(t);
-    struct line sent = answer(t, &poll, day, dusk);
-    if (t->address == 310 && day == 4 && dusk) {
-        sent.bytes[2] ^= 0x10; /* a bit turned over by the transmitter: no reading any more */
-        strcpy(sent.says, "fault 5");
-    }
-    if (t->address == 7 && day == 11 && !dusk) {
-        sent.count = 0; /* nothing came */
-        strcpy(sent.says, "fault 1");
-    }
+/* ---- what the listing is to be: the card is not looked at for it --------------------------------------------------------------------- */
 
-    struct line line = {{0}, 0, ""};
-    memcpy(line.says, sent.says, sizeof line.says);
-    struct sampled lines = sample(&sent, t->low, t->still, t->address == 310 && day == 20 && !dusk);
-    uint8_t number = hear(&lines, &line);
-    if (number != SISAL_OK) {
-        printf("minute %u: spoiled on the lines, number %u; asked again\n", minute, number);
-        lines = sample(&sent, t->low, t->still, 0);
-        want(hear(&lines, &line) == SISAL_OK, "spoiled again");
-    }
-    return line;
-}
-
-/* What the listing is to be: the card is not looked at for it. */
 static char expected[SISAL_LISTING_BYTES(SISAL_SHEET_BYTES)];
 static size_t expected_bytes;
 static unsigned slots, records;
@@ -209,96 +139,111 @@ static void expect(const char *format, ...)
     expected_bytes += (size_t)put;
 }
 
-/*
- * Polls one transmitter and saves what came, with power for so many stores; then the board hears it, if the power held. A save is cut
- * where it may make fewer stores than its record has: power for just so many is enough to close the record.
- */
-static void poll_one(const struct transmitter *t, int day, int dusk, size_t stores)
+/* ---- the host ------------------------------------------------------------------------------------------------------------------------ */
+
+static uint8_t card[SISAL_SHEET_BYTES];
+static struct sisal_row board[SISAL_ROWS];
+static struct sisal_summary page;
+
+/* Board, summary and a round under way stand in memory that a power cut clears; the card keeps what is on it. */
+static void power_on(void)
 {
-    uint32_t minute = (uint32_t)(day * 1440 + (dusk ? 1080 : 360));
-    struct line line = ask(t, minute, day, dusk);
-    struct sisal_done saved = sisal_save(card, sizeof card, t->settings, minute, t->address, line.count, line.bytes, bytes_of(&line), stores);
-    want(saved.number == SISAL_OK, "not saved");
-    int cut = stores < SISAL_STORES(bytes_of(&line));
-    if (cut)
-        expect("%u spoiled\n", slots);
-    else
-        expect("%u %u %u %s\n", slots, minute, t->address, line.says);
-    slots++;
-    records += !cut;
-    if (stores != SISAL_ALL_STORES) {
-        printf("minute %u: power gone after %zu stores, %s\n", minute, saved.count, cut ? "a record is lost" : "the record is closed");
-        power_on();
-        return;
-    }
-    /* 1 to 9 is a faulty reply, which the row keeps; anything above is a refusal */
-    struct sisal_heard heard = sisal_board_hear(SISAL_ROWS_OF(board), minute, t->address, line.count, line.bytes, bytes_of(&line));
-    want(heard.number <= SISAL_FAULT_TEMPERATURE, "not heard");
+    memset(board, 0, sizeof board);
+    memset(&ear, 0, sizeof ear);
+    for (int i = 0; i < TRANSMITTERS; i++)
+        want(sisal_board_enrol(SISAL_ROWS_OF(board), site[i].settings, site[i].address, 0) == SISAL_OK, "not enrolled");
+    want(sisal_page_of(&page, card, sizeof card) == SISAL_OK, "no summary");
 }
 
-/* Stores before the power goes, twice in the month. */
-static size_t power(int day, int dusk, int i)
+/* The power goes twice in the month, each time once. */
+enum power { HOLDS, GONE_IN_ROUND, GONE_IN_SAVE };
+
+static enum power power(void)
 {
-    if (day == 16 && dusk && i == 0)
-        return 9;
-    if (day == 23 && !dusk && i == 1)
-        return SISAL_STORES(SISAL_REPLY_56_BYTES);
-    return SISAL_ALL_STORES;
+    static int gone;
+    if (today != (gone == 0 ? 16 : 23) || gone == 2)
+        return HOLDS;
+    return ++gone == 1 ? GONE_IN_SAVE : GONE_IN_ROUND;
 }
 
-static void month(void)
+/* Runs a round to its end; answers 0 where the power goes before that. */
+static int run_round(struct sisal_round *round, uint32_t minute, enum power power)
 {
-    for (int day = 0; day < DAYS; day++) {
-        for (int dusk = 0; dusk < 2; dusk++) {
-            for (int i = 0; i < TRANSMITTERS; i++)
-                poll_one(&site[i], day, dusk, power(day, dusk, i));
+    uint8_t port[PORT];
+    struct sisal_begun begun = sisal_polling_begin(SISAL_ROWS_OF(board), minute);
+    want(begun.number == SISAL_OK, "no round");
+    struct sisal_polling polling = begun.polling;
+    for (;;) {
+        struct sisal_drew drew = sisal_polling_draw(polling, pace, port, sizeof port);
+        want(drew.number == SISAL_OK, "bad timing numbers");
+        polling = drew.polling;
+        *round = polling.round;
+        if (drew.over)
+            return 1;
+        if (drew.count > 0) {
+            drive(port, drew.count);
+            continue;
         }
+        if (power == GONE_IN_ROUND && polling.at == 1)
+            return 0;
+        size_t sensed = sense(port);
+        struct sisal_settled told = sisal_polling_hear(polling, pace, minute, port, sensed);
+        polling = told.polling; /* what was sensed behind the samples taken is dropped */
+        const struct sisal_polled *of = &polling.round.replies[told.reply];
+        if (!polling.listening && of->count == 0) /* a try without a message */
+            printf("minute %u: %u, %s; %s\n", minute, of->address, told.number == SISAL_OK ? "no answer" : sisal_number_text(told.number),
+                   told.answered ? "given up" : "asked again");
     }
 }
 
-/* ---- what is to be seen ---------------------------------------------------------------------------------------------------------- */
-
-/* Line by line, as a host with little memory would; sisal_listing() writes all of them at once. */
-static void print_line(struct sisal_done written, const uint8_t *line)
+/* A morning; answers 0 where the power goes in it, which comes back at once. */
+static int morning(void)
 {
-    want(written.number == SISAL_OK, "no line");
-    fwrite(line, 1, written.count, stdout);
+    uint32_t minute = (uint32_t)(today * 1440 + 360);
+    struct sisal_round round;
+    enum power now = power();
+    if (!run_round(&round, minute, now)) {
+        printf("minute %u: power gone in the round, nothing of it is saved\n", minute);
+        return 0;
+    }
+    struct sisal_rounded saved = sisal_page_save_round(&page, card, sizeof card, &round, now == GONE_IN_SAVE ? 25 : SISAL_ALL_STORES);
+    want(saved.number == SISAL_OK, "not saved");
+    for (size_t i = 0; i < saved.closed; i++, records++)
+        expect("%u %u %u %s\n", slots++, minute, site[i].address, site[i].says);
+    if (now == GONE_IN_SAVE) {
+        expect("%u spoiled\n", slots++);
+        printf("minute %u: power gone after %zu stores, %zu of %zu replies closed\n", minute, saved.stores, saved.closed, round.count);
+        return 0;
+    }
+    for (const struct sisal_polled *r = round.replies; r < round.replies + round.count; r++) {
+        /* 1 to 9 is a faulty reply, which the row keeps; anything above is a refusal */
+        struct sisal_heard heard = sisal_board_hear(SISAL_ROWS_OF(board), r->minute, r->address, r->count, r->reply, r->bytes);
+        want(heard.number <= SISAL_FAULT_TEMPERATURE, "not heard");
+    }
+    return 1;
 }
+
+/* ---- what is to be seen -------------------------------------------------------------------------------------------------------------- */
 
 static void print_listing(void)
-{
-    uint8_t line[SISAL_LINE_BYTES];
-    print_line(sisal_head_line(card, sizeof card, line, sizeof line), line);
-    for (size_t slot = 0; slot < sizeof card / SISAL_SLOT_BYTES; slot++)
-        print_line(sisal_slot_line(card, sizeof card, slot, line, sizeof line), line);
-    print_line(sisal_last_line(card, sizeof card, line, sizeof line), line);
-}
-
-/* The whole listing at once, held to what was expected. */
-static void compare_listing(void)
 {
     static uint8_t listing[SISAL_LISTING_BYTES(SISAL_SHEET_BYTES)];
     struct sisal_done written = sisal_listing(card, sizeof card, listing, sizeof listing);
     want(written.number == SISAL_OK, "no listing");
+    fwrite(listing, 1, written.count, stdout);
     want(written.count == expected_bytes && memcmp(listing, expected, expected_bytes) == 0, "the listing is another than the readings");
     printf("the listing is the one made from the readings\n");
+    struct sisal_made made = sisal_summary_of(card, sizeof card);
+    want(made.number == SISAL_OK && memcmp(&made.summary, &page, sizeof page) == 0, "the summary kept is not that of the card");
+    printf("the summary kept is the one worked out from the card\n");
 }
 
 static void print_board(void)
 {
     for (int i = 0; i < TRANSMITTERS; i++) {
         struct sisal_standing s = sisal_board_look_up(SISAL_ROWS_OF(board), site[i].address);
-        want(s.number == SISAL_OK, "not on the board");
-        printf("board %u: ", s.address);
-        if (s.kind == SISAL_KIND_NONE)
-            printf("no reading yet");
-        else
-            printf("level %u at minute %u", s.level, s.minute);
-        if (s.kind == SISAL_KIND_DEGREES)
-            printf(", %d tenths of a degree", s.tenths);
-        else if (s.kind == SISAL_KIND_ABOVE || s.kind == SISAL_KIND_BELOW)
-            printf(", %s range", s.kind == SISAL_KIND_ABOVE ? "above" : "below");
-        printf("%s, last fault %u\n", s.alarm0 ? ", low alarm" : "", s.fault);
+        want(s.number == SISAL_OK && s.kind != SISAL_KIND_NONE, "not on the board");
+        printf("board %u: level %u at minute %u%s, last fault %u\n", s.address, s.level, s.minute, s.alarm0 ? ", low alarm" : "", s.fault);
     }
 }
 
@@ -308,10 +253,11 @@ int main(void)
     memset(card, 0xff, sizeof card);
     power_on();
     expect("sheet %zu\n", sizeof card / SISAL_SLOT_BYTES);
-    month();
+    for (today = 0; today < DAYS; today++)
+        while (!morning())
+            power_on();
     expect("records %u\n", records);
     print_listing();
-    compare_listing();
     print_board();
     return 0;
 }

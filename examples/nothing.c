@@ -42,7 +42,10 @@ int main(void)
     static struct sisal_summary page;
     static struct sisal_round round;
     static struct sisal_lines_so_far so_far;
+    static struct sisal_polling polling;
+    static const struct sisal_pace pace = {2, 3, 4, 1, 3, 4, 10, 50, 1};
     round.count = 1; /* one silent reply */
+    polling.round = round;
 
     TRY("sisal_read_poll", sisal_read_poll(bytes, 0).number);
     TRY("sisal_write_poll", sisal_write_poll(7, 0, 0, out, 0).number);
@@ -63,6 +66,11 @@ int main(void)
     TRY("sisal_hear_lines", sisal_hear_lines(so_far, 1, 3, 4, bytes, 0).number);
     TRY("sisal_draw", sisal_draw(2, 3, 0, bytes, 0, 0, out, 0).number);
     TRY("sisal_draw, 2 bits", sisal_draw(2, 3, 2, bytes, 0, 0, out, 0).number);
+    TRY("sisal_polling_begin", sisal_polling_begin(rows, 0, 600).number);
+    TRY("sisal_polling_draw", sisal_polling_draw(polling, pace, out, 0).number);
+    TRY("sisal_polling_hear", sisal_polling_hear(polling, pace, 600, bytes, 0).number);
+    polling.listening = 1;
+    TRY("sisal_polling_hear, listening", sisal_polling_hear(polling, pace, 600, bytes, 0).number);
     TRY("sisal_board_enrol", sisal_board_enrol(rows, 0, 1, 7, 0));
     TRY("sisal_board_hear", sisal_board_hear(rows, 0, 600, 7, 0, bytes, 0).number);
     TRY("sisal_board_remove", sisal_board_remove(rows, 0, 7));

@@ -1,7 +1,7 @@
 /*
  * The core of a tank gauge recorder: polls and replies of the Mark/Space line (Model 1900 and Model 1800), the month sheet, the board
- * of last good readings, the listing of a sheet, the lines heard sample by sample and spoken on, the desk summary, whole rounds saved,
- * item records of the 854 gauge, and areas.
+ * of last good readings, the listing of a sheet, the lines heard sample by sample and spoken on, the desk summary, whole rounds run and
+ * saved, item records of the 854 gauge, and areas.
  *
  * Link target/libsisalcove.a, which `./build-library` makes. This header wants C11 or C++11, and x86-64 with the System V calling
  * convention, which is all that the archive is compiled for. The archive keeps no state, allocates nothing, never fails otherwise than
@@ -18,9 +18,10 @@
  * examples/misuse.c tries of every call. Anywhere else it points to that many bytes or rows, which nobody else writes while the call
  * runs. Buffers lent to one call for writing overlap nothing else that is lent to it.
  *
- * Some answers have padding (struct sisal_poll, sisal_reply and sisal_item one byte, sisal_slot two, sisal_made three, sisal_lines_told
- * six, sisal_done, sisal_kept, sisal_rounded and sisal_rounded_page seven). It holds anything: compare answers field by field. Rows,
- * summaries, rounds, the stores of a save and what is heard of the lines so far have none.
+ * Some answers have padding (struct sisal_poll, sisal_reply and sisal_item one byte, sisal_slot two, sisal_made and sisal_settled three,
+ * sisal_lines_told and sisal_drew six, sisal_done, sisal_kept, sisal_rounded, sisal_rounded_page and sisal_begun seven). It holds anything:
+ * compare answers field by field. Rows, summaries, rounds, rounds under way and their pace, the stores of a save and what is heard of the
+ * lines so far have none.
  */
 #ifndef SISALCOVE_H
 #define SISALCOVE_H
@@ -62,7 +63,7 @@ extern "C" {
 /* ---- the version ----------------------------------------------------------------------------------------------------------------- */
 
 /* It goes up with every change of a struct, of a call's arguments or of a number's meaning, and from 5 on with calls that are added. */
-#define SISAL_VERSION 6u
+#define SISAL_VERSION 7u
 
 /* The version of the archive. Refuses nothing. */
 SISAL_ANSWER uint32_t sisal_version(void);
@@ -667,6 +668,106 @@ SISAL_ANSWER struct sisal_rounded sisal_save_round(uint8_t *sheet, size_t sheet_
  */
 SISAL_ANSWER struct sisal_rounded_page sisal_summary_save_round(uint8_t *sheet, size_t sheet_bytes, struct sisal_summary summary,
                                                                 struct sisal_round round, size_t allowance);
+
+/* ---- a round that the recorder runs itself ---------------------------------------------------------------------------------------- */
+
+/*
+ * A morning: begin; then draw, and drive the lines by what was drawn, or, where nothing was, sense them and hear; until it is over. Then
+ * the round is saved as it stands, and the board hears each reply of it (docs/HOST.md has the loop, examples/host.c is a month of them).
+ */
+
+/* The timing numbers of a round, in samples but for `tries`. Any of them out of its range is refused by 20, whatever else is wrong. */
+struct sisal_pace {
+    uint32_t low;     /* of a poll's pulses, 1 to 1,000 */
+    uint32_t still;   /* of idle after each, 1 to 10,000 */
+    uint32_t delay;   /* of idle before each poll, 0 to 1,000,000 */
+    uint32_t least;   /* of an answer's pulses at the least, 1 to most, */
+    uint32_t most;    /* and at the most, up to 1,000 */
+    uint32_t gap;     /* of idle that closes an answer, 1 to 10,000 */
+    uint32_t wait;    /* after a poll: an answer's first low sample comes within them, 1 to 1,000,000 */
+    uint32_t longest; /* after a poll: an answer is closed within them, wait to 10,000,000 */
+    uint32_t tries;   /* polls of one transmitter at most, 1 to 9 */
+};
+
+/*
+ * A round under way. A host hands back what the last call left and changes nothing in it, but may read it between calls: `listening` says
+ * which of the two calls goes on. Every pattern of bytes has a meaning. A round is over where `at` is not below round.count, or where that
+ * is above 30. While it draws, the lines are at rest whatever stands there, and all of delay and poll drawn, or more, is time to listen,
+ * with nothing heard yet. Lines that no call leaves are a spoiled message. More heard than a limit is that limit reached, which the next
+ * sample settles. An address above 999 has no poll: the delay alone is drawn. 752 bytes, no padding.
+ */
+struct sisal_polling {
+    struct sisal_round round;        /* the replies below `at` stand; the others have the minute of the beginning and 0 bits */
+    struct sisal_lines_so_far lines; /* what was heard so far of the answer */
+    uint32_t passed;                 /* samples drawn of delay and poll; while it listens, samples heard since the poll */
+    uint16_t at;                     /* whose turn it is: round.replies[at] */
+    uint8_t tried;                   /* polls of it before this one, none of which a message came to */
+    uint8_t listening;               /* 0: draw, and drive the lines; any other number: sense them, and hear */
+};
+
+/* A round that was begun. */
+struct sisal_begun {
+    struct sisal_polling polling;
+    uint8_t number;
+};
+
+/* What was drawn of a round. */
+struct sisal_drew {
+    struct sisal_polling polling; /* for the next call */
+    size_t count;                 /* samples drawn */
+    uint8_t over;                 /* 1 where the round is over, else 0 */
+    uint8_t number;
+};
+
+/* What was heard of a round. `reply`, `answered` and `number` are 0 unless this call settled a try. */
+struct sisal_settled {
+    struct sisal_polling polling; /* for the next call */
+    size_t taken;                 /* samples taken */
+    uint16_t reply;               /* the try was of polling.round.replies[reply], */
+    uint8_t answered;             /* which now stands: 1; or is asked for again: 0 */
+    uint8_t over;                 /* 1 where the round is over, else 0 */
+    uint8_t number;               /* 20; or how the try was settled: 0, 21 or 22 */
+};
+
+SISAL_HOLDS(sizeof(struct sisal_pace) == 36, "struct sisal_pace");
+SISAL_HOLDS(sizeof(struct sisal_polling) == 752, "struct sisal_polling");
+SISAL_HOLDS(sizeof(struct sisal_begun) == 760, "struct sisal_begun");
+SISAL_HOLDS(sizeof(struct sisal_drew) == 768, "struct sisal_drew");
+SISAL_HOLDS(sizeof(struct sisal_settled) == 768, "struct sisal_settled");
+
+/*
+ * Begins a round of the board's rows in use, in address order: each reply has its row's address and settings, this minute, and 0 bits.
+ * What becomes of the board afterwards does not change the round. A board with no row in use gives a round that is over at once. Refuses
+ * 38, with all else 0.
+ */
+SISAL_ANSWER struct sisal_begun sisal_polling_begin(const struct sisal_row *rows, size_t row_count, uint32_t minute);
+
+/*
+ * Draws on for the transmitter whose turn it is: `delay` samples of idle, then its poll, raise and reset 0, as sisal_draw draws it. Fills
+ * `out` as far as there is something to draw, up to the end of the poll, and answers how many; no other byte is changed. The batches may
+ * be of any size. At the poll's end `listening` is set, and it is time to listen: until the answer is settled nothing is drawn, so that a
+ * count of 0 into an output with room says the same. A round that is over draws nothing and comes back as it stands, with over 1.
+ * Refuses 20, asked first: count and over 0, the round under way bit for bit as it was handed in, and no byte changed.
+ */
+SISAL_ANSWER struct sisal_drew sisal_polling_draw(struct sisal_polling polling, struct sisal_pace pace, uint8_t *out, size_t out_bytes);
+
+/*
+ * Hears samples of the lines, the first of them the first after the poll's last, in whatever batches the host has. They are heard as
+ * sisal_hear_lines hears them, up to the sample that settles the try, which is by the first of these:
+ *   a message closes:      number 0; its bits stand in the reply, whatever they are, and this minute;
+ *   a spoiled one closes:  number 21, or 22 where a sample above 3 came in it;
+ *   silence:               number 0, where `wait` samples were heard and all of them were 0;
+ *   given up:              number 21, or 22 where a sample above 3 came, where `longest` samples were heard and nothing has closed.
+ * Without a message the same transmitter is polled again, up to `tries` polls in all: answered 0. After the last of them its reply stands
+ * with 0 bits and this minute: answered 1. A message is never asked for again, faulty or not.
+ * `taken` says where the call stopped. SAMPLES BEHIND THAT ONE BELONG TO NOBODY WHERE A TRY WAS SETTLED: drop them. Handed to the next
+ * call they would be one transmitter's tail taken for the next one's answer. Where no try was settled all samples are taken.
+ * While it draws, nothing is taken: a recorder must not hear its own poll. A round that is over takes nothing and comes back as it stands,
+ * with over 1. With n transmitters it is over after at most n * tries * (delay + 16 * (low + still) + longest) samples drawn and taken.
+ * Refuses 20, asked first: all else 0, and the round under way bit for bit as it was handed in. 21 and 22 are no refusals here.
+ */
+SISAL_ANSWER struct sisal_settled sisal_polling_hear(struct sisal_polling polling, struct sisal_pace pace, uint32_t minute,
+                                                     const uint8_t *samples, size_t sample_count);
 
 /* ---- the same by pointer: a page or a round is written once in a host's line ------------------------------------------------------ */
 

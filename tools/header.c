@@ -162,6 +162,49 @@ static void drawn(void)
     WANT(done.count == 0 && done.number == SISAL_FAULT_TIMING && out[3] == 9);
 }
 
+/* A round of 7 and 310, at a pace whose nine numbers are nine, so that each of them shows in what is drawn and settled. */
+static void polled(void)
+{
+    static const uint8_t one_bit[] = {1, 0, 0, 0, 0, 0, 0, 0, 0}, too_long[] = {1, 1, 1, 1, 1, 0, 0, 0, 0, 0, 0, 0}, idle[12] = {0};
+    static const uint8_t front[10] = {0, 0, 0, 0, 0, 1, 1, 0, 0, 0};
+    const struct sisal_pace pace = {
+        .low = 2, .still = 3, .delay = 5, .least = 1, .most = 4, .gap = 6, .wait = 10, .longest = 50, .tries = 7};
+    struct sisal_pace bad = pace;
+    struct sisal_row rows[3];
+    uint8_t out[100];
+    memset(rows, 0, sizeof rows);
+    memset(out, 9, sizeof out);
+    WANT(sisal_board_enrol(rows, 3, DECIMAL, 7, 0) == 0 && sisal_board_enrol(rows, 3, 3, 310, 0) == 0);
+    struct sisal_begun begun = sisal_polling_begin(rows, 3, 600);
+    struct sisal_polling polling = begun.polling;
+    WANT(begun.number == 0 && polling.round.count == 2 && polling.at == 0 && polling.tried == 0 && polling.listening == 0);
+    WANT(polling.round.replies[0].address == 7 && polling.round.replies[1].settings == 3 && polling.round.replies[1].minute == 600);
+    struct sisal_drew drew = sisal_polling_draw(polling, pace, out, sizeof out);
+    WANT(drew.count == 85 && drew.over == 0 && drew.number == 0 && memcmp(out, front, sizeof front) == 0 && out[85] == 9);
+    WANT(drew.polling.listening == 1 && drew.polling.tried == 0 && drew.polling.passed == 0);
+    struct sisal_settled told = sisal_polling_hear(drew.polling, pace, 605, too_long, sizeof too_long);
+    WANT(told.taken == 11 && told.reply == 0 && told.answered == 0 && told.over == 0 && told.number == SISAL_FAULT_SPOILED);
+    WANT(told.polling.listening == 0 && told.polling.tried == 1 && told.polling.at == 0);
+    drew = sisal_polling_draw(told.polling, pace, out, sizeof out);
+    told = sisal_polling_hear(drew.polling, pace, 605, idle, 9);
+    WANT(told.taken == 9 && told.polling.passed == 9 && told.polling.listening == 1 && told.polling.tried == 1);
+    told = sisal_polling_hear(drew.polling, pace, 605, one_bit, sizeof one_bit);
+    WANT(told.taken == 7 && told.reply == 0 && told.answered == 1 && told.over == 0 && told.number == 0);
+    WANT(told.polling.round.replies[0].count == 1 && told.polling.round.replies[0].minute == 605 && told.polling.at == 1);
+    drew = sisal_polling_draw(told.polling, pace, out, sizeof out);
+    drew.polling.tried = 6;
+    told = sisal_polling_hear(drew.polling, pace, 606, idle, sizeof idle);
+    WANT(told.taken == 10 && told.reply == 1 && told.answered == 1 && told.over == 1 && told.number == 0);
+    drew = sisal_polling_draw(told.polling, pace, out, sizeof out);
+    WANT(drew.count == 0 && drew.over == 1 && drew.number == 0 && drew.polling.at == 2);
+    bad.tries = 10;
+    drew = sisal_polling_draw(told.polling, bad, out, sizeof out);
+    WANT(drew.count == 0 && drew.over == 0 && drew.number == SISAL_FAULT_TIMING);
+    rows[2] = rows[0];
+    begun = sisal_polling_begin(rows, 3, 600);
+    WANT(begun.number == SISAL_FAULT_ORDER && begun.polling.round.count == 0);
+}
+
 /* The row and what a look tells of it agree in every field that both have. */
 static void alike(const struct sisal_row *row, const struct sisal_standing *told)
 {
@@ -456,6 +499,38 @@ static void layout(void)
     FIELD(sisal_rounded_page, closed);
     FIELD(sisal_rounded_page, stores);
     FIELD(sisal_rounded_page, number);
+    STRUCT(sisal_pace);
+    FIELD(sisal_pace, low);
+    FIELD(sisal_pace, still);
+    FIELD(sisal_pace, delay);
+    FIELD(sisal_pace, least);
+    FIELD(sisal_pace, most);
+    FIELD(sisal_pace, gap);
+    FIELD(sisal_pace, wait);
+    FIELD(sisal_pace, longest);
+    FIELD(sisal_pace, tries);
+    STRUCT(sisal_polling);
+    FIELD(sisal_polling, round);
+    FIELD(sisal_polling, lines);
+    FIELD(sisal_polling, passed);
+    FIELD(sisal_polling, at);
+    FIELD(sisal_polling, tried);
+    FIELD(sisal_polling, listening);
+    STRUCT(sisal_begun);
+    FIELD(sisal_begun, polling);
+    FIELD(sisal_begun, number);
+    STRUCT(sisal_drew);
+    FIELD(sisal_drew, polling);
+    FIELD(sisal_drew, count);
+    FIELD(sisal_drew, over);
+    FIELD(sisal_drew, number);
+    STRUCT(sisal_settled);
+    FIELD(sisal_settled, polling);
+    FIELD(sisal_settled, taken);
+    FIELD(sisal_settled, reply);
+    FIELD(sisal_settled, answered);
+    FIELD(sisal_settled, over);
+    FIELD(sisal_settled, number);
     STRUCT(sisal_item);
     FIELD(sisal_item, data);
     FIELD(sisal_item, error);
@@ -482,6 +557,7 @@ int main(void)
     listing();
     lines();
     drawn();
+    polled();
     board();
     summaries();
     rounds();

@@ -26,7 +26,7 @@ fn fill(rows: &[Row], n: usize) -> [Row; 30]
 
 // The rows that count, by value. Thirty rows are asked for by that number: the compiler then sees that no free row is left of the
 // fill, and leaves it out.
-fn load(rows: &[Row]) -> [Row; 30]
+pub fn load(rows: &[Row]) -> [Row; 30]
     ensures { λ r. ⌜ r ≡ filled (boardOf (now (rows .entry))) ⌝ }
 {
     if rows.len() < 30 {

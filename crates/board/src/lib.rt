@@ -3,9 +3,9 @@
 // or all where they are fewer; rows past the thirtieth are never read or written, and no answer names a row's place. The calls are
 // exported, so their names bear a prefix: C has a `remove` of its own.
 mod gauge;
-mod lent;
+pub mod lent;
 mod rows;
-mod value;
+pub mod value;
 
 ghost use Rattle.board.specs.Calls.{Enrols, Hears, Removes, LooksUp, PollsRow};
 

@@ -40,7 +40,7 @@ pub(crate) struct Search {
 // What a search for an address finds: the number n of rows that count, and whether they are kept in order. Where they are: the place of
 // the address's row, or n where it has none, the row there, which means nothing where the place is n, the place of the first free row, and
 // the place where the address stands or is to stand.
-pub(crate) struct Found {
+pub struct Found {
     pub at: usize,
     pub n: usize,
     pub row: Row,
@@ -144,7 +144,7 @@ fn unkept(n: usize) -> Found
 
 // Passes over all 30 places, of which those behind the rows lent are free, and ends at the first row that is out of order. Two rows are
 // passed in a turn.
-pub(crate) fn find(held: [Row; 30], len: usize, address: u16) -> Found
+pub fn find(held: [Row; 30], len: usize, address: u16) -> Found
     ensures { λ r. ⌜ FindsOn held len address r ⌝ }
 {
     let n = counted(len);

@@ -19,7 +19,7 @@ fn within(low: usize, high: usize, n: usize) -> bool
     (low <= n) & (n <= high)
 }
 
-fn bad_pulse(low: usize, still: usize) -> bool
+pub fn bad_pulse(low: usize, still: usize) -> bool
     ensures { λ r. ⌜ r ≡ badPulse low still ⌝ }
 {
     !within(1, 1000, low) | !within(1, 10000, still)

@@ -1,7 +1,7 @@
 // The two lines of a transmitter heard sample by sample. A host samples the mark line and the space line, hands over the samples in whatever batches
 // it has, and is handed back each message as bits, or its spoiling as a number. Its one public call is `sisal_hear_lines`.
 mod runs;
-mod state;
+pub mod state;
 mod step;
 
 ghost use mathlib.Core.Path.{_≡_};
@@ -42,14 +42,14 @@ fn within(low: usize, high: usize, n: usize) -> bool
     (low <= n) & (n <= high)
 }
 
-fn bad_timing(least: usize, most: usize, gap: usize) -> bool
+pub fn bad_timing(least: usize, most: usize, gap: usize) -> bool
     ensures { λ r. ⌜ r ≡ badTiming (timing least most gap) ⌝ }
 {
     (most < least) | !within(1, 1000, least) | !within(1, 1000, most) | !within(1, 10000, gap)
 }
 
 // Hears samples up to the one that closes a message, or to the last, run by run: the first sample of a run by itself, and those like it at once.
-fn hear(least: usize, most: usize, gap: usize, begun: SoFar, samples: &[u8]) -> LinesTold
+pub fn hear(least: usize, most: usize, gap: usize, begun: SoFar, samples: &[u8]) -> LinesTold
     requires { ⌜ 1 ≤ gap ⌝ }
     requires { ⌜ gap ≤ 10000 ⌝ }
     requires { ⌜ Safe begun ⌝ }

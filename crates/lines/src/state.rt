@@ -24,7 +24,7 @@ pub(crate) fn spoilt_by(number: u8, run: u32) -> SoFar
 }
 
 // The beginning.
-fn at_rest() -> SoFar
+pub fn at_rest() -> SoFar
     ensures { λ r. ⌜ r ≡ atRest ⌝ }
 {
     spoilt_by(0, 0)
@@ -49,7 +49,7 @@ fn no_bits(s: SoFar) -> bool
     (s.bits == 0) & (s.count == 0)
 }
 
-fn is_rest(s: SoFar) -> bool
+pub fn is_rest(s: SoFar) -> bool
     ensures { λ r. ⌜ r ≡ isRest s ⌝ }
 {
     (s.fault == 0) & (s.line == 0) & no_bits(s) & (s.run == 0)
@@ -87,7 +87,7 @@ fn legal(s: SoFar) -> bool
 }
 
 // A state that no call leaves is heard as a spoiled message of which no idle has come yet.
-pub(crate) fn meant(s: SoFar) -> SoFar
+pub fn meant(s: SoFar) -> SoFar
     ensures { λ r. ⌜ (r ≡ meant s) × Safe r ⌝ }
 {
     if legal(s) { s } else { spoilt_by(21, 0) }

@@ -29,11 +29,11 @@ use Rattle.promises_lines.proofs.Legal.{Closing, message, report}
 use Rattle.promises_lines.proofs.Ends.{Ends, still-open, closed-at, good, split, meant-legal, heard-by}
 
 -- The front of eight bytes.
-front : (k n : ℕ) → take k (firstBytes 8 n) ≡ firstBytes k n
+pub front : (k n : ℕ) → take k (firstBytes 8 n) ≡ firstBytes k n
 unfolding firstBytes
 front k n = refl
 
-in-form : (bits count : ℕ) → Clear bits count → formed count (firstBytes (bytesFor count) bits) ≡ true
+pub in-form : (bits count : ℕ) → Clear bits count → formed count (firstBytes (bytesFor count) bits) ≡ true
 in-form bits count clear =
     let k : ℕ = bytesFor count in
     let small : k ≤ 8 = omega (arith, clear .small) in

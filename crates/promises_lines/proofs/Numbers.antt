@@ -26,7 +26,7 @@ use Rattle.promises_lines.proofs.Legal.{Legal, rest, between, in-run, s
 use Rattle.promises_lines.proofs.Quiet.{Quiet}
 use Rattle.promises_lines.proofs.Ends.{Good, Ends, still-open, closed-at, good, split, meant-legal, meant-itself, heard-by}
 
-abbrev marked : SoFar → Bool
+abbrev pub marked : SoFar → Bool
 marked s = eqb (s .fault) 22
 
 -- One step remembers.
@@ -52,7 +52,7 @@ module _ (t : Timing) where
       (of-pick (λ (n : SoFar). marked n ≡ false) (eqb l line) (soFar bits (min (run + 1) 1001) count line 0) (spoiltBy 21 0) (λ e. refl) (λ e. refl))
   low line (spoilt number run a b u) = rw (ne-eqb number 0 (omega arith))
 
-  remembers : {s : SoFar} → Legal s → (k : Sample) → marked (after t s k) ≡ (marked s || isForeign k)
+  pub remembers : {s : SoFar} → Legal s → (k : Sample) → marked (after t s k) ≡ (marked s || isForeign k)
   unfolding afterBoth
   remembers {s} h idle = still h ∙ sym (or-false (marked s))
   remembers {s} h mark = low 1 h ∙ sym (or-false (marked s))

@@ -166,11 +166,15 @@ tell-runs t g (r ∷ rs) b j i =
         quiet-first t (stateOf t b) (stateOf t (r ∷ b)) (replicate (r .size) (r .kind)) (spelled rs)
         (quiet-run t g b (r .kind) (r .size) j (size-of r rs (i .0)) e) ∙ on
 
+-- From the beginning, samples tell what their runs do.
+pub tells-as : (t : Timing) → Good t → (rs : List Run) → InRuns rs → tells t atRest (spelled rs) ≡ byRuns t [] rs
+tells-as t g rs i = tell-runs t g rs [] (joined-rest rs) i
+
 pub runs : Runs
 runs =
     record {
       grouped = grouped;
       told = λ t e rs i xs is told end h.
           let g = good t e in
-          history t e g rest h .all ∙ ap (tells t atRest) is ∙ tell-runs t g rs [] (joined-rest rs) i;
+          history t e g rest h .all ∙ ap (tells t atRest) is ∙ tells-as t g rs i;
     }

@@ -49,6 +49,7 @@ fn main() -> ExitCode {
         println!("{timing}  {proved:.1} and {independent:.1} million samples a second");
     });
     benchmarks.drawings(|timing| println!("{timing}"));
+    benchmarks.pollings(|timing| println!("{timing}"));
     benchmarks.items(|timing| println!("{timing}"));
     benchmarks.areas(|timing| println!("{timing}"));
     benchmarks.summaries(|timing| println!("{timing}"));
@@ -84,6 +85,7 @@ fn print_table(
     benchmarks.stores(&mut tell);
     benchmarks.lines(&mut tell);
     benchmarks.drawings(&mut tell);
+    benchmarks.pollings(&mut tell);
     benchmarks.items(&mut tell);
     benchmarks.areas(&mut tell);
 }

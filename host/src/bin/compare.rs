@@ -27,6 +27,7 @@ fn main() -> ExitCode {
         run(compare::checks(), left, right, &plan, &only),
         run(compare::lines::checks(), left, right, &plan, &only),
         run(compare::drawings::checks(), left, right, &plan, &only),
+        run(compare::pollings::checks(), left, right, &plan, &only),
         run(compare::items::checks(), left, right, &plan, &only),
         run(compare::areas::checks(), left, right, &plan, &only),
         run(compare::summaries::checks(), left, right, &plan, &only),

@@ -29,7 +29,7 @@ pub(super) fn size_of_field<S, F>(_: fn(&S) -> &F) -> usize {
     size_of::<F>()
 }
 
-use super::{areas, ffi, items, lines, rounds, stores, summaries};
+use super::{areas, ffi, items, lines, pollings, rounds, stores, summaries};
 use std::collections::BTreeSet;
 use std::mem::size_of;
 
@@ -40,6 +40,7 @@ fn the_declarations_have_the_headers_layout() {
         areas::layout(),
         items::layout(),
         lines::layout(),
+        pollings::layout(),
         rounds::layout(),
         stores::layout(),
         summaries::layout(),

@@ -15,6 +15,7 @@ mod ffi;
 mod items;
 mod joins;
 mod lines;
+mod pollings;
 mod rounds;
 mod stores;
 mod summaries;

@@ -1,0 +1,21 @@
+-- What a pace has and a state means; a way through states one sample at a time, and the calls as ways; what a round keeps; a try as it is drawn, and as it is settled.
+pub mod Paces
+pub mod Meaning
+pub mod Path
+pub mod Drawn
+pub mod Heard
+pub mod Kept
+pub mod Itself
+pub mod Sound
+pub mod Tries
+pub mod Rest
+pub mod Ears
+pub mod ByRuns
+-- The promises.
+pub mod Outcome
+pub mod Batches
+pub mod Ends
+pub mod Fit
+pub mod Turns
+pub mod Answers
+pub mod Promises
