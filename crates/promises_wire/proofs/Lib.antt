@@ -1,8 +1,18 @@
--- The proofs of the whole way: what the lines tell; a recording taken apart; records on a sheet; the listing by slots.
-pub mod Told
-pub mod Parts
-pub mod Rows
+-- The proofs of the whole way: records stored on a sheet, one by one and by rounds; the listing by slots.
+pub mod Stored
+pub mod Rounds
 pub mod Listed
--- The promises.
-pub mod Damaged
-pub mod WireToListing
+-- What a poll's answer is, and what a month comes to.
+pub mod Polled
+pub mod Months
+-- What was sent and what is noted; and that all this can be.
+pub mod SaidSo
+pub mod Fixed
+pub mod Happens
+-- The board.
+pub mod Board
+-- The recorder runs its round.
+pub mod Tries
+pub mod Running
+-- The promise.
+pub mod TankToDesk

@@ -1,5 +1,5 @@
 -- The listing of a sheet whose slots are a row from the first on, slot by slot: the lines joined are those of the row, since a blank slot has none, and the
--- list is as long as the row has records. Record by record these are the lines that are expected.
+-- list is the row's records. Record by record these are the lines and the records that are expected.
 use mathlib.Core.Path.{_≡_, refl, sym, ap, ap₂, _∙_}
 use mathlib.Core.Bool.{Bool, true, false}
 use mathlib.Core.List.{List, [], _∷_, _++_, map, append-nil, append-assoc}
@@ -8,10 +8,10 @@ use native.Mathlib.Omega.{arith}
 use native.Mathlib.Nat.{add-zero, zero-add}
 use borrow.Author.Tests.{eqb-true, ltb-false}
 use lib.Dec.{leb}
-use lib.ListN.{length, getD, length-append}
+use lib.ListN.{length, getD}
 use Rattle.frame.specs.Pick.{pick}
 use Rattle.frame.specs.Reply.{replyOf}
-use Rattle.sheet.specs.Record.{lengthOf}
+use Rattle.sheet.specs.Record.{Entry, lengthOf}
 use Rattle.sheet.specs.Slots.{Slot, blank, spoiled, holds, recordIn, sizeAllowed, slots, slotAt, slotOf, listOf}
 use Rattle.sheet.specs.Save.{storesMade}
 use Rattle.listing.specs.Text.{ascii, decimal}
@@ -21,9 +21,8 @@ use Rattle.promises_card.specs.sheet.SlotsInOrder.{hasSlot, slotOfSave, slotsOf
 use Rattle.promises_card.specs.listing.InOrder.{joined}
 use Rattle.promises_card.proofs.sheet.ListAndFull.{slots-of, long-so, sized, list-and-full}
 use Rattle.promises_card.proofs.sheet.SlotsInOrder.{fills, slots-in-order}
-use Rattle.promises_wire.specs.Expected.{Known, storesFor, uncut, lineFor, linesFrom, uncutFrom, listingFor}
-use Rattle.promises_wire.proofs.Parts.{Order, Stored}
-use Rattle.promises_wire.proofs.Rows.{entryIn, takesSlot, slotFor, rowFrom, rowed}
+use Rattle.promises_wire.specs.Expected.{Known, storesFor, uncut, lineFor, linesFrom, recordsFrom, recordsFor, listingFor}
+use Rattle.promises_wire.proofs.Stored.{Order, Stored, takesSlot, slotFor, rowFrom, rowed}
 
 -- Lines joined: the first one first.
 joined-first : (f : ℕ → List ℕ) (k : ℕ) → joined f (suc k) ≡ f 0 ++ joined (λ j. f (suc j)) k
@@ -46,9 +45,9 @@ abbrev linesOfRow : ℕ → List Slot → List ℕ
 linesOfRow k [] = []
 linesOfRow k (y ∷ ys) = lineOf k y ++ linesOfRow (suc k) ys
 
-abbrev holdsIn : List Slot → ℕ
-holdsIn [] = 0
-holdsIn (y ∷ ys) = length (recordIn y) + holdsIn ys
+abbrev held : List Slot → List Entry
+held [] = []
+held (y ∷ ys) = recordIn y ++ held ys
 
 row-lines : (row : List Slot) (base k : ℕ) → length row ≤ k → joined (λ j. lineOf (base + j) (getD row j blank)) k ≡ linesOfRow base row
 row-lines [] base k h = joined-none k
@@ -69,52 +68,49 @@ sheet-lines s row (suc k) e =
     (ap (lineOf k) (e k (omega arith)) ∙ ap (λ (i : ℕ). lineOf i (getD row k blank)) (sym (zero-add k)))
 
 -- The records of a history are those of its slots.
-holds-append : (ys zs : List Slot) → holdsIn (ys ++ zs) ≡ holdsIn ys + holdsIn zs
-holds-append [] zs = sym (zero-add (holdsIn zs))
-holds-append (y ∷ ys) zs = omega (arith, holds-append ys zs)
+held-append : (ys zs : List Slot) → held (ys ++ zs) ≡ held ys ++ held zs
+held-append [] zs = refl
+held-append (y ∷ ys) zs = ap (λ (l : List Entry). recordIn y ++ l) (held-append ys zs) ∙ sym (append-assoc (recordIn y) (held ys) (held zs))
 
 one-record : (x : Save) (c b : Bool) → isClosed x ≡ c → hasSlot x ≡ b
-    → length (pick c (x .entry ∷ []) []) ≡ holdsIn (pick b (pick c (holds (x .entry)) spoiled ∷ []) [])
+    → pick c (x .entry ∷ []) [] ≡ held (pick b (pick c (holds (x .entry)) spoiled ∷ []) [])
 one-record x true true p q = refl
 one-record x true false p q =
     absurd (omega (arith, eqb-true (storesMade (x .answer)) (allStores x) p, ltb-false 0 (storesMade (x .answer)) q))
 one-record x false true p q = refl
 one-record x false false p q = refl
 
-records-held : (h : List Save) → length (recordsOf h) ≡ holdsIn (slotsOfSaves h)
+records-held : (h : List Save) → recordsOf h ≡ held (slotsOfSaves h)
 unfolding recordsOf slotsOfSaves
 records-held [] = refl
 records-held (x ∷ h) =
-    length-append (recordsOf h) (pick (isClosed x) (x .entry ∷ []) [])
-    ∙ ap₂ (λ (a b : ℕ). a + b) (records-held h) (one-record x (isClosed x) (hasSlot x) refl refl)
-    ∙ sym (holds-append (slotsOfSaves h) (pick (hasSlot x) (slotOfSave x ∷ []) []))
+    ap₂ (λ (a b : List Entry). a ++ b) (records-held h) (one-record x (isClosed x) (hasSlot x) refl refl)
+    ∙ sym (held-append (slotsOfSaves h) (pick (hasSlot x) (slotOfSave x ∷ []) []))
 
 -- What is expected of a record.
 abbrev pub knownOrder : Order → Known
 knownOrder o =
     record {
-      minute = o .polled .minute;
-      address = o .polled .address;
-      says = replyOf (o .polled .settings) (o .polled .address) (o .count) (o .bytes);
-      size = length (o .bytes);
-      allowance = o .polled .allowance;
+      entry = o .entry;
+      says = replyOf (o .entry .settings) (o .entry .address) (o .entry .count) (o .entry .reply);
+      given = o .given;
     }
 
-stores-as : (o : Order) → lengthOf (entryIn o) + 2 ≡ storesFor (knownOrder o)
+pub stores-as : (o : Order) → lengthOf (o .entry) + 2 ≡ storesFor (knownOrder o)
 stores-as o = omega arith
 
 slot-line : (k : ℕ) (o : Order) → lineOf k (slotFor o) ≡ lineFor k (knownOrder o)
 unfolding recordText
-slot-line k o = go (leb (lengthOf (entryIn o) + 2) (o .polled .allowance)) (ap (λ (m : ℕ). leb m (o .polled .allowance)) (stores-as o))
+slot-line k o = go (leb (lengthOf (o .entry) + 2) (o .given)) (ap (λ (m : ℕ). leb m (o .given)) (stores-as o))
   where
-    go : (b : Bool) → b ≡ uncut (knownOrder o) → lineOf k (pick b (holds (entryIn o)) spoiled) ≡ lineFor k (knownOrder o)
+    go : (b : Bool) → b ≡ uncut (knownOrder o) → lineOf k (pick b (holds (o .entry)) spoiled) ≡ lineFor k (knownOrder o)
     go true e = rw (sym e)
     go false e = rw (sym e)
 
-slot-count : (o : Order) → length (recordIn (slotFor o)) ≡ pick (uncut (knownOrder o)) 1 0
-slot-count o = go (leb (lengthOf (entryIn o) + 2) (o .polled .allowance)) (ap (λ (m : ℕ). leb m (o .polled .allowance)) (stores-as o))
+slot-record : (o : Order) → recordIn (slotFor o) ≡ pick (uncut (knownOrder o)) (o .entry ∷ []) []
+slot-record o = go (leb (lengthOf (o .entry) + 2) (o .given)) (ap (λ (m : ℕ). leb m (o .given)) (stores-as o))
   where
-    go : (b : Bool) → b ≡ uncut (knownOrder o) → length (recordIn (pick b (holds (entryIn o)) spoiled)) ≡ pick (uncut (knownOrder o)) 1 0
+    go : (b : Bool) → b ≡ uncut (knownOrder o) → recordIn (pick b (holds (o .entry)) spoiled) ≡ pick (uncut (knownOrder o)) (o .entry ∷ []) []
     go true e = rw (sym e)
     go false e = rw (sym e)
 
@@ -130,16 +126,16 @@ order-lines n k (o ∷ os) = go (takesSlot n k o) (order-lines n (suc k) os) (or
     go true e f = ap₂ (λ (a b : List ℕ). a ++ b) (slot-line k o) e
     go false e f = f
 
-order-count : (n k : ℕ) (os : List Order) → holdsIn (rowFrom n k os) ≡ uncutFrom n k (map knownOrder os)
-unfolding rowFrom uncutFrom
-order-count n k [] = refl
-order-count n k (o ∷ os) = go (takesSlot n k o) (order-count n (suc k) os) (order-count n k os)
+order-records : (n k : ℕ) (os : List Order) → held (rowFrom n k os) ≡ recordsFrom n k (map knownOrder os)
+unfolding rowFrom recordsFrom
+order-records n k [] = refl
+order-records n k (o ∷ os) = go (takesSlot n k o) (order-records n (suc k) os) (order-records n k os)
   where
-    go : (b : Bool) → holdsIn (rowFrom n (suc k) os) ≡ uncutFrom n (suc k) (map knownOrder os)
-        → holdsIn (rowFrom n k os) ≡ uncutFrom n k (map knownOrder os)
-        → holdsIn (pick b (slotFor o ∷ rowFrom n (suc k) os) (rowFrom n k os))
-        ≡ pick b (pick (uncut (knownOrder o)) 1 0 + uncutFrom n (suc k) (map knownOrder os)) (uncutFrom n k (map knownOrder os))
-    go true e f = ap₂ (λ (a b : ℕ). a + b) (slot-count o) e
+    go : (b : Bool) → held (rowFrom n (suc k) os) ≡ recordsFrom n (suc k) (map knownOrder os)
+        → held (rowFrom n k os) ≡ recordsFrom n k (map knownOrder os)
+        → held (pick b (slotFor o ∷ rowFrom n (suc k) os) (rowFrom n k os))
+        ≡ pick b (pick (uncut (knownOrder o)) (o .entry ∷ []) [] ++ recordsFrom n (suc k) (map knownOrder os)) (recordsFrom n k (map knownOrder os))
+    go true e f = ap₂ (λ (a b : List Entry). a ++ b) (slot-record o) e
     go false e f = f
 
 listing-is : (s : List ℕ) (n m : ℕ) (lines : List ℕ) → sizeAllowed s ≡ true → slots s ≡ n → linesUpTo s n ≡ lines → length (listOf s) ≡ m
@@ -149,16 +145,20 @@ listing-is s n m lines size all e c =
     rw size
     (λ i. (ascii "sheet " ++ decimal (all i) ++ ascii "\n") ++ (ap (linesUpTo s) all ∙ e) i ++ (ascii "records " ++ decimal (c i) ++ ascii "\n"))
 
--- The listing of a sheet on which records were stored.
-pub listed-as : (n : ℕ) → n ≤ 2048 → (os : List Order) (s : List ℕ) → Stored n os s → listingOf s ≡ listingFor n (map knownOrder os)
-listed-as n few os s st =
-    let r = rowed n few st in
-    let h = r .history in
-    let row : List Slot = slotsOfSaves (r .saves) in
-    let all : slots s ≡ n = slots-of n few s (long-so n few (r .saves) s h) in
-    let enough : length row ≤ n = slots-in-order .enough n (r .saves) s (record { allowed = few; history = h }) in
-    let lines : linesUpTo s n ≡ linesFrom n 0 (map knownOrder os)
-    = sheet-lines s row n (fills n few h .each) ∙ row-lines row 0 n enough ∙ ap (linesOfRow 0) (r .row) ∙ order-lines n 0 os in
-    let count : length (listOf s) ≡ uncutFrom n 0 (map knownOrder os)
-    = ap length (list-and-full .whole n (r .saves) s (record { allowed = few; history = h })) ∙ records-held (r .saves) ∙ ap holdsIn (r .row) ∙ order-count n 0 os in
-    listing-is s n (uncutFrom n 0 (map knownOrder os)) (linesFrom n 0 (map knownOrder os)) (sized n few (r .saves) s h) all lines count
+-- The list and the listing of a sheet on which records were stored.
+module _ (n : ℕ) (few : n ≤ 2048) (os : List Order) (s : List ℕ) (st : Stored n os s) where
+  pub list-as : listOf s ≡ recordsFor n (map knownOrder os)
+  list-as =
+      let r = rowed n few st in
+      list-and-full .whole n (r .saves) s (record { allowed = few; history = r .history }) ∙ records-held (r .saves) ∙ ap held (r .row) ∙ order-records n 0 os
+
+  pub listed-as : listingOf s ≡ listingFor n (map knownOrder os)
+  listed-as =
+      let r = rowed n few st in
+      let h = r .history in
+      let row : List Slot = slotsOfSaves (r .saves) in
+      let all : slots s ≡ n = slots-of n few s (long-so n few (r .saves) s h) in
+      let enough : length row ≤ n = slots-in-order .enough n (r .saves) s (record { allowed = few; history = h }) in
+      let lines : linesUpTo s n ≡ linesFrom n 0 (map knownOrder os)
+      = sheet-lines s row n (fills n few h .each) ∙ row-lines row 0 n enough ∙ ap (linesOfRow 0) (r .row) ∙ order-lines n 0 os in
+      listing-is s n (length (recordsFor n (map knownOrder os))) (linesFrom n 0 (map knownOrder os)) (sized n few (r .saves) s h) all lines (ap length list-as)

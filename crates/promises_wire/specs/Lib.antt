@@ -1,10 +1,16 @@
--- The whole way: what is drawn on the two lines, heard, saved and listed.
--- What the recorder does with what it hears.
-pub mod Recording
+-- The whole way: what is sent on the two lines, heard, saved, summed up and listed.
+-- A poll, and what came of it; how it was heard, by the calls of the lines.
+pub mod Polls
+pub mod Heard
 -- A reply on the two lines.
 pub mod Wire
--- The listing that is to come of it, made from the readings and the cuts alone.
+-- What is to come of it, made from what was sensed and the cuts alone.
 pub mod Expected
--- The promises: of replies that come as they were sent, and of any others.
-pub mod WireToListing
-pub mod Damaged
+-- What the recorder does in a month.
+pub mod Month
+-- The board beside it.
+pub mod Board
+-- A morning that the recorder runs itself.
+pub mod Running
+-- The promise.
+pub mod TankToDesk
