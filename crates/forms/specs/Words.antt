@@ -23,6 +23,16 @@ inMillimetres n = fill (ascii "~.~~~ m") (n / 1000 ∷ n / 100 % 10 ∷ n / 10 %
 unfoldable pub levelText : ℕ → ℕ → List ℕ
 levelText settings n = pick (eqb (settings % 4) 0) (inSixteenths n) (pick (eqb (settings % 4) 1) (inHundredths n) (inMillimetres n))
 
+-- A temperature in tenths of a degree, 8000 higher: "-12.3 °", the sign of a degree written as the page's text has it.
+abbrev pub inTenths : ℕ → List ℕ
+inTenths n = fill (ascii "~.~ &#176;") (n / 10 ∷ n % 10 ∷ [])
+
+abbrev pub belowZero : ℕ → List ℕ
+belowZero n = fill (ascii "-~.~ &#176;") (n / 10 ∷ n % 10 ∷ [])
+
+unfoldable pub degreesText : ℕ → List ℕ
+degreesText n = pick (ltb n 8000) (belowZero (8000 - n)) (inTenths (n - 8000))
+
 -- Mode and unit, and the transmitter's type with its parity, by the settings.
 unfoldable pub modeText : ℕ → List ℕ
 modeText settings = fill (choice (settings % 4) (ascii "fractional, 1/16 inch|decimal, 1/100 foot|20 m, millimetres|30 m, millimetres")) []

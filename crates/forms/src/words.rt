@@ -5,7 +5,7 @@ ghost use mathlib.Core.Path.{_≡_};
 ghost use Prim.Native.Nat.{_+_, _≤_};
 ghost use lib.ListN.{length};
 ghost use Rattle.listing.specs.inside.Puts.{Puts};
-ghost use Rattle.forms.specs.Words.{momentText, levelText, modeText, typeText, faultText};
+ghost use Rattle.forms.specs.Words.{momentText, levelText, degreesText, modeText, typeText, faultText};
 
 pub fn put_moment(out: &mut [u8], at: usize, minute: u32) -> usize
     requires { ⌜ at + 57 ≤ length (now out) ⌝ }
@@ -37,6 +37,20 @@ pub fn put_level(out: &mut [u8], at: usize, settings: u16, level: u16) -> usize
     }
     let millimetres = [n / 1000, n / 100 % 10, n / 10 % 10, n % 10];
     put_form(out, at, b"~.~~~ m", &millimetres)
+}
+
+// A temperature, which stands 8000 higher.
+pub fn put_degrees(out: &mut [u8], at: usize, n: u16) -> usize
+    requires { ⌜ at + 29 ≤ length (now out) ⌝ }
+    ensures { λ r. ⌜ Puts (degreesText n) 29 (now (out .entry)) at r (now (out .exit)) ⌝ }
+{
+    let wide = n as u32;
+    if wide < 8000 {
+        let below = [(8000 - wide) / 10, (8000 - wide) % 10];
+        return put_form(out, at, b"-~.~ &#176;", &below);
+    }
+    let above = [(wide - 8000) / 10, (wide - 8000) % 10];
+    put_form(out, at, b"~.~ &#176;", &above)
 }
 
 pub fn put_mode(out: &mut [u8], at: usize, settings: u16) -> usize

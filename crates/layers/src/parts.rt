@@ -61,7 +61,7 @@ fn heat_value(t: Temperature) -> Value
     }
 }
 
-fn value_in(layer: u8, reply: Reply) -> Value
+pub(crate) fn value_in(layer: u8, reply: Reply) -> Value
     ensures { λ r. ⌜ r ≡ valueIn layer reply ⌝ }
 {
     match reply {

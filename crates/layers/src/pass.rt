@@ -19,7 +19,7 @@ ghost use Rattle.layers.specs.Drawing.{partText, goesOn, layerText};
 ghost use Rattle.layers.specs.inside.Layers.{joinedAfter};
 
 // Address and settings as one number.
-fn pair_of(head: Head) -> u32
+pub(crate) fn pair_of(head: Head) -> u32
     ensures { λ r. ⌜ r ≡ pairBy (head .address) (head .settings) ⌝ }
 {
     (head.address as u32) * 0x10000 + (head.settings as u32)

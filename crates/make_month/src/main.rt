@@ -1,6 +1,7 @@
-// Makes a month's card: 30 transmitters polled twice a day for 31 days, their replies saved by the real `save` on a blank sheet, with
+// Makes a month's card: 30 transmitters of a depot polled twice a day for 31 days, their replies saved by the real `save` on a blank sheet, with
 // silent and damaged replies and power cuts among them. The card goes to standard output.
 mod replies;
+mod tanks;
 
 use frame::Written;
 
@@ -51,11 +52,11 @@ fn hear(sheet: &mut [u8], n: u16, out: &mut [u8], k: usize) {
     }
 }
 
-// One poll of one transmitter, which a few times says nothing.
+// One poll of one transmitter, which may say nothing.
 fn poll(sheet: &mut [u8], n: u16) {
     let i = n % 30;
     let mut out = [0u8; 7];
-    if n % 149 == 31 {
+    if replies::is_silent(i, n / 30) {
         hear(sheet, n, &mut out, 0);
         return;
     }

@@ -1,3 +1,2 @@
 -- The laws that several proofs cite, each in a file named for what it speaks of.
-pub mod Extents
 pub mod Rooms

@@ -1,5 +1,5 @@
 -- Our request 18, "A month to look at": what the page of a card says.
-pub mod Extent
+pub mod Axis
 pub mod Page
 pub mod Calls
 -- What only the code needs.

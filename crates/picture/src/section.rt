@@ -1,9 +1,15 @@
-// The section of a pair: heading, pictures, figures and faults.
+// The section of a pair: heading, rows of pictures, figures and faults.
+use crate::axis::Axis;
+use crate::axis::put_days;
+use crate::figures::put_figures;
 use forms::form::put_choice;
 use forms::form::put_form;
+use forms::words::put_degrees;
 use forms::words::put_level;
 use forms::words::put_mode;
 use forms::words::put_type;
+use layers::gauge::Gauged;
+use layers::gauge::gauge;
 use layers::pass::put_layer;
 use listing::text::put_word;
 use summary::Line;
@@ -16,16 +22,20 @@ ghost use Rattle.sheet.specs.Slots.{sizeAllowed, slots, listOf};
 ghost use Rattle.summary.specs.Line.{pairOf};
 ghost use Rattle.summary.specs.Worked.{ofPair};
 ghost use Rattle.listing.specs.inside.Puts.{Puts};
-ghost use Rattle.picture.specs.Page.{boundText, labelText, beginText, frameText, headingText, figuresText, framesText, sectionText};
+ghost use Rattle.picture.specs.Page.{valueText, labelText, scaleText, beginText, frameText, levelRow, heatRow, markRow, rowsText, headingText, sectionText};
 
-fn put_bound(out: &mut [u8], at: usize, settings: u16, n: u16) -> usize
+// A number of a layer's scale in people's form; marks have no scale.
+fn put_value(out: &mut [u8], at: usize, layer: u8, settings: u16, n: u16) -> usize
     requires { ⌜ at + 43 ≤ length (now out) ⌝ }
-    ensures { λ r. ⌜ Puts (boundText settings n) 43 (now (out .entry)) at r (now (out .exit)) ⌝ }
+    ensures { λ r. ⌜ Puts (valueText layer settings n) 43 (now (out .entry)) at r (now (out .exit)) ⌝ }
 {
-    if n == 0xffff {
-        return put_word(out, at, b"none");
+    if layer == 0 {
+        return put_level(out, at, settings, n);
     }
-    put_level(out, at, settings, n)
+    if layer == 1 {
+        return put_degrees(out, at, n);
+    }
+    at
 }
 
 fn put_label(out: &mut [u8], at: usize, layer: u8) -> usize
@@ -42,34 +52,46 @@ fn put_label(out: &mut [u8], at: usize, layer: u8) -> usize
     )
 }
 
+// The scale beside a frame: its highest number, what it is of, its lowest number.
+fn put_scale(out: &mut [u8], at: usize, layer: u8, settings: u16, high: u16, low: u16) -> usize
+    requires { ⌜ at + 170 ≤ length (now out) ⌝ }
+    ensures { λ r. ⌜ Puts (scaleText layer settings high low) 170 (now (out .entry)) at r (now (out .exit)) ⌝ }
+{
+    let begun = put_word(out, at, b"<div class='row'><div class='y'><span>");
+    let highest = put_value(out, begun, layer, settings, high);
+    let middle = put_word(out, highest, b"</span><b>");
+    let label = put_label(out, middle, layer);
+    let below = put_word(out, label, b"</b><span>");
+    let lowest = put_value(out, below, layer, settings, low);
+    put_word(out, lowest, b"</span></div>")
+}
+
 // The beginning of a layer's frame.
 fn put_begin(
     out: &mut [u8],
     at: usize,
     layer: u8,
+    address: u16,
     from: u32,
     top: u32,
     span: u32,
     height: u32,
 ) -> usize
-    requires { ⌜ at + 219 ≤ length (now out) ⌝ }
-    ensures { λ r. ⌜ Puts (beginText layer from top span height) 219 (now (out .entry)) at r (now (out .exit)) ⌝ }
+    requires { ⌜ at + 320 ≤ length (now out) ⌝ }
+    ensures { λ r. ⌜ Puts (beginText layer address from top span height) 320 (now (out .entry)) at r (now (out .exit)) ⌝ }
 {
     let none: [u32; 0] = [];
-    let numbers = [layer as u32, from, top, span, height];
-    let row = put_word(out, at, b"<div class='row'><b>");
-    let label = put_label(out, row, layer);
+    let numbers = [layer as u32, from, top, span, height, address as u32];
     let frame = put_form(
         out,
-        label,
-        b"</b><svg class='l~' viewBox='~ -~ ~ ~' preserveAspectRatio='none' role='img'><title>",
+        at,
+        b"<svg class='l~' viewBox='~ -~ ~ ~' preserveAspectRatio='none' role='img'><title>~: ",
         &numbers,
     );
-    let title = put_label(out, frame, layer);
     put_choice(
         out,
-        title,
-        b"</title><g transform='scale(1,-1)'><path d='|</title><g transform='scale(1,-1)'><path d='|</title><g>|</title><g>|</title><g>",
+        frame,
+        b"level</title><desc>a point for each good reply, at its minute and level, joined where no faulty reply lies between</desc><g transform='scale(1,-1)'><path d='|temperature</title><desc>a point for each good reply that has a temperature, joined where no other reply lies between</desc><g transform='scale(1,-1)'><path d='|faulty replies</title><desc>a bar for each, at its minute</desc><g>|alarm 1</title><desc>a round dot for each good reply that has it</desc><g>|alarm 0</title><desc>a square dot for each good reply that has it</desc><g>",
         layer as usize,
         &none,
     )
@@ -83,6 +105,7 @@ fn put_frame(
     many: usize,
     pair: u32,
     layer: u8,
+    address: u16,
     from: u32,
     top: u32,
     span: u32,
@@ -90,20 +113,160 @@ fn put_frame(
 ) -> usize
     requires { ⌜ sizeAllowed (now sheet) ≡ true ⌝ }
     requires { ⌜ many ≡ slots (now sheet) ⌝ }
-    requires { ⌜ at + 250 + 138 * length (ofPair pair (listOf (now sheet))) ≤ length (now out) ⌝ }
-    ensures { λ r. ⌜ Puts (frameText (listOf (now (sheet .entry))) pair layer from top span height)
-        (250 + 138 * length (ofPair pair (listOf (now (sheet .entry))))) (now (out .entry)) at r (now (out .exit)) ⌝ }
+    requires { ⌜ at + 345 + 138 * length (ofPair pair (listOf (now sheet))) ≤ length (now out) ⌝ }
+    ensures { λ r. ⌜ Puts (frameText (listOf (now (sheet .entry))) pair layer address from top span height)
+        (345 + 138 * length (ofPair pair (listOf (now (sheet .entry))))) (now (out .entry)) at r (now (out .exit)) ⌝ }
 {
     let none: [u32; 0] = [];
-    let begun = put_begin(out, at, layer, from, top, span, height);
+    let begun = put_begin(out, at, layer, address, from, top, span, height);
     let drawn = put_layer(out, begun, sheet, many, pair, layer);
     put_choice(
         out,
         drawn,
-        b"'/></g></svg></div>|'/></g></svg></div>|</g></svg></div>|</g></svg></div>|</g></svg></div>",
+        b"'/></g></svg></div>\n|'/></g></svg></div>\n|</g></svg></div>\n|</g></svg></div>\n|</g></svg></div>\n",
         layer as usize,
         &none,
     )
+}
+
+fn height(low: u16, high: u16, more: u32) -> u32
+    requires { ⌜ more ≤ 1000 ⌝ }
+    ensures { λ r. ⌜ r ≡ high - low + more ⌝ }
+{
+    if low <= high {
+        (high - low) as u32 + more
+    } else {
+        more
+    }
+}
+
+// The row of the levels.
+fn put_level_row(out: &mut [u8], at: usize, sheet: &[u8], many: usize, a: Axis, x: Line) -> usize
+    requires { ⌜ sizeAllowed (now sheet) ≡ true ⌝ }
+    requires { ⌜ many ≡ slots (now sheet) ⌝ }
+    requires { ⌜ at + 515 + 138 * length (ofPair (pairOf x) (listOf (now sheet))) ≤ length (now out) ⌝ }
+    ensures { λ r. ⌜ Puts (levelRow (listOf (now (sheet .entry))) a x)
+        (515 + 138 * length (ofPair (pairOf x) (listOf (now (sheet .entry))))) (now (out .entry)) at r (now (out .exit)) ⌝ }
+{
+    if x.good == 0 {
+        return put_word(
+            out,
+            at,
+            b"<p>No reply was good, so no level is drawn.</p>\n",
+        );
+    }
+    let pair = pair_of(x);
+    let tall = height(x.lowest, x.highest, 2);
+    let top = x.highest as u32 + 1;
+    let scale = put_scale(out, at, 0, x.settings, x.highest, x.lowest);
+    put_frame(
+        out,
+        scale,
+        sheet,
+        many,
+        pair,
+        0,
+        x.address,
+        a.from,
+        top,
+        a.span,
+        tall,
+    )
+}
+
+// The row of the temperatures, where there are some.
+fn put_heat_row(
+    out: &mut [u8],
+    at: usize,
+    sheet: &[u8],
+    many: usize,
+    a: Axis,
+    x: Line,
+    g: Gauged,
+) -> usize
+    requires { ⌜ sizeAllowed (now sheet) ≡ true ⌝ }
+    requires { ⌜ many ≡ slots (now sheet) ⌝ }
+    requires { ⌜ at + 515 + 138 * length (ofPair (pairOf x) (listOf (now sheet))) ≤ length (now out) ⌝ }
+    ensures { λ r. ⌜ Puts (heatRow (listOf (now (sheet .entry))) a x g)
+        (515 + 138 * length (ofPair (pairOf x) (listOf (now (sheet .entry))))) (now (out .entry)) at r (now (out .exit)) ⌝ }
+{
+    if g.warm < g.cold {
+        return at;
+    }
+    let pair = pair_of(x);
+    let tall = height(g.cold, g.warm, 20);
+    let top = g.warm as u32 + 10;
+    let scale = put_scale(out, at, 1, x.settings, g.warm, g.cold);
+    put_frame(
+        out,
+        scale,
+        sheet,
+        many,
+        pair,
+        1,
+        x.address,
+        a.from,
+        top,
+        a.span,
+        tall,
+    )
+}
+
+// A row of marks.
+fn put_mark_row(
+    out: &mut [u8],
+    at: usize,
+    sheet: &[u8],
+    many: usize,
+    a: Axis,
+    x: Line,
+    layer: u8,
+) -> usize
+    requires { ⌜ sizeAllowed (now sheet) ≡ true ⌝ }
+    requires { ⌜ many ≡ slots (now sheet) ⌝ }
+    requires { ⌜ at + 515 + 138 * length (ofPair (pairOf x) (listOf (now sheet))) ≤ length (now out) ⌝ }
+    ensures { λ r. ⌜ Puts (markRow (listOf (now (sheet .entry))) a x layer)
+        (515 + 138 * length (ofPair (pairOf x) (listOf (now (sheet .entry))))) (now (out .entry)) at r (now (out .exit)) ⌝ }
+{
+    let pair = pair_of(x);
+    let scale = put_scale(out, at, layer, 0, 0, 0);
+    put_frame(
+        out,
+        scale,
+        sheet,
+        many,
+        pair,
+        layer,
+        x.address,
+        a.from,
+        0,
+        a.span,
+        1,
+    )
+}
+
+// The rows of a pair, and the days under them.
+fn put_rows(
+    out: &mut [u8],
+    at: usize,
+    sheet: &[u8],
+    many: usize,
+    a: Axis,
+    x: Line,
+    g: Gauged,
+) -> usize
+    requires { ⌜ sizeAllowed (now sheet) ≡ true ⌝ }
+    requires { ⌜ many ≡ slots (now sheet) ⌝ }
+    requires { ⌜ at + 2800 + 690 * length (ofPair (pairOf x) (listOf (now sheet))) ≤ length (now out) ⌝ }
+    ensures { λ r. ⌜ Puts (rowsText (listOf (now (sheet .entry))) a x g)
+        (2800 + 690 * length (ofPair (pairOf x) (listOf (now (sheet .entry))))) (now (out .entry)) at r (now (out .exit)) ⌝ }
+{
+    let level = put_level_row(out, at, sheet, many, a, x);
+    let heat = put_heat_row(out, level, sheet, many, a, x, g);
+    let fault = put_mark_row(out, heat, sheet, many, a, x, 2);
+    let alarm1 = put_mark_row(out, fault, sheet, many, a, x, 3);
+    let alarm0 = put_mark_row(out, alarm1, sheet, many, a, x, 4);
+    put_days(out, alarm0, a)
 }
 
 fn put_heading(out: &mut [u8], at: usize, x: Line) -> usize
@@ -117,77 +280,30 @@ fn put_heading(out: &mut [u8], at: usize, x: Line) -> usize
     put_word(out, kind, b"</small></h2>\n")
 }
 
-fn put_figures(out: &mut [u8], at: usize, x: Line) -> usize
-    requires { ⌜ at + 260 ≤ length (now out) ⌝ }
-    ensures { λ r. ⌜ Puts (figuresText x) 260 (now (out .entry)) at r (now (out .exit)) ⌝ }
-{
-    let low = put_word(out, at, b"<table><tr><th>lowest</th><td>");
-    let lowest = put_bound(out, low, x.settings, x.lowest);
-    let high = put_word(out, lowest, b"</td></tr><tr><th>highest</th><td>");
-    let highest = put_bound(out, high, x.settings, x.highest);
-    let counts = [x.good, x.faulty];
-    put_form(
-        out,
-        highest,
-        b"</td></tr><tr><th>replies</th><td>~ good, ~ faulty</td></tr></table><ul>",
-        &counts,
-    )
-}
-
-fn height(low: u16, high: u16) -> u32
-    ensures { λ r. ⌜ r ≡ high - low + 2 ⌝ }
-{
-    if low <= high {
-        (high - low) as u32 + 2
-    } else {
-        2
-    }
-}
-
-// The five pictures of a pair.
-fn put_frames(
-    out: &mut [u8],
-    at: usize,
-    sheet: &[u8],
-    many: usize,
-    from: u32,
-    span: u32,
-    x: Line,
-) -> usize
-    requires { ⌜ sizeAllowed (now sheet) ≡ true ⌝ }
-    requires { ⌜ many ≡ slots (now sheet) ⌝ }
-    requires { ⌜ at + 1250 + 690 * length (ofPair (pairOf x) (listOf (now sheet))) ≤ length (now out) ⌝ }
-    ensures { λ r. ⌜ Puts (framesText (listOf (now (sheet .entry))) from span x)
-        (1250 + 690 * length (ofPair (pairOf x) (listOf (now (sheet .entry))))) (now (out .entry)) at r (now (out .exit)) ⌝ }
-{
-    let pair = pair_of(x);
-    let top = x.highest as u32 + 1;
-    let tall = height(x.lowest, x.highest);
-    let level = put_frame(out, at, sheet, many, pair, 0, from, top, span, tall);
-    let heat = put_frame(out, level, sheet, many, pair, 1, from, 8600, span, 1000);
-    let fault = put_frame(out, heat, sheet, many, pair, 2, from, 0, span, 1);
-    let alarm1 = put_frame(out, fault, sheet, many, pair, 3, from, 0, span, 1);
-    put_frame(out, alarm1, sheet, many, pair, 4, from, 0, span, 1)
-}
-
 pub(crate) fn put_section(
     out: &mut [u8],
     at: usize,
     sheet: &[u8],
     many: usize,
-    from: u32,
-    span: u32,
+    a: Axis,
     x: Line,
 ) -> usize
     requires { ⌜ sizeAllowed (now sheet) ≡ true ⌝ }
     requires { ⌜ many ≡ slots (now sheet) ⌝ }
-    requires { ⌜ at + 2400 + 828 * length (ofPair (pairOf x) (listOf (now sheet))) ≤ length (now out) ⌝ }
-    ensures { λ r. ⌜ Puts (sectionText (listOf (now (sheet .entry))) from span x)
-        (2400 + 828 * length (ofPair (pairOf x) (listOf (now (sheet .entry))))) (now (out .entry)) at r (now (out .exit)) ⌝ }
+    requires { ⌜ at + 4600 + 828 * length (ofPair (pairOf x) (listOf (now sheet))) ≤ length (now out) ⌝ }
+    ensures { λ r. ⌜ Puts (sectionText (listOf (now (sheet .entry))) a x)
+        (4600 + 828 * length (ofPair (pairOf x) (listOf (now (sheet .entry))))) (now (out .entry)) at r (now (out .exit)) ⌝ }
 {
+    let pair = pair_of(x);
+    let g = gauge(sheet, many, pair);
     let heading = put_heading(out, at, x);
-    let frames = put_frames(out, heading, sheet, many, from, span, x);
-    let figures = put_figures(out, frames, x);
-    let faults = put_layer(out, figures, sheet, many, pair_of(x), 5);
-    put_word(out, faults, b"</ul></section>\n")
+    let rows = put_rows(out, heading, sheet, many, a, x, g);
+    let figures = put_figures(out, rows, x, g);
+    let begun = put_word(
+        out,
+        figures,
+        b"<details><summary>faulty replies one by one</summary><ul>",
+    );
+    let faults = put_layer(out, begun, sheet, many, pair, 5);
+    put_word(out, faults, b"</ul></details></section>\n")
 }

@@ -1,115 +1,228 @@
 // What stands above the sections.
-use crate::whole::Extent;
+use crate::axis::Axis;
+use cards::Tally;
 use forms::form::put_form;
 use forms::words::put_moment;
 use listing::text::put_word;
 ghost use Prim.Native.Nat.{_+_, _≤_};
 ghost use lib.ListN.{length};
 ghost use Rattle.listing.specs.inside.Puts.{Puts};
-ghost use Rattle.picture.specs.Page.{openingText, rulesText, shapesText, styleText, whenText, topText};
+ghost use Rattle.picture.specs.Page.{openingText, rulesText, scalesText, shapesText, styleText, legendText, whenText, othersText, countsText, topText};
 
-// The file's beginning, the rules of its text, and how lines and marks look.
-fn put_opening(out: &mut [u8], at: usize) -> usize
-    requires { ⌜ at + 184 ≤ length (now out) ⌝ }
-    ensures { λ r. ⌜ Puts openingText 184 (now (out .entry)) at r (now (out .exit)) ⌝ }
+// The file's beginning with the card's name, the rules of its text, and how lines and marks look.
+fn put_opening(out: &mut [u8], at: usize, name: &[u8]) -> usize
+    requires { ⌜ at + 202 + length (now name) ≤ length (now out) ⌝ }
+    ensures { λ r. ⌜ Puts (openingText (now (name .entry))) (202 + length (now (name .entry))) (now (out .entry)) at r (now (out .exit)) ⌝ }
 {
     let a = put_word(
         out,
         at,
         b"<!DOCTYPE html>\n<html xmlns='http://www.w3.org/1999/xhtml' lang='en'><head><meta charset='utf-8'/>",
     );
-    put_word(
+    let b = put_word(
         out,
         a,
-        b"<meta name='viewport' content='width=device-width'/><title>Month sheet</title><style>\n",
-    )
+        b"<meta name='viewport' content='width=device-width,initial-scale=1'/><title>",
+    );
+    let c = put_word(out, b, name);
+    put_word(out, c, b": month sheet</title><style>\n")
 }
 
 fn put_rules(out: &mut [u8], at: usize) -> usize
-    requires { ⌜ at + 459 ≤ length (now out) ⌝ }
-    ensures { λ r. ⌜ Puts rulesText 459 (now (out .entry)) at r (now (out .exit)) ⌝ }
+    requires { ⌜ at + 571 ≤ length (now out) ⌝ }
+    ensures { λ r. ⌜ Puts rulesText 571 (now (out .entry)) at r (now (out .exit)) ⌝ }
 {
     let a = put_word(
         out,
         at,
-        b"body{font:15px/1.4 sans-serif;margin:1.5em;color:#111}main{display:flex;flex-wrap:wrap;gap:1em}\n",
+        b"body{font:15px/1.45 sans-serif;margin:1.2em auto;max-width:90em;padding:0 1em;color:#111}h1{font-size:1.4em;margin:.2em 0}p{margin:.3em 0}\n",
     );
     let b = put_word(
         out,
         a,
-        b"section{flex:1 1 22em;max-width:40em;border:1px solid #999;padding:.7em;break-inside:avoid}h2{font-size:1.1em;margin:0}\n",
+        b"main{display:grid;grid-template-columns:repeat(auto-fill,minmax(min(100%,26em),1fr));gap:1em;margin-top:1em}h2{font-size:1.2em;margin:0 0 .4em}\n",
     );
     let c = put_word(
         out,
         b,
-        b"small{font-weight:normal}.row{display:flex;align-items:center;margin:.3em 0}.row b{flex:0 0 6em;font-weight:normal}\n",
+        b"section{border:1px solid #999;border-radius:4px;padding:.7em .9em;break-inside:avoid}small{font-weight:normal;font-size:.75em;color:#333}\n",
     );
     put_word(
         out,
         c,
-        b"svg{flex:1;min-width:0;fill:none;overflow:visible;background:#f2f2f2}path{vector-effect:non-scaling-stroke}th{text-align:left}\n",
+        b".row{display:flex;margin:.2em 0}.y{flex:0 0 8em;display:flex;flex-direction:column;justify-content:space-between;text-align:right;padding-right:.6em}\n",
     )
 }
 
-fn put_shapes(out: &mut [u8], at: usize) -> usize
-    requires { ⌜ at + 313 ≤ length (now out) ⌝ }
-    ensures { λ r. ⌜ Puts shapesText 313 (now (out .entry)) at r (now (out .exit)) ⌝ }
+fn put_scales(out: &mut [u8], at: usize) -> usize
+    requires { ⌜ at + 592 ≤ length (now out) ⌝ }
+    ensures { λ r. ⌜ Puts scalesText 592 (now (out .entry)) at r (now (out .exit)) ⌝ }
 {
     let a = put_word(
         out,
         at,
-        b".l0{height:9em;stroke:#04a;stroke-width:2;stroke-linecap:round}.l1{height:4em;stroke:#333;stroke-width:2;stroke-linecap:round}\n",
+        b".y,.axis{font-size:.75em;line-height:1.2}.y b{font-weight:normal;color:#555}.y span:empty{display:none}.axis{flex:1;min-width:0;display:flex;overflow:hidden}\n",
     );
     let b = put_word(
         out,
         a,
-        b".l2{height:1em;stroke:#b00;stroke-width:3}.l3{height:1em;stroke:#000;stroke-width:7;stroke-linecap:round}\n",
+        b".axis span{flex:0 0 calc(100%*var(--s)/var(--d));border-left:1px solid #777;padding-left:.3em;box-sizing:border-box}\n",
+    );
+    let c = put_word(
+        out,
+        b,
+        b".row svg{flex:1;min-width:0;overflow:visible;background:#f4f4f4 linear-gradient(90deg,#bbb 1px,transparent 1px) 0 0/calc(100%*var(--s)/var(--d)) 100%}\n",
     );
     put_word(
         out,
+        c,
+        b"svg{fill:none;print-color-adjust:exact;-webkit-print-color-adjust:exact}path{vector-effect:non-scaling-stroke}.key svg{width:2.5em;height:.9em;vertical-align:middle}\n",
+    )
+}
+
+fn put_shapes(out: &mut [u8], at: usize) -> usize
+    requires { ⌜ at + 594 ≤ length (now out) ⌝ }
+    ensures { λ r. ⌜ Puts shapesText 594 (now (out .entry)) at r (now (out .exit)) ⌝ }
+{
+    let a = put_word(
+        out,
+        at,
+        b".l0{height:9em;stroke:#04a;stroke-width:2;stroke-linecap:round}.l1{height:4.5em;stroke:#333;stroke-width:1.5;stroke-dasharray:4 3}\n",
+    );
+    let b = put_word(
+        out,
+        a,
+        b".l2{height:1em;stroke:#b00;stroke-width:3}.l3{height:1em;stroke:#000;stroke-width:8;stroke-linecap:round}.l4{height:1em;stroke:#000;stroke-width:7;stroke-linecap:square}\n",
+    );
+    let c = put_word(
+        out,
         b,
-        b".l4{height:1em;stroke:#000;stroke-width:6;stroke-linecap:square}</style></head>\n",
+        b"table{border-collapse:collapse;margin-top:.4em;font-size:.9em}th{text-align:left;vertical-align:top;font-weight:normal;color:#444;padding-right:1em}\n",
+    );
+    put_word(
+        out,
+        c,
+        b"details{font-size:.85em}@media print{main{display:block}section{margin-bottom:1em}.row svg{max-width:36em}.axis{max-width:48em}}</style></head>\n",
     )
 }
 
 // How the page looks, on a screen and on paper.
-pub(crate) fn put_style(out: &mut [u8], at: usize) -> usize
-    requires { ⌜ at + 1200 ≤ length (now out) ⌝ }
-    ensures { λ r. ⌜ Puts styleText 1200 (now (out .entry)) at r (now (out .exit)) ⌝ }
+pub(crate) fn put_style(out: &mut [u8], at: usize, name: &[u8]) -> usize
+    requires { ⌜ at + 1959 + length (now name) ≤ length (now out) ⌝ }
+    ensures { λ r. ⌜ Puts (styleText (now (name .entry))) (1959 + length (now (name .entry))) (now (out .entry)) at r (now (out .exit)) ⌝ }
 {
-    let opening = put_opening(out, at);
+    let opening = put_opening(out, at, name);
     let rules = put_rules(out, opening);
-    put_shapes(out, rules)
+    let scales = put_scales(out, rules);
+    put_shapes(out, scales)
 }
 
-fn put_when(out: &mut [u8], at: usize, x: Extent) -> usize
-    requires { ⌜ at + 118 ≤ length (now out) ⌝ }
-    ensures { λ r. ⌜ Puts (whenText x) 118 (now (out .entry)) at r (now (out .exit)) ⌝ }
+// What the lines and marks mean.
+fn put_legend(out: &mut [u8], at: usize) -> usize
+    requires { ⌜ at + 695 ≤ length (now out) ⌝ }
+    ensures { λ r. ⌜ Puts legendText 695 (now (out .entry)) at r (now (out .exit)) ⌝ }
 {
-    if x.records == 0 {
-        return put_word(out, at, b"no record");
-    }
-    let from = put_moment(out, at, x.first);
-    let gap = put_word(out, from, b" to ");
-    put_moment(out, gap, x.last)
-}
-
-pub(crate) fn put_top(out: &mut [u8], at: usize, many: u32, left: u32, x: Extent) -> usize
-    requires { ⌜ at + 260 ≤ length (now out) ⌝ }
-    ensures { λ r. ⌜ Puts (topText many left x) 260 (now (out .entry)) at r (now (out .exit)) ⌝ }
-{
-    let counts = [many, x.records];
-    let begun = put_form(
+    let a = put_word(
         out,
         at,
-        b"<body><h1>Month sheet</h1><p>~ slots, ~ records; ",
-        &counts,
+        b"<p class='key'><svg class='l0' viewBox='0 0 4 2' role='img'><title>level</title><desc>a line</desc><path d='M0,1h4'/></svg> level, broken where a faulty reply lies between; \n",
     );
-    let when = put_when(out, begun, x);
+    let b = put_word(
+        out,
+        a,
+        b"<svg class='l1' viewBox='0 0 4 2' role='img'><title>temperature</title><desc>a dashed line</desc><path d='M0,1h4'/></svg> temperature; \n",
+    );
+    let c = put_word(
+        out,
+        b,
+        b"<svg class='l2' viewBox='0 0 4 2' role='img'><title>faulty reply</title><desc>a bar</desc><path d='M2,0v2'/></svg> faulty reply; \n",
+    );
+    let d = put_word(
+        out,
+        c,
+        b"<svg class='l3' viewBox='0 0 4 2' role='img'><title>alarm 1</title><desc>a round dot</desc><path d='M2,1h0'/></svg> alarm 1; \n",
+    );
+    put_word(
+        out,
+        d,
+        b"<svg class='l4' viewBox='0 0 4 2' role='img'><title>alarm 0</title><desc>a square dot</desc><path d='M2,1h0'/></svg> alarm 0</p>\n",
+    )
+}
+
+fn put_when(out: &mut [u8], at: usize, t: Tally) -> usize
+    requires { ⌜ at + 118 ≤ length (now out) ⌝ }
+    ensures { λ r. ⌜ Puts (whenText t) 118 (now (out .entry)) at r (now (out .exit)) ⌝ }
+{
+    if t.records == 0 {
+        return put_word(out, at, b"no record");
+    }
+    let from = put_moment(out, at, t.first);
+    let gap = put_word(out, from, b" to ");
+    put_moment(out, gap, t.last)
+}
+
+fn put_others(out: &mut [u8], at: usize, n: u32) -> usize
+    requires { ⌜ at + 130 ≤ length (now out) ⌝ }
+    ensures { λ r. ⌜ Puts (othersText n) 130 (now (out .entry)) at r (now (out .exit)) ⌝ }
+{
+    if n == 0 {
+        return at;
+    }
     put_form(
         out,
-        when,
-        b"; ~ records of pairs that have no picture</p><main>\n",
-        &[left],
+        at,
+        b"<p>~ records are of further addresses and settings: the first 30 have a picture, and these have none.</p>\n",
+        &[n],
     )
+}
+
+fn put_counts(out: &mut [u8], at: usize, name: &[u8], t: Tally) -> usize
+    requires { ⌜ t .slots ≤ 65536 ⌝ }
+    requires { ⌜ t .records ≤ 65536 ⌝ }
+    requires { ⌜ t .spoiled ≤ 65536 ⌝ }
+    requires { ⌜ t .foreign ≤ 65536 ⌝ }
+    requires { ⌜ at + 220 + length (now name) ≤ length (now out) ⌝ }
+    ensures { λ r. ⌜ Puts (countsText (now (name .entry)) t) (220 + length (now (name .entry))) (now (out .entry)) at r (now (out .exit)) ⌝ }
+{
+    let counts = [
+        t.slots as u32,
+        t.records as u32,
+        t.spoiled as u32,
+        t.foreign as u32,
+    ];
+    let begun = put_word(out, at, b"<body><h1>");
+    let called = put_word(out, begun, name);
+    let held = put_form(
+        out,
+        called,
+        b"</h1><p>~ slots: ~ records, ~ spoiled, ~ foreign</p>\n<p>",
+        &counts,
+    );
+    put_when(out, held, t)
+}
+
+pub(crate) fn put_top(
+    out: &mut [u8],
+    at: usize,
+    name: &[u8],
+    note: &[u8],
+    t: Tally,
+    others: u32,
+    x: Axis,
+) -> usize
+    requires { ⌜ t .slots ≤ 65536 ⌝ }
+    requires { ⌜ t .records ≤ 65536 ⌝ }
+    requires { ⌜ t .spoiled ≤ 65536 ⌝ }
+    requires { ⌜ t .foreign ≤ 65536 ⌝ }
+    requires { ⌜ at + 1200 + length (now name) + length (now note) ≤ length (now out) ⌝ }
+    ensures { λ r. ⌜ Puts (topText (now (name .entry)) (now (note .entry)) t others x) (1200 + length (now (name .entry)) + length (now (note .entry)))
+        (now (out .entry)) at r (now (out .exit)) ⌝ }
+{
+    let weeks = [x.step, x.days];
+    let counts = put_counts(out, at, name, t);
+    let noted = put_word(out, counts, note);
+    let over = put_word(out, noted, b"</p>\n");
+    let left = put_others(out, over, others);
+    let legend = put_legend(out, left);
+    put_form(out, legend, b"<main style='--s:~;--d:~'>\n", &weeks)
 }

@@ -5,7 +5,7 @@
 mod dates;
 mod rows;
 
-use dates::Day;
+use calendar::Day;
 use libc::STDERR_FILENO;
 use libc::STDIN_FILENO;
 
@@ -26,11 +26,11 @@ fn show(dated: bool, begin: Day) -> u8 {
 // The same by the argument, where there is one.
 fn by_argument() -> u8 {
     if os::arg_count() < 2 {
-        return show(false, dates::no_day());
+        return show(false, calendar::no_day());
     }
     let mut text = [0u8; 16];
     let size = os::arg(1, &mut text);
-    let begin = dates::day_in(&text[..size]);
+    let begin = calendar::day_in(&text[..size]);
     if begin.day == 0 {
         io::write_all(
             STDERR_FILENO,

@@ -1,6 +1,6 @@
 // The lines of the table: a heading, and one for each record.
 use crate::dates;
-use crate::dates::Day;
+use calendar::Day;
 use frame::Reading;
 use frame::Reply;
 use frame::Temperature;

@@ -1,20 +1,13 @@
 -- `picture::section::put_begin` meets its contract: its parts are put one after another. Assumes nothing.
 use mathlib.Core.Path.{_≡_, refl, sym, ap, _∙_}
+use mathlib.Core.List.{List, [], _∷_, _++_}
+use Prim.Native.Nat.{ℕ, suc, _+_, _-_, _*_, _<_, _≤_}
 use native.Mathlib.Omega.{arith}
 use Rattle.listing.proofs.Putting.{then, text-is, at-most, nothing-put}
 use Rattle.picture.specs.Page.{beginText}
 use borrow.Author.Needs.{needs}
 use Rattle.picture.proofs.section.put_begin.Statement.{statement}
 use Rattle.picture.proofs.section.put_begin.Tie as tie
-
-slice-aggregate-put-word : tie.Need-slice-aggregate-put-word
-slice-aggregate-put-word c = search needs
-
-put-word-requires : tie.Need-put-word-requires
-put-word-requires c κs = search needs
-
-put-label-requires : tie.Need-put-label-requires
-put-label-requires c κs = search needs
 
 slice-aggregate-put-form : tie.Need-slice-aggregate-put-form
 slice-aggregate-put-form c = search needs
@@ -24,9 +17,6 @@ slice-aggregate-put-form-2 c = search needs
 
 put-form-requires : tie.Need-put-form-requires
 put-form-requires c κs = search needs
-
-put-label-requires-2 : tie.Need-put-label-requires-2
-put-label-requires-2 c κs = search needs
 
 slice-aggregate-put-choice : tie.Need-slice-aggregate-put-choice
 slice-aggregate-put-choice c = search needs
@@ -42,25 +32,15 @@ same-length c = search needs
 
 returns : tie.Need-returns
 unfolding beginText
-returns c =
-    let end = c .before .before in
-    let title = end .before .before .before .before .before .before in
-    let frame = title .before .before .before .before in
-    let label = frame .before .before .before .before .before .before in
-    let row = label .before .before .before .before in
-    at-most (omega arith) (then (then (then (then (row .put-word .ensures) (label .put-label .ensures)) (frame .put-form .ensures)) (title .put-label2 .ensures)) (end .put-choice .ensures))
+returns c = at-most (omega arith) (then (c .before .before .before .before .before .before .before .before .put-form .ensures) (c .before .before .put-choice .ensures))
 
 pub put-begin-spec : {M : Type 1} → statement M
 put-begin-spec =
     tie.close
     (tie.spec
-    slice-aggregate-put-word
-    put-word-requires
-    put-label-requires
     slice-aggregate-put-form
     slice-aggregate-put-form-2
     put-form-requires
-    put-label-requires-2
     slice-aggregate-put-choice
     slice-aggregate-put-choice-2
     put-choice-requires

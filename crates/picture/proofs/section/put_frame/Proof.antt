@@ -1,5 +1,7 @@
--- `picture::section::put_frame` meets its contract: the beginning, the layer, the end. Assumes nothing.
+-- `picture::section::put_frame` meets its contract: its parts are put one after another. Assumes nothing.
 use mathlib.Core.Path.{_≡_, refl, sym, ap, _∙_}
+use mathlib.Core.List.{List, [], _∷_, _++_}
+use Prim.Native.Nat.{ℕ, suc, _+_, _-_, _*_, _<_, _≤_}
 use native.Mathlib.Omega.{arith}
 use Rattle.listing.proofs.Putting.{then, text-is, at-most, nothing-put}
 use Rattle.picture.specs.Page.{frameText}
@@ -27,11 +29,7 @@ same-length c = search needs
 
 returns : tie.Need-returns
 unfolding frameText
-returns c =
-    let end = c .before .before in
-    let drawn = end .before .before .before .before .before .before in
-    let begun = drawn .before .before .before .before in
-    at-most (omega arith) (then (then (begun .put-begin .ensures) (drawn .put-layer .ensures)) (end .put-choice .ensures))
+returns c = at-most (omega arith) (then (then (c .before .before .before .before .before .before .before .before .before .before .before .before .put-begin .ensures) (c .before .before .before .before .before .before .before .before .put-layer .ensures)) (c .before .before .put-choice .ensures))
 
 pub put-frame-spec : {M : Type 1} → statement M
 put-frame-spec =

@@ -1,5 +1,7 @@
 -- `picture::section::put_heading` meets its contract: its parts are put one after another. Assumes nothing.
 use mathlib.Core.Path.{_≡_, refl, sym, ap, _∙_}
+use mathlib.Core.List.{List, [], _∷_, _++_}
+use Prim.Native.Nat.{ℕ, suc, _+_, _-_, _*_, _<_, _≤_}
 use native.Mathlib.Omega.{arith}
 use Rattle.listing.proofs.Putting.{then, text-is, at-most, nothing-put}
 use Rattle.picture.specs.Page.{headingText}
@@ -42,13 +44,7 @@ same-length c = search needs
 
 returns : tie.Need-returns
 unfolding headingText
-returns c =
-    let end = c .before .before in
-    let kind = end .before .before .before .before .before in
-    let gap = kind .before .before .before .before in
-    let mode = gap .before .before .before .before .before in
-    let begun = mode .before .before .before .before in
-    at-most (omega arith) (then (then (then (then (begun .put-form .ensures) (mode .put-mode .ensures)) (gap .put-word .ensures)) (kind .put-type .ensures)) (end .put-word2 .ensures))
+returns c = at-most (omega arith) (then (then (then (then (c .before .before .before .before .before .before .before .before .before .before .before .before .before .before .before .before .before .before .before .before .put-form .ensures) (c .before .before .before .before .before .before .before .before .before .before .before .before .before .before .before .before .put-mode .ensures)) (c .before .before .before .before .before .before .before .before .before .before .before .put-word .ensures)) (c .before .before .before .before .before .before .before .put-type .ensures)) (c .before .before .put-word2 .ensures))
 
 pub put-heading-spec : {M : Type 1} → statement M
 put-heading-spec =

@@ -1,5 +1,7 @@
--- `picture::section::put_label` meets its contract: the form that the layer picks. Assumes nothing.
+-- `picture::section::put_label` meets its contract: its parts are put one after another. Assumes nothing.
 use mathlib.Core.Path.{_≡_, refl, sym, ap, _∙_}
+use mathlib.Core.List.{List, [], _∷_, _++_}
+use Prim.Native.Nat.{ℕ, suc, _+_, _-_, _*_, _<_, _≤_}
 use native.Mathlib.Omega.{arith}
 use Rattle.listing.proofs.Putting.{then, text-is, at-most, nothing-put}
 use Rattle.picture.specs.Page.{labelText}

@@ -1,89 +1,82 @@
--- `picture::section::put_section` meets its contract: its parts are put one after another. Assumes nothing.
+-- `picture::section::put_section` meets its contract: its parts are put one after another, all of the line's pair. Assumes nothing.
 use mathlib.Core.Path.{_≡_, refl, sym, ap, _∙_}
-use mathlib.Core.Bool.{false}
-use mathlib.Core.List.{List, _++_}
-use Prim.Native.Nat.{ℕ}
+use mathlib.Core.List.{List, [], _∷_, _++_}
+use Prim.Native.Nat.{ℕ, suc, _+_, _-_, _*_, _<_, _≤_}
 use native.Mathlib.Omega.{arith}
+use Rattle.listing.proofs.Putting.{then, text-is, at-most, nothing-put}
+use mathlib.Core.Bool.{false}
+use lib.ListN.{length}
 use Rattle.sheet.specs.Record.{Entry}
 use Rattle.sheet.specs.Slots.{listOf}
 use Rattle.summary.specs.declared.Line.{Line}
 use Rattle.summary.specs.Line.{pairOf}
 use Rattle.summary.specs.Worked.{ofPair}
-use Rattle.listing.proofs.Putting.{then, text-is, at-most}
 use Rattle.listing.specs.Text.{ascii}
+use Rattle.layers.specs.declared.gauge.Gauged.{Gauged}
 use Rattle.layers.specs.Drawing.{layerText}
-use Rattle.picture.specs.Page.{headingText, framesText, figuresText, sectionText}
+use Rattle.layers.specs.Gauged.{gaugedOf}
+use Rattle.picture.specs.declared.axis.Axis.{Axis}
+use Rattle.picture.specs.Page.{headingText, rowsText, figuresText, sectionText}
 use Rattle.picture.proofs.Rooms.{many-are}
 use borrow.Author.Needs.{needs}
 use Rattle.picture.proofs.section.put_section.Statement.{statement}
 use Rattle.picture.proofs.section.put_section.Tie as tie
 
-section-is : (l : List Entry) (from span : ℕ) (x : Line) (pair : ℕ) → pair ≡ pairOf x → headingText x ++ framesText l from span x ++ figuresText x ++ layerText 5 false (ofPair pair l) ++ ascii "</ul></section>\n" ≡ sectionText l from span x
+section-is : (l : List Entry) (a : Axis) (x : Line) (pair : ℕ) (g : Gauged) → pair ≡ pairOf x → g ≡ gaugedOf (ofPair pair l) → headingText x ++ rowsText l a x g ++ figuresText x g ++ ascii "<details><summary>faulty replies one by one</summary><ul>" ++ layerText 5 false (ofPair pair l) ++ ascii "</ul></details></section>\n" ≡ sectionText l a x
 unfolding sectionText
-section-is l from span x pair p =
-    ap (λ (j : ℕ). headingText x ++ framesText l from span x ++ figuresText x ++ layerText 5 false (ofPair j l) ++ ascii "</ul></section>\n") p
-
-put-heading-requires : tie.Need-put-heading-requires
-put-heading-requires c κs = search needs
-
-put-frames-requires : tie.Need-put-frames-requires
-put-frames-requires c κs = search needs
-
-put-figures-requires : tie.Need-put-figures-requires
-put-figures-requires c κs = search needs
+section-is l a x pair g p q =
+    let h : g ≡ gaugedOf (ofPair (pairOf x) l) = q ∙ ap (λ (j : ℕ). gaugedOf (ofPair j l)) p in
+    λ i. headingText x ++ rowsText l a x (h i) ++ figuresText x (h i) ++ ascii "<details><summary>faulty replies one by one</summary><ul>" ++ layerText 5 false (ofPair (p i) l) ++ ascii "</ul></details></section>\n"
 
 pair-of-requires : tie.Need-pair-of-requires
 pair-of-requires c κs = search needs
 
-put-layer-requires : tie.Need-put-layer-requires
-put-layer-requires c κs =
-    let figures = c .before .before .before .before in
-    let frames = figures .before .before .before .before in
-    let heading = frames .before .before .before .before in
-    let start = heading .before .before .before .before in
-    let same = many-are (listOf (start .args .sheet .now)) (start .args .x) (c .pair-of .result) (c .pair-of .ensures) in
-    (start .pre .0, (start .pre .1 .0, omega (arith, same, start .pre .1 .1, figures .put-figures .ensures .ends, figures .put-figures .ensures .within, figures .put-figures .kept .0, frames .put-frames .ensures .ends, frames .put-frames .ensures .within, frames .put-frames .kept .0, heading .put-heading .ensures .ends, heading .put-heading .ensures .within, heading .put-heading .kept .0)))
+gauge-requires : tie.Need-gauge-requires
+gauge-requires c κs = (c .before .before .before .pre .0, c .before .before .before .pre .1 .0)
+
+put-heading-requires : tie.Need-put-heading-requires
+put-heading-requires c κs = omega (arith, c .before .before .before .before .before .pre .1 .1)
+
+put-rows-requires : tie.Need-put-rows-requires
+put-rows-requires c κs = (c .before .before .before .before .before .before .before .before .before .pre .0, (c .before .before .before .before .before .before .before .before .before .pre .1 .0, omega (arith, c .before .before .before .before .before .before .before .before .before .pre .1 .1, c .before .before .before .put-heading .ensures .ends, c .before .before .before .put-heading .ensures .within, c .before .before .before .put-heading .kept .0)))
+
+put-figures-requires : tie.Need-put-figures-requires
+put-figures-requires c κs = omega (arith, c .before .before .before .before .before .before .before .before .before .before .before .before .before .pre .1 .1, c .before .before .before .before .before .before .before .put-heading .ensures .ends, c .before .before .before .before .before .before .before .put-heading .ensures .within, c .before .before .before .before .before .before .before .put-heading .kept .0, c .before .before .before .put-rows .ensures .ends, c .before .before .before .put-rows .ensures .within, c .before .before .before .put-rows .kept .0)
 
 slice-aggregate-put-word : tie.Need-slice-aggregate-put-word
 slice-aggregate-put-word c = search needs
 
 put-word-requires : tie.Need-put-word-requires
-put-word-requires c κs =
-    let faults = c .before .before .before .before in
-    let p = faults .before in
-    let figures = p .before .before .before .before in
-    let frames = figures .before .before .before .before in
-    let heading = frames .before .before .before .before in
-    let start = heading .before .before .before .before in
-    let same = many-are (listOf (start .args .sheet .now)) (start .args .x) (p .pair-of .result) (p .pair-of .ensures) in
-    omega (arith, same, start .pre .1 .1, faults .put-layer .ensures .ends, faults .put-layer .ensures .within, faults .put-layer .kept .0, figures .put-figures .ensures .ends, figures .put-figures .ensures .within, figures .put-figures .kept .0, frames .put-frames .ensures .ends, frames .put-frames .ensures .within, frames .put-frames .kept .0, heading .put-heading .ensures .ends, heading .put-heading .ensures .within, heading .put-heading .kept .0)
+put-word-requires c κs = omega (arith, c .before .before .before .before .before .before .before .before .before .before .before .before .before .before .before .before .before .before .pre .1 .1, c .before .before .before .before .before .before .before .before .before .before .before .before .put-heading .ensures .ends, c .before .before .before .before .before .before .before .before .before .before .before .before .put-heading .ensures .within, c .before .before .before .before .before .before .before .before .before .before .before .before .put-heading .kept .0, c .before .before .before .before .before .before .before .before .put-rows .ensures .ends, c .before .before .before .before .before .before .before .before .put-rows .ensures .within, c .before .before .before .before .before .before .before .before .put-rows .kept .0, c .before .before .before .before .put-figures .ensures .ends, c .before .before .before .before .put-figures .ensures .within, c .before .before .before .before .put-figures .kept .0)
+
+put-layer-requires : tie.Need-put-layer-requires
+put-layer-requires c κs = (c .before .before .before .before .before .before .before .before .before .before .before .before .before .before .before .before .before .before .before .before .before .before .pre .0, (c .before .before .before .before .before .before .before .before .before .before .before .before .before .before .before .before .before .before .before .before .before .before .pre .1 .0, omega (arith, many-are (listOf (c .before .before .before .before .before .before .before .before .before .before .before .before .before .before .before .before .before .before .before .before .before .before .args .sheet .now)) (c .before .before .before .before .before .before .before .before .before .before .before .before .before .before .before .before .before .before .before .before .before .before .args .x) (c .before .before .before .before .before .before .before .before .before .before .before .before .before .before .before .before .before .before .before .pair-of .result) (c .before .before .before .before .before .before .before .before .before .before .before .before .before .before .before .before .before .before .before .pair-of .ensures), c .before .before .before .before .before .before .before .before .before .before .before .before .before .before .before .before .before .before .before .before .before .before .pre .1 .1, c .before .before .before .before .before .before .before .before .before .before .before .before .before .before .before .before .put-heading .ensures .ends, c .before .before .before .before .before .before .before .before .before .before .before .before .before .before .before .before .put-heading .ensures .within, c .before .before .before .before .before .before .before .before .before .before .before .before .before .before .before .before .put-heading .kept .0, c .before .before .before .before .before .before .before .before .before .before .before .before .put-rows .ensures .ends, c .before .before .before .before .before .before .before .before .before .before .before .before .put-rows .ensures .within, c .before .before .before .before .before .before .before .before .before .before .before .before .put-rows .kept .0, c .before .before .before .before .before .before .before .before .put-figures .ensures .ends, c .before .before .before .before .before .before .before .before .put-figures .ensures .within, c .before .before .before .before .before .before .before .before .put-figures .kept .0, c .before .before .before .put-word .ensures .ends, c .before .before .before .put-word .ensures .within, c .before .before .before .put-word .kept .0)))
+
+slice-aggregate-put-word-2 : tie.Need-slice-aggregate-put-word-2
+slice-aggregate-put-word-2 c = search needs
+
+put-word-requires-2 : tie.Need-put-word-requires-2
+put-word-requires-2 c κs = omega (arith, many-are (listOf (c .before .before .before .before .before .before .before .before .before .before .before .before .before .before .before .before .before .before .before .before .before .before .before .before .before .before .before .args .sheet .now)) (c .before .before .before .before .before .before .before .before .before .before .before .before .before .before .before .before .before .before .before .before .before .before .before .before .before .before .before .args .x) (c .before .before .before .before .before .before .before .before .before .before .before .before .before .before .before .before .before .before .before .before .before .before .before .before .pair-of .result) (c .before .before .before .before .before .before .before .before .before .before .before .before .before .before .before .before .before .before .before .before .before .before .before .before .pair-of .ensures), c .before .before .before .before .before .before .before .before .before .before .before .before .before .before .before .before .before .before .before .before .before .before .before .before .before .before .before .pre .1 .1, c .before .before .before .before .before .before .before .before .before .before .before .before .before .before .before .before .before .before .before .before .before .put-heading .ensures .ends, c .before .before .before .before .before .before .before .before .before .before .before .before .before .before .before .before .before .before .before .before .before .put-heading .ensures .within, c .before .before .before .before .before .before .before .before .before .before .before .before .before .before .before .before .before .before .before .before .before .put-heading .kept .0, c .before .before .before .before .before .before .before .before .before .before .before .before .before .before .before .before .before .put-rows .ensures .ends, c .before .before .before .before .before .before .before .before .before .before .before .before .before .before .before .before .before .put-rows .ensures .within, c .before .before .before .before .before .before .before .before .before .before .before .before .before .before .before .before .before .put-rows .kept .0, c .before .before .before .before .before .before .before .before .before .before .before .before .before .put-figures .ensures .ends, c .before .before .before .before .before .before .before .before .before .before .before .before .before .put-figures .ensures .within, c .before .before .before .before .before .before .before .before .before .before .before .before .before .put-figures .kept .0, c .before .before .before .before .before .before .before .before .put-word .ensures .ends, c .before .before .before .before .before .before .before .before .put-word .ensures .within, c .before .before .before .before .before .before .before .before .put-word .kept .0, c .before .before .before .before .put-layer .ensures .ends, c .before .before .before .before .put-layer .ensures .within, c .before .before .before .before .put-layer .kept .0)
 
 same-length : tie.Need-same-length
-same-length c = search needs
+same-length c = c .before .before .put-word2 .kept .0 ∙ c .before .before .before .before .before .before .before .put-layer .kept .0 ∙ c .before .before .before .before .before .before .before .before .before .before .before .put-word .kept .0 ∙ c .before .before .before .before .before .before .before .before .before .before .before .before .before .before .before .before .put-figures .kept .0 ∙ c .before .before .before .before .before .before .before .before .before .before .before .before .before .before .before .before .before .before .before .before .put-rows .kept .0 ∙ c .before .before .before .before .before .before .before .before .before .before .before .before .before .before .before .before .before .before .before .before .before .before .before .before .put-heading .kept .0
 
 returns : tie.Need-returns
-returns c =
-    let end = c .before .before in
-    let faults = end .before .before .before .before .before in
-    let p = faults .before in
-    let figures = p .before .before .before .before in
-    let frames = figures .before .before .before .before in
-    let heading = frames .before .before .before .before in
-    let a = heading .before .before .before .before .args in
-    let same = many-are (listOf (a .sheet .now)) (a .x) (p .pair-of .result) (p .pair-of .ensures) in
-    let whole = section-is (listOf (a .sheet .now)) (a .from) (a .span) (a .x) (p .pair-of .result) (p .pair-of .ensures) in
-    at-most (omega (arith, same)) (text-is whole (then (then (then (then (heading .put-heading .ensures) (frames .put-frames .ensures)) (figures .put-figures .ensures)) (faults .put-layer .ensures)) (end .put-word .ensures)))
+returns c = at-most (omega (arith, many-are (listOf (c .before .before .before .before .before .before .before .before .before .before .before .before .before .before .before .before .before .before .before .before .before .before .before .before .before .before .before .before .before .before .args .sheet .now)) (c .before .before .before .before .before .before .before .before .before .before .before .before .before .before .before .before .before .before .before .before .before .before .before .before .before .before .before .before .before .before .args .x) (c .before .before .before .before .before .before .before .before .before .before .before .before .before .before .before .before .before .before .before .before .before .before .before .before .before .before .before .pair-of .result) (c .before .before .before .before .before .before .before .before .before .before .before .before .before .before .before .before .before .before .before .before .before .before .before .before .before .before .before .pair-of .ensures))) (text-is (section-is (listOf (c .before .before .before .before .before .before .before .before .before .before .before .before .before .before .before .before .before .before .before .before .before .before .before .before .before .before .before .before .before .before .args .sheet .now)) (c .before .before .before .before .before .before .before .before .before .before .before .before .before .before .before .before .before .before .before .before .before .before .before .before .before .before .before .before .before .before .args .a) (c .before .before .before .before .before .before .before .before .before .before .before .before .before .before .before .before .before .before .before .before .before .before .before .before .before .before .before .before .before .before .args .x) (c .before .before .before .before .before .before .before .before .before .before .before .before .before .before .before .before .before .before .before .before .before .before .before .before .before .before .before .pair-of .result) (c .before .before .before .before .before .before .before .before .before .before .before .before .before .before .before .before .before .before .before .before .before .before .before .before .before .before .gauge .result) (c .before .before .before .before .before .before .before .before .before .before .before .before .before .before .before .before .before .before .before .before .before .before .before .before .before .before .before .pair-of .ensures) (c .before .before .before .before .before .before .before .before .before .before .before .before .before .before .before .before .before .before .before .before .before .before .before .before .before .before .gauge .ensures)) (then (then (then (then (then (c .before .before .before .before .before .before .before .before .before .before .before .before .before .before .before .before .before .before .before .before .before .before .before .before .put-heading .ensures) (c .before .before .before .before .before .before .before .before .before .before .before .before .before .before .before .before .before .before .before .before .put-rows .ensures)) (c .before .before .before .before .before .before .before .before .before .before .before .before .before .before .before .before .put-figures .ensures)) (c .before .before .before .before .before .before .before .before .before .before .before .put-word .ensures)) (c .before .before .before .before .before .before .before .put-layer .ensures)) (c .before .before .put-word2 .ensures)))
 
 pub put-section-spec : {M : Type 1} → statement M
 put-section-spec =
     tie.close
     (tie.spec
-    put-heading-requires
-    put-frames-requires
-    put-figures-requires
     pair-of-requires
-    put-layer-requires
+    gauge-requires
+    put-heading-requires
+    put-rows-requires
+    put-figures-requires
     slice-aggregate-put-word
     put-word-requires
+    put-layer-requires
+    slice-aggregate-put-word-2
+    put-word-requires-2
     same-length
     returns)

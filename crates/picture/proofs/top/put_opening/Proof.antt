@@ -1,5 +1,7 @@
--- `picture::top::put_opening` meets its contract: its words are put one after another. Assumes nothing.
+-- `picture::top::put_opening` meets its contract: its parts are put one after another. Assumes nothing.
 use mathlib.Core.Path.{_≡_, refl, sym, ap, _∙_}
+use mathlib.Core.List.{List, [], _∷_, _++_}
+use Prim.Native.Nat.{ℕ, suc, _+_, _-_, _*_, _<_, _≤_}
 use native.Mathlib.Omega.{arith}
 use Rattle.listing.proofs.Putting.{then, text-is, at-most, nothing-put}
 use borrow.Author.Needs.{needs}
@@ -18,14 +20,31 @@ slice-aggregate-put-word-2 c = search needs
 put-word-requires-2 : tie.Need-put-word-requires-2
 put-word-requires-2 c κs = search needs
 
+put-word-requires-3 : tie.Need-put-word-requires-3
+put-word-requires-3 c κs = search needs
+
+slice-aggregate-put-word-3 : tie.Need-slice-aggregate-put-word-3
+slice-aggregate-put-word-3 c = search needs
+
+put-word-requires-4 : tie.Need-put-word-requires-4
+put-word-requires-4 c κs = search needs
+
 same-length : tie.Need-same-length
 same-length c = search needs
 
 returns : tie.Need-returns
-returns c =
-    let w2 = c .before .before in
-    let w1 = w2 .before .before .before .before .before in
-    at-most (omega arith) (then (w1 .put-word .ensures) (w2 .put-word2 .ensures))
+returns c = at-most (omega arith) (then (then (then (c .before .before .before .before .before .before .before .before .before .before .before .before .before .before .before .before .put-word .ensures) (c .before .before .before .before .before .before .before .before .before .before .before .put-word2 .ensures)) (c .before .before .before .before .before .before .before .put-word3 .ensures)) (c .before .before .put-word4 .ensures))
 
 pub put-opening-spec : {M : Type 1} → statement M
-put-opening-spec = tie.close (tie.spec slice-aggregate-put-word put-word-requires slice-aggregate-put-word-2 put-word-requires-2 same-length returns)
+put-opening-spec =
+    tie.close
+    (tie.spec
+    slice-aggregate-put-word
+    put-word-requires
+    slice-aggregate-put-word-2
+    put-word-requires-2
+    put-word-requires-3
+    slice-aggregate-put-word-3
+    put-word-requires-4
+    same-length
+    returns)

@@ -1,5 +1,7 @@
--- `picture::top::put_shapes` meets its contract: its words are put one after another. Assumes nothing.
+-- `picture::top::put_shapes` meets its contract: its parts are put one after another. Assumes nothing.
 use mathlib.Core.Path.{_≡_, refl, sym, ap, _∙_}
+use mathlib.Core.List.{List, [], _∷_, _++_}
+use Prim.Native.Nat.{ℕ, suc, _+_, _-_, _*_, _<_, _≤_}
 use native.Mathlib.Omega.{arith}
 use Rattle.listing.proofs.Putting.{then, text-is, at-most, nothing-put}
 use borrow.Author.Needs.{needs}
@@ -24,15 +26,29 @@ slice-aggregate-put-word-3 c = search needs
 put-word-requires-3 : tie.Need-put-word-requires-3
 put-word-requires-3 c κs = search needs
 
+slice-aggregate-put-word-4 : tie.Need-slice-aggregate-put-word-4
+slice-aggregate-put-word-4 c = search needs
+
+put-word-requires-4 : tie.Need-put-word-requires-4
+put-word-requires-4 c κs = search needs
+
 same-length : tie.Need-same-length
 same-length c = search needs
 
 returns : tie.Need-returns
-returns c =
-    let w3 = c .before .before in
-    let w2 = w3 .before .before .before .before .before in
-    let w1 = w2 .before .before .before .before .before in
-    at-most (omega arith) (then (then (w1 .put-word .ensures) (w2 .put-word2 .ensures)) (w3 .put-word3 .ensures))
+returns c = at-most (omega arith) (then (then (then (c .before .before .before .before .before .before .before .before .before .before .before .before .before .before .before .before .before .put-word .ensures) (c .before .before .before .before .before .before .before .before .before .before .before .before .put-word2 .ensures)) (c .before .before .before .before .before .before .before .put-word3 .ensures)) (c .before .before .put-word4 .ensures))
 
 pub put-shapes-spec : {M : Type 1} → statement M
-put-shapes-spec = tie.close (tie.spec slice-aggregate-put-word put-word-requires slice-aggregate-put-word-2 put-word-requires-2 slice-aggregate-put-word-3 put-word-requires-3 same-length returns)
+put-shapes-spec =
+    tie.close
+    (tie.spec
+    slice-aggregate-put-word
+    put-word-requires
+    slice-aggregate-put-word-2
+    put-word-requires-2
+    slice-aggregate-put-word-3
+    put-word-requires-3
+    slice-aggregate-put-word-4
+    put-word-requires-4
+    same-length
+    returns)

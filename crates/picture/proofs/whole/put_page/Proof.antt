@@ -1,16 +1,20 @@
--- `picture::whole::put_page` meets its contract: the summary's lines are those of the page, and no record is of two of them, so their sections have
--- room. Assumes nothing.
+-- `picture::whole::put_page` meets its contract: the summary's lines are those of the page, and no record is of two of them, so their sections have room. Assumes nothing.
 use mathlib.Core.Path.{_≡_, refl, sym, ap, _∙_}
 use mathlib.Core.Bool.{Bool, true}
 use mathlib.Core.List.{List, _++_, map}
-use Prim.Native.Nat.{ℕ, _+_, _-_, _*_, _≤_}
+use Prim.Native.Nat.{ℕ, zero, suc, _+_, _-_, _*_, _≤_}
 use native.Mathlib.Omega.{arith}
-use borrow.Author.Needs.{needs}
 use lib.ListN.{length, take, replicate, length-take, length-append}
 use Rattle.frame.specs.Pick.{pick}
+use Rattle.sheet.specs.declared.Found.{Found}
+use Rattle.sheet.specs.declared.Found.the-variants.{Blank, Spoiled, Foreign, Record, Refused}
 use Rattle.sheet.specs.Record.{Entry}
 use Rattle.sheet.specs.Slots.{sizeAllowed, slots, listOf}
+use Rattle.sheet.specs.Look.{lookOf}
 use Rattle.sheet.proofs.FewRecords.{few-records}
+use Rattle.cards.specs.declared.counting.Tally.{Tally}
+use Rattle.cards.specs.Tally.{counted, tallyUpTo, tallyOf}
+use Rattle.cards.proofs.FewCounted.{few-counted}
 use Rattle.summary.specs.declared.Line.{Line}
 use Rattle.summary.specs.declared.Summary.{Summary}
 use Rattle.summary.specs.declared.Made.{Made}
@@ -24,11 +28,12 @@ use Rattle.summary.proofs.Pages.{lines-page}
 use Rattle.summary.proofs.Seen.{few-slots}
 use Rattle.listing.specs.Text.{ascii}
 use Rattle.listing.proofs.Putting.{then, text-is, at-most}
-use Rattle.picture.specs.declared.whole.Extent.{Extent}
-use Rattle.picture.specs.Extent.{extentOf, spanOf}
+use Rattle.picture.specs.declared.axis.Axis.{Axis}
+use Rattle.picture.specs.Axis.{axisOf}
 use Rattle.picture.specs.Page.{styleText, topText, sectionsText, linesFor, pageOf}
 use Rattle.picture.specs.inside.Room.{roomOf}
 use Rattle.picture.proofs.Rooms.{room-few}
+use borrow.Author.Needs.{needs}
 use Rattle.picture.proofs.whole.put_page.Statement.{statement}
 use Rattle.picture.proofs.whole.put_page.Tie as tie
 
@@ -74,108 +79,105 @@ module _ (s : List ℕ) (y : Summary) (is : y ≡ page (outside (keptPairs (list
   lines-are : take (y .count) (y .lines) ≡ linesFor l
   lines-are = ap linesOf is ∙ lines-page others (linesFor l)
 
-  room : roomOf l (take (y .count) (y .lines)) ≤ 72000 + 828 * slots s
+  room : roomOf l (take (y .count) (y .lines)) ≤ 138000 + 828 * slots s
   room =
       let kept : length (inOrder (keptPairs l)) ≤ 30 = omega (arith, length-order (keptPairs l) (once-take 30 (pairsOf l) (once-pairs l)), length-take 30 (pairsOf l)) in
       let same : roomOf l (take (y .count) (y .lines)) ≡ roomOf l (linesFor l) = ap (roomOf l) lines-are in
       omega (arith, same, room-few l (inOrder (keptPairs l)) (rises-order (keptPairs l)) kept, few-records s (slots s))
 
+-- a tally counts the slots of its sheet, and none of its counts is above them
+counted-slots : (f : Found) (t : Tally) → counted f t .slots ≡ t .slots
+counted-slots Blank t = refl
+counted-slots Spoiled t = refl
+counted-slots Foreign t = refl
+counted-slots (Record h) t = refl
+counted-slots (Refused n) t = refl
+
+tally-slots : (s : List ℕ) (k : ℕ) → tallyUpTo s k .slots ≡ slots s
+unfolding tallyUpTo
+tally-slots s zero = refl
+tally-slots s (suc k) = counted-slots (lookOf s k .found) (tallyUpTo s k) ∙ tally-slots s k
+
+small : (s : List ℕ) (t : Tally) → sizeAllowed s ≡ true → t ≡ tallyOf s → (t .slots ≤ 65536) × ((t .records ≤ 65536) × ((t .spoiled ≤ 65536) × (t .foreign ≤ 65536)))
+small s t size e =
+    let f = few-counted s (slots s) in
+    let n = few-slots s size in
+    let k = tally-slots s (slots s) in
+    rw e (omega (arith, n, k), (omega (arith, n, f), (omega (arith, n, f), omega (arith, n, f))))
+
 -- the parts of the page are the page
-page-is : (s : List ℕ) (x : Extent) (many left span : ℕ) (ls : List Line) → many ≡ slots s → left ≡ outside (keptPairs (listOf s)) (listOf s) → x ≡ extentOf (listOf s) → span ≡ spanOf (x .first) (x .last) → ls ≡ linesFor (listOf s) → styleText ++ topText many left x ++ sectionsText (listOf s) (x .first) span ls ++ ascii "</main></body></html>\n" ≡ pageOf s
+page-is : (s name note : List ℕ) (t : Tally) (left : ℕ) (a : Axis) (ls : List Line) → t ≡ tallyOf s → left ≡ outside (keptPairs (listOf s)) (listOf s) → a ≡ axisOf (t .first) (t .last) → ls ≡ linesFor (listOf s) → styleText name ++ topText name note t left a ++ sectionsText (listOf s) a ls ++ ascii "</main></body></html>\n" ≡ pageOf s name note
 unfolding pageOf
-page-is s x many left span ls a b e g h =
-    let wide : span ≡ spanOf (extentOf (listOf s) .first) (extentOf (listOf s) .last) = g ∙ ap (λ (z : Extent). spanOf (z .first) (z .last)) e in
-    λ i. styleText ++ topText (a i) (b i) (e i) ++ sectionsText (listOf s) (e i .first) (wide i) (h i) ++ ascii "</main></body></html>\n"
+page-is s name note t left a ls e b g h =
+    let w : a ≡ axisOf (tallyOf s .first) (tallyOf s .last) = g ∙ ap (λ (z : Tally). axisOf (z .first) (z .last)) e in
+    λ i. styleText name ++ topText name note (e i) (b i) (w i) ++ sectionsText (listOf s) (w i) (h i) ++ ascii "</main></body></html>\n"
 
 sisal-summary-of-requires : tie.Need-sisal-summary-of-requires
 sisal-summary-of-requires c κs = search needs
 
-find-extent-requires : tie.Need-find-extent-requires
-find-extent-requires c κs = search needs
+count-requires : tie.Need-count-requires
+count-requires c κs = search needs
+
+axis-of-requires : tie.Need-axis-of-requires
+axis-of-requires c κs = search needs
 
 put-style-requires : tie.Need-put-style-requires
-put-style-requires c κs = search needs
-
-cast-put-top : tie.Need-cast-put-top
-cast-put-top c =
-    let start = c .before .before .before .before .before .before .before .before .before .before .before in
-    omega (arith, start .pre .1 .0, few-slots (start .args .sheet .now) (start .pre .0))
+put-style-requires c κs = omega (arith, c .before .before .before .before .before .before .before .before .before .before .pre .1 .1)
 
 put-top-requires : tie.Need-put-top-requires
-put-top-requires c κs = search needs
-
-span-requires : tie.Need-span-requires
-span-requires c κs = search needs
+put-top-requires c κs =
+    let start = c .before .before .before .before .before .before .before .before .before .before .before .before .before .before in
+    let b = small (start .args .sheet .now) (c .before .before .before .before .before .before .count .result) (start .pre .0) (c .before .before .before .before .before .before .count .ensures) in
+    (b .0, (b .1 .0, (b .1 .1 .0, (b .1 .1 .1, omega (arith, start .pre .1 .1, c .before .before .before .put-style .ensures .ends, c .before .before .before .put-style .ensures .within, c .before .before .before .put-style .kept .0)))))
 
 cast-put-sections : tie.Need-cast-put-sections
 cast-put-sections c = search needs
 
 put-sections-requires : tie.Need-put-sections-requires
 put-sections-requires c κs =
-    let top = c .before .before .before .before .before in
-    let style = top .before .before .before .before in
-    let made = style .before .before .before .before .before in
-    let start = made .before .before .before in
+    let start = c .before .before .before .before .before .before .before .before .before .before .before .before .before .before .before .before .before .before .before in
     let s = start .args .sheet .now in
-    let is = made-is s (made .sisal-summary-of .result) (start .pre .0) (made .sisal-summary-of .ensures) in
-    let y = made .sisal-summary-of .result .summary in (
-      start .pre .0,
-      (
-        start .pre .1 .0,
-        (
-          few s y is,
-          (
-            long s y is,
-            omega (arith, room s y is, start .pre .1 .0, start .pre .1 .1, top .put-top .ensures .ends, top .put-top .ensures .within, top .put-top .kept .0, style .put-style .ensures .ends, style .put-style .ensures .within, style .put-style .kept .0),
-          ),
-        ),
-      ),
-    )
+    let made = c .before .before .before .before .before .before .before .before .before .before .before .before .before .before .sisal-summary-of in
+    let y = made .result .summary in
+    let is = made-is s (made .result) (start .pre .0) (made .ensures) in
+    (start .pre .0, (start .pre .1 .0, (few s y is, (long s y is, omega (arith, room s y is, start .pre .1 .0, start .pre .1 .1, c .before .before .before .before .before .before .before .before .put-style .ensures .ends, c .before .before .before .before .before .before .before .before .put-style .ensures .within, c .before .before .before .before .before .before .before .before .put-style .kept .0, c .before .before .before .before .put-top .ensures .ends, c .before .before .before .before .put-top .ensures .within, c .before .before .before .before .put-top .kept .0)))))
 
 slice-aggregate-put-word : tie.Need-slice-aggregate-put-word
 slice-aggregate-put-word c = search needs
 
 put-word-requires : tie.Need-put-word-requires
 put-word-requires c κs =
-    let sections = c .before .before .before .before in
-    let top = sections .before .before .before .before .before .before in
-    let style = top .before .before .before .before in
-    let made = style .before .before .before .before .before in
-    let start = made .before .before .before in
+    let start = c .before .before .before .before .before .before .before .before .before .before .before .before .before .before .before .before .before .before .before .before .before .before .before .before in
     let s = start .args .sheet .now in
-    let is = made-is s (made .sisal-summary-of .result) (start .pre .0) (made .sisal-summary-of .ensures) in
-    let y = made .sisal-summary-of .result .summary in
-    omega (arith, room s y is, start .pre .1 .0, start .pre .1 .1, sections .put-sections .ensures .ends, sections .put-sections .ensures .within, sections .put-sections .kept .0, top .put-top .ensures .ends, top .put-top .ensures .within, top .put-top .kept .0, style .put-style .ensures .ends, style .put-style .ensures .within, style .put-style .kept .0)
+    let made = c .before .before .before .before .before .before .before .before .before .before .before .before .before .before .before .before .before .before .before .sisal-summary-of in
+    let y = made .result .summary in
+    let is = made-is s (made .result) (start .pre .0) (made .ensures) in
+    omega (arith, room s y is, start .pre .1 .0, start .pre .1 .1, c .before .before .before .before .before .before .before .before .before .before .before .before .before .put-style .ensures .ends, c .before .before .before .before .before .before .before .before .before .before .before .before .before .put-style .ensures .within, c .before .before .before .before .before .before .before .before .before .before .before .before .before .put-style .kept .0, c .before .before .before .before .before .before .before .before .before .put-top .ensures .ends, c .before .before .before .before .before .before .before .before .before .put-top .ensures .within, c .before .before .before .before .before .before .before .before .before .put-top .kept .0, c .before .before .before .before .put-sections .ensures .ends, c .before .before .before .before .put-sections .ensures .within, c .before .before .before .before .put-sections .kept .0)
 
 same-length : tie.Need-same-length
 same-length c = search needs
 
 returns : tie.Need-returns
 returns c =
-    let end = c .before .before in
-    let sections = end .before .before .before .before .before in
-    let wide = sections .before .before in
-    let top = sections .before .before .before .before .before .before in
-    let style = top .before .before .before .before in
-    let extent = style .before .before in
-    let made = style .before .before .before .before .before in
-    let start = made .before .before .before in
+    let start = c .before .before .before .before .before .before .before .before .before .before .before .before .before .before .before .before .before .before .before .before .before .before .before .before .before .before .before in
     let s = start .args .sheet .now in
-    let is = made-is s (made .sisal-summary-of .result) (start .pre .0) (made .sisal-summary-of .ensures) in
-    let y = made .sisal-summary-of .result .summary in
-    let whole = page-is s (extent .find-extent .result) (start .args .many) (y .others) (wide .span .result) (take (y .count) (y .lines)) (start .pre .1 .0) (others-are s y is) (extent .find-extent .ensures) (wide .span .ensures) (lines-are s y is) in
-    at-most (omega (arith, room s y is, start .pre .1 .0)) (text-is whole (then (then (then (style .put-style .ensures) (top .put-top .ensures)) (sections .put-sections .ensures)) (end .put-word .ensures)))
+    let made = c .before .before .before .before .before .before .before .before .before .before .before .before .before .before .before .before .before .before .before .before .before .before .sisal-summary-of in
+    let y = made .result .summary in
+    let is = made-is s (made .result) (start .pre .0) (made .ensures) in
+    let t = c .before .before .before .before .before .before .before .before .before .before .before .before .before .before .before .before .before .before .before .count in
+    let axis = c .before .before .before .before .before .before .before .before .before .before .before .before .before .before .before .before .before .before .axis-of in
+    let whole = page-is s (start .args .name .now) (start .args .note .now) (t .result) (y .others) (axis .result) (take (y .count) (y .lines)) (t .ensures) (others-are s y is) (axis .ensures) (lines-are s y is) in
+    at-most (omega (arith, room s y is, start .pre .1 .0)) (text-is whole (then (then (then (c .before .before .before .before .before .before .before .before .before .before .before .before .before .before .before .before .put-style .ensures) (c .before .before .before .before .before .before .before .before .before .before .before .before .put-top .ensures)) (c .before .before .before .before .before .before .before .put-sections .ensures)) (c .before .before .put-word .ensures)))
 
 pub put-page-spec : {M : Type 1} → statement M
 put-page-spec =
     tie.close
     (tie.spec
     sisal-summary-of-requires
-    find-extent-requires
+    count-requires
+    axis-of-requires
     put-style-requires
-    cast-put-top
     put-top-requires
-    span-requires
     cast-put-sections
     put-sections-requires
     slice-aggregate-put-word

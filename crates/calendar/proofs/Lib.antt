@@ -1,0 +1,2 @@
+-- Laws of days counted on.
+pub mod Counted
