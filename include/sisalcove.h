@@ -5,7 +5,7 @@
  *
  * Link target/libsisalcove.a, which `./build-library` makes. This header wants C11 or C++11, and x86-64 with the System V calling
  * convention, which is all that the archive is compiled for. The archive keeps no state, allocates nothing, never fails otherwise than
- * by the numbers below, and needs of the C library only what docs/HOST.md names. That it belongs to this header a host sees by
+ * by the numbers below, and needs of the C library only what docs/INTEGRATION.md names. That it belongs to this header a host sees by
  * sisal_version() == SISAL_VERSION.
  *
  * Every call takes every value of its arguments. A refusal is a number, 0 for none: it is the answer itself where a call answers
