@@ -13,10 +13,10 @@
  * call; there it also stands what else is in the answer then, and what becomes of what was lent. A compiler that can warns where an
  * answer is dropped.
  *
- * Lent bytes and rows are a pointer and a length: the bytes of a buffer, but the ROWS of a board, never its bytes (SISAL_ROWS_OF). Where
- * the length is 0 the pointer may be null, as for a reply that did not come: the archive then looks at nothing behind it, which
- * examples/misuse.c tries of every call. Anywhere else it points to that many bytes or rows, which nobody else writes while the call
- * runs. Buffers lent to one call for writing overlap nothing else that is lent to it.
+ * What is lent is a pointer and a length: the bytes of a buffer, but the ROWS of a board, never its bytes (SISAL_ROWS_OF), and the
+ * transmitters of a site. Where the length is 0 the pointer may be null, as for a reply that did not come: the archive then looks at
+ * nothing behind it, which examples/nothing.c tries of every call. Anywhere else it points to that many, which nobody else writes while
+ * the call runs. Buffers lent to one call for writing overlap nothing else that is lent to it.
  *
  * Some answers have padding (struct sisal_poll, sisal_reply and sisal_item one byte, sisal_slot two, sisal_made and sisal_settled three,
  * sisal_lines_told and sisal_drew six, sisal_done, sisal_kept, sisal_rounded, sisal_rounded_page and sisal_begun seven). It holds anything:
@@ -91,9 +91,9 @@ enum sisal_number {
     SISAL_FAULT_UNKNOWN = 17,       /* the address is not on the board */
     SISAL_FAULT_TWICE = 18,         /* the address is already on the board */
     SISAL_FAULT_NO_ROW = 19,        /* the board has no free row */
-    SISAL_FAULT_TIMING = 20,        /* timing numbers: least above most, or one out of its range */
-    SISAL_FAULT_SPOILED = 21,       /* a spoiled message on the lines; it comes with the samples taken */
-    SISAL_FAULT_FOREIGN_SAMPLE = 22, /* a spoiled message in which a sample above 3 came; likewise */
+    SISAL_FAULT_TIMING = 20,        /* timing numbers: least above most, or one out of its range; of a round: any number of its pace */
+    SISAL_FAULT_SPOILED = 21,       /* a spoiled message on the lines, or an answer given up in a round; it comes with the samples taken */
+    SISAL_FAULT_FOREIGN_SAMPLE = 22, /* the same, in which a sample above 3 came */
     SISAL_FAULT_ROUND = 23,         /* a round of more than 30 replies */
     SISAL_FAULT_COUNT = 24,         /* a count of a summary is above 1,000,000 */
     SISAL_FAULT_PAIRS = 25,         /* a join has more than 30 pairs, or a side has records of pairs that it does not keep */
@@ -719,7 +719,10 @@ struct sisal_drew {
     uint8_t number;
 };
 
-/* What was heard of a round. `reply`, `answered` and `number` are 0 unless this call settled a try. */
+/*
+ * What was heard of a round. `reply`, `answered` and `number` are 0 unless this call settled a try. It did where it took a sample and
+ * polling.listening is 0; the three alone do not say so, since silence of the first reply that is asked again has 0 in all of them.
+ */
 struct sisal_settled {
     struct sisal_polling polling; /* for the next call */
     size_t taken;                 /* samples taken */
