@@ -147,7 +147,7 @@ static void noon(void)
     hear(7, 607, 56, "\x80\x0e\x70\x00\x05\x62\x47", 7);
 }
 
-/* The others answer; one is removed, and its row is taken by another. */
+/* The others answer; one is removed, and another is enrolled where there was no room. */
 static void evening(void)
 {
     hear(12, 700, 40, "\x80\x25\x00\x00\x03", 5);

@@ -5,7 +5,7 @@
  * spoiled by a spike and asked for again, one line stays low, and the power goes twice: in the middle of a save, and in the middle of a
  * round. At the end it prints the listing of the card and how the transmitters stand on the board.
  *
- * It is the promise "from the wire to the listing" run once: beside the card it keeps what the listing is to say, from what the
+ * It is the promise "from the tank to the desk" run once: beside the card it keeps what the listing is to say, from what the
  * transmitters said and where the power went alone, and compares the two at the end.
  * examples/desk.c is a day of the board's own calls, examples/round.c has more of rounds that are cut.
  *
@@ -216,7 +216,7 @@ static int morning(void)
         return 0;
     }
     for (const struct sisal_polled *r = round.replies; r < round.replies + round.count; r++) {
-        /* 1 to 9 is a faulty reply, which the row keeps; anything above is a refusal */
+        /* 1 to 9 is a faulty reply, which the row keeps; no row has a profile, so anything above is a refusal */
         struct sisal_heard heard = sisal_board_hear(SISAL_ROWS_OF(board), r->minute, r->address, r->count, r->reply, r->bytes);
         want(heard.number <= SISAL_FAULT_TEMPERATURE, "not heard");
     }
