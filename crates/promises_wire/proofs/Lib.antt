@@ -16,3 +16,6 @@ pub mod Tries
 pub mod Running
 -- The promise.
 pub mod TankToDesk
+-- A reading sent in time.
+pub mod Timely
+pub mod InTime

@@ -46,7 +46,7 @@ use Rattle.promises_frame.proofs.BitsAreBits.{bits-are-bits}
 use Rattle.promises_lines.proofs.Legal.{rest, is-legal}
 use Rattle.promises_lines.proofs.Ends.{meant-itself}
 use Rattle.promises_lines.proofs.Grouped.{grouped}
-use Rattle.promises_wire.specs.Polls.{Asked, Sensed, bitsSensed, Poll, entryFor}
+use Rattle.promises_wire.specs.Polls.{Asked, Sensed, bitsSensed, Poll, entryFor, pollEntry}
 use Rattle.promises_wire.specs.Heard.{Heard}
 use Rattle.promises_wire.specs.Month.{Replies, none-polled, one-polled, round-saved, round-kept}
 use Rattle.promises_wire.specs.Running.{Stood, sinceAfter, stoodBy, Running, just-begun, heard, Enrolled, PollOf, InStep, none-in-step, one-in-step, RanSo, Ended, RunByTheRecorder}
@@ -102,7 +102,7 @@ bytes-eight (message count bits) = length-firstBytes 8 bits (omega arith)
 bytes-eight (spoiled number) = length-firstBytes 8 0 (omega arith)
 
 -- What a round holds: the answered replies, those of the rows that are left, and what stands behind them.
-record Holds (p : Pace) (m : ℕ) (used : List Row) (xs : List Stood) (r : Round) (at : ℕ) : Type 0 where
+pub record Holds (p : Pace) (m : ℕ) (used : List Row) (xs : List Stood) (r : Round) (at : ℕ) : Type 0 where
   done : List Row
   left : List Row
   all : used ≡ done ++ left
@@ -117,14 +117,24 @@ record Holds (p : Pace) (m : ℕ) (used : List Row) (xs : List Stood) (r : Round
   in-step : InStep p done xs polls
   replies : Replies polls (map entryIn answered)
 
+-- The poll of a reply that comes to stand, and its place.
+pub record ByPoll (p : Pace) (w : Polling) (x : Stood) (entry : Polled) : Type 0 where
+  pub row : Row
+  pub settings : turnOf w .settings ≡ row .settings
+  pub address : turnOf w .address ≡ row .address
+  pub poll : Poll
+  pub its : PollOf p row x poll
+  pub entry-is : entryIn entry ≡ pollEntry poll
+  pub placed : w .at < length (w .round .replies)
+
 -- What has been listened to.
-data Ear (p : Pace) (since : List ℕ) (w : Polling) : Type 0 where
+pub data Ear (p : Pace) (since : List ℕ) (w : Polling) : Type 0 where
   drawing-now : w .listening ≡ 0 → since ≡ [] → Ear p since w
   listening-now : (w .listening ≡ 0 → ⊥) → listen p atRest 0 since ≡ goesOn (w .lines) (w .passed) → legal (w .lines) ≡ true → Ear p since w
 
-record Good (p : Pace) (m : ℕ) (used : List Row) (xs : List Stood) (since : List ℕ) (w : Polling) : Type 0 where
-  round : Holds p m used xs (w .round) (w .at)
-  ear : Ear p since w
+pub record Good (p : Pace) (m : ℕ) (used : List Row) (xs : List Stood) (since : List ℕ) (w : Polling) : Type 0 where
+  pub round : Holds p m used xs (w .round) (w .at)
+  pub ear : Ear p since w
 
 legal-rest : legal atRest ≡ true
 legal-rest = is-legal rest
@@ -183,18 +193,18 @@ or-left : (a b : Bool) → (a || b) ≡ false → a ≡ false
 or-left true b e = e
 or-left false b e = refl
 
-or-right : (a b : Bool) → (a || b) ≡ false → b ≡ false
+pub or-right : (a b : Bool) → (a || b) ≡ false → b ≡ false
 or-right true b e = absurd (let z : _≡_ {A = ℕ} 0 1 = cc in omega arith)
 or-right false b e = e
 
-take-past : (xs ys : List ℕ) (n k : ℕ) → n ≡ length xs → take (n + k) (xs ++ ys) ≡ xs ++ take k ys
+pub take-past : (xs ys : List ℕ) (n k : ℕ) → n ≡ length xs → take (n + k) (xs ++ ys) ≡ xs ++ take k ys
 take-past [] ys n k e = let none : n + k ≡ k = omega (arith, e) in ap (λ (j : ℕ). take j ys) none
 take-past (x ∷ xs) ys zero k e = absurd (omega (arith, e))
 take-past (x ∷ xs) ys (suc n) k e =
     let more : suc n + k ≡ suc (n + k) = omega arith in
     ap (λ (j : ℕ). take j (x ∷ (xs ++ ys))) more ∙ ap (λ (l : List ℕ). x ∷ l) (take-past xs ys n k (omega (arith, e)))
 
-long-so : (p : Pace) (since : List ℕ) (s : SoFar) (passed : ℕ) → listen p atRest 0 since ≡ goesOn s passed → passed ≡ length since
+pub long-so : (p : Pace) (since : List ℕ) (s : SoFar) (passed : ℕ) → listen p atRest 0 since ≡ goesOn s passed → passed ≡ length since
 long-so p since s passed e = go (listen p atRest 0 since) e (beside p atRest 0 since)
   where
     taken-in : Listened → ℕ
@@ -231,7 +241,7 @@ module _ (p : Pace) (fine : badTiming (timingOf p) ≡ false) (m : ℕ) (used : 
           go false e ear = sym (append-nil since)
 
   module _ (on : (w .listening ≡ 0 → ⊥)) (so-far : listen p atRest 0 since ≡ goesOn (w .lines) (w .passed)) (ok : legal (w .lines) ≡ true) where
-    all-so : listen p atRest 0 (since ++ samples) ≡ later (w .passed) (listen p (w .lines) (w .passed) samples)
+    pub all-so : listen p atRest 0 (since ++ samples) ≡ later (w .passed) (listen p (w .lines) (w .passed) samples)
     all-so =
         listen-then p atRest 0 since samples (w .lines) (w .passed) so-far
         ∙ ap (λ (k : ℕ). later (w .passed) (listen p (w .lines) k samples)) (zero-add (w .passed))
@@ -314,6 +324,19 @@ module _ (p : Pace) (fine : badTiming (timingOf p) ≡ false) (m : ℕ) (used : 
       unfolding poll-for
       poll-of = record { timing = refl; settings = refl; address = refl; minute = refl; samples = refl }
 
+      by-its-poll : ByPoll p w x entry
+      unfolding poll-for
+      by-its-poll =
+          record {
+            row = row;
+            settings = ap (λ (r : Polled). r .settings) turn-is;
+            address = ap (λ (r : Polled). r .address) turn-is;
+            poll = poll;
+            its = poll-of;
+            entry-is = entry-is;
+            placed = let long = ap (length {A = Polled}) replies-are ∙ length-append (h .answered) (replyFor m row ∷ (map (replyFor m) others ++ h .tail)) in omega (arith, long, h .here);
+          }
+
       stands-so : Holds p m used (xs ++ x ∷ []) (roundWith (w .round) (w .at) entry) (w .at + 1)
       unfolding poll-for
       stands-so =
@@ -338,20 +361,28 @@ module _ (p : Pace) (fine : badTiming (timingOf p) ≡ false) (m : ℕ) (used : 
                 (replies-more poll c bytes was-heard (h .replies));
           }
 
+    some-left : leb (w .round .count) (w .at) ≡ false → g .round .left ≡ [] → ⊥
+    some-left more is =
+        let all : length used ≡ length (g .round .done) = ap length (g .round .all ∙ ap (λ (l : List Row). g .round .done ++ l) is ∙ append-nil (g .round .done)) in
+        omega (arith, all, g .round .count, g .round .here, g .round .as-many, leb-false (w .round .count) (w .at) more)
+
     -- a reply stands where a row is left
     answers-so : (told : Told) (k : ℕ) → listen p (w .lines) (w .passed) samples ≡ settledBy told k → leb (w .round .count) (w .at) ≡ false
         → Holds p m used (xs ++ record { minute = minute; samples = since ++ take k samples } ∷ []) (roundWith (w .round) (w .at) (replied minute told (turnOf w))) (w .at + 1)
     answers-so told k e more = go (g .round .left) refl
       where
-        h : Holds p m used xs (w .round) (w .at)
-        h = g .round
-
         go : (l : List Row) → g .round .left ≡ l
             → Holds p m used (xs ++ record { minute = minute; samples = since ++ take k samples } ∷ []) (roundWith (w .round) (w .at) (replied minute told (turnOf w))) (w .at + 1)
-        go [] is =
-            let all : length used ≡ length (g .round .done) = ap length (g .round .all ∙ ap (λ (l : List Row). g .round .done ++ l) is ∙ append-nil (g .round .done)) in
-            absurd (omega (arith, all, g .round .count, g .round .here, g .round .as-many, leb-false (w .round .count) (w .at) more))
+        go [] is = absurd (some-left more is)
         go (row ∷ others) is = stands-so told k e row others (g .round) is
+
+    pub by-poll : (told : Told) (k : ℕ) → listen p (w .lines) (w .passed) samples ≡ settledBy told k → leb (w .round .count) (w .at) ≡ false
+        → ByPoll p w (record { minute = minute; samples = since ++ take k samples }) (replied minute told (turnOf w))
+    by-poll told k e more = go (g .round .left) refl
+      where
+        go : (l : List Row) → g .round .left ≡ l → ByPoll p w (record { minute = minute; samples = since ++ take k samples }) (replied minute told (turnOf w))
+        go [] is = absurd (some-left more is)
+        go (row ∷ others) is = by-its-poll told k e row others (g .round) is
 
     settles : leb (w .round .count) (w .at) ≡ false → (l : Listened) → listen p (w .lines) (w .passed) samples ≡ l → Beside (timingOf p) (w .lines) samples l
         → GoodAfter (settledAt p minute w l)
@@ -384,7 +415,7 @@ unfolding paceFault firstOf
 no-fault p e = rw e
 
 module _ (p : Pace) (fine : badPace p ≡ false) (timed : badTiming (timingOf p) ≡ false) (m : ℕ) (used : List Row) (from : Polling) (start : Good p m used [] [] from) where
-  good-run : {xs : List Stood} {since : List ℕ} {w : Polling} → Running p from xs since w → Good p m used xs since w
+  pub good-run : {xs : List Stood} {since : List ℕ} {w : Polling} → Running p from xs since w → Good p m used xs since w
   good-run just-begun = start
   good-run (running.drew {xs = xs} {since = since} {w = w} out after answer r call) =
       let is : answer .polling ≡ afterDrawn p w (length (drawnBy p w (length out)))
@@ -398,7 +429,7 @@ module _ (p : Pace) (fine : badPace p ≡ false) (timed : badTiming (timingOf p)
       (good-heard p timed m used xs since (meant p w) minute fits samples (good-meant p m used xs since w (good-run r)))
 
 -- A round just begun.
-beginning-is : (minute : ℕ) (board : List Row) → beginning minute board ≡ begunWith (map (replyFor minute) (usedRows board))
+pub beginning-is : (minute : ℕ) (board : List Row) → beginning minute board ≡ begunWith (map (replyFor minute) (usedRows board))
 unfolding beginning
 beginning-is minute board = refl
 
@@ -411,14 +442,14 @@ used-few (row ∷ l) = go (isFree row) (used-few l)
     go true h = omega arith
     go false h = omega arith
 
-begun-by : (rows : List Row) (minute : ℕ) (b : Begun) → BeginsPolling rows minute b → b .number ≡ 0 → b .polling ≡ beginning minute (boardOf rows)
+pub begun-by : (rows : List Row) (minute : ℕ) (b : Begun) → BeginsPolling rows minute b → b .number ≡ 0 → b .polling ≡ beginning minute (boardOf rows)
 begun-by rows minute b call zero-said = go (kept (boardOf rows)) (call .answers)
   where
     go : (c : Bool) → b ≡ pick c (begun (beginning minute (boardOf rows)) 0) (begun nothingBegun 38) → b .polling ≡ beginning minute (boardOf rows)
     go true e = ap (λ (x : Begun). x .polling) e
     go false e = absurd (omega (arith, zero-said, ap (λ (x : Begun). x .number) e))
 
-good-begun : (p : Pace) (minute : ℕ) (used : List Row) → Enrolled used → Good p minute used [] [] (begunWith (map (replyFor minute) used))
+pub good-begun : (p : Pace) (minute : ℕ) (used : List Row) → Enrolled used → Good p minute used [] [] (begunWith (map (replyFor minute) used))
 good-begun p minute used ok =
     record {
       round = record {
@@ -442,7 +473,7 @@ good-begun p minute used ok =
 third : (a b c d e f : Bool) → (a || b || c || d || e || f) ≡ false → c ≡ false
 third a b c d e f h = or-right (a || b) c (or-left (a || b || c) d (or-left (a || b || c || d) e (or-left (a || b || c || d || e) f h)))
 
-timing-of : (p : Pace) → badPace p ≡ false → badTiming (timingOf p) ≡ false
+pub timing-of : (p : Pace) → badPace p ≡ false → badTiming (timingOf p) ≡ false
 timing-of p e =
     third (badPulse (p .low) (p .still)) (ltb 1000000 (p .delay)) (badTiming (timingOf p)) (not (within 1 1000000 (p .wait)))
     (not (within (p .wait) 10000000 (p .longest)))

@@ -92,7 +92,7 @@ module _ (x : Sent) where
   abbrev a : LinesTold
   a = answerTo t (samplesOf d)
 
-  few-pulses : length (d .first ∷ d .rest) ≤ 64
+  pub few-pulses : length (d .first ∷ d .rest) ≤ 64
   few-pulses =
       let n : length (map (λ (p : Pulse). mark (p .isMark)) (d .first ∷ d .rest)) ≡ countFor (x .reading)
       = ap length (x .draws .shows) ∙ bits-long (countFor (x .reading)) (x .bytes) in

@@ -14,3 +14,5 @@ pub mod Board
 pub mod Running
 -- The promise.
 pub mod TankToDesk
+-- The same of a reading that is sent in time to a recorder that runs its round.
+pub mod InTime
