@@ -19,3 +19,6 @@ pub mod TankToDesk
 -- A reading sent in time.
 pub mod Timely
 pub mod InTime
+-- A round run to its end.
+pub mod Ending
+pub mod ToTheEnd
