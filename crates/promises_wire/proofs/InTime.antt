@@ -132,47 +132,66 @@ module _ (p : Pace) (rows : List Row) (xs : List Stood) (since : List ℕ) (w : 
           absurd (omega (arith, last, size, passed, few, some))
 
     -- all of it
-    module _ (x : Sent) (timely : InTime p x) (by : SentBy (turnOf w .settings) (turnOf w .address) x) (more : List ℕ)
-        (is : since ++ samples ≡ samplesOf (x .drawing) ++ more) (fits : minute < 2 ^ 32) where
-      abbrev r : SettledAs p x more
-      r = listens-to p (way .paced) x timely more
+    module _ (x : Sent) (timely : InTime p x) (more : List ℕ) (is : since ++ samples ≡ samplesOf (x .drawing) ++ more) where
+      abbrev told : Told
+      told = let r = listens-to p (way .paced) x timely more in message (r .count) (r .bits)
 
-      all : later (w .passed) (listen p (w .lines) (w .passed) samples) ≡ settledBy (message (r .count) (r .bits)) (length (samplesOf (x .drawing)))
-      all = sym whole ∙ ap (listen p atRest 0) is ∙ r .is
+      abbrev answer : ℕ → Settled
+      answer k = settledOf (answeredWith minute told here) k (w .at) 1 (mark (isOver (answeredWith minute told here))) 0
 
-      stands-by : (k : ℕ) → listen p (w .lines) (w .passed) samples ≡ settledBy (message (r .count) (r .bits)) k → w .passed + k ≡ length (samplesOf (x .drawing))
-          → StandsSo w since samples x minute a
+      record HeardAll : Type 0 where
+        k : ℕ
+        settles : listen p (w .lines) (w .passed) samples ≡ settledBy told k
+        answers : a ≡ answer k
+        taken : since ++ take k samples ≡ samplesOf (x .drawing)
+
+      heard-all : HeardAll
       unfolding settledAt
-      stands-by k e sum =
-          let told : Told = message (r .count) (r .bits) in
-          let answer : a ≡ settledOf (answeredWith minute told here) k (w .at) 1 (mark (isOver (answeredWith minute told here))) 0 = hears ∙ ap (settledAt p minute here) e in
-          let taken : since ++ take k samples ≡ samplesOf (x .drawing)
-          = sym (take-past since samples (w .passed) k (long-so p since (w .lines) (w .passed) (ear .0))) ∙ (λ i. take (sum i) (is i)) ∙ take-append-seam (samplesOf (x .drawing)) more in
-          let y : Stood = record { minute = minute; samples = since ++ take k samples } in
-          let b : ByPoll p w y (replied minute told (turnOf w))
-          = by-poll p (timing-of p (way .paced)) m used xs since w minute fits samples so (on .1) (ear .0) (ear .1) told k e
+      heard-all = go (listen p (w .lines) (w .passed) samples) refl
+        where
+          all : later (w .passed) (listen p (w .lines) (w .passed) samples) ≡ settledBy told (length (samplesOf (x .drawing)))
+          all = sym whole ∙ ap (listen p atRest 0) is ∙ listens-to p (way .paced) x timely more .is
+
+          go : (l : Listened) → listen p (w .lines) (w .passed) samples ≡ l → HeardAll
+          go (goesOn left k) e = absurd (omega (arith, ap isSettled (sym (ap (later (w .passed)) e) ∙ all)))
+          go (settledBy u k) e =
+              let both : settledBy u (w .passed + k) ≡ settledBy told (length (samplesOf (x .drawing))) = sym (ap (later (w .passed)) e) ∙ all in
+              let by : listen p (w .lines) (w .passed) samples ≡ settledBy told k = e ∙ ap (λ (v : Told). settledBy v k) (ap toldBy both) in
+              let sum : w .passed + k ≡ length (samplesOf (x .drawing)) = ap takenBy both in
+              record {
+                k = k;
+                settles = by;
+                answers = hears ∙ ap (settledAt p minute here) by;
+                taken = sym (take-past since samples (w .passed) k (long-so p since (w .lines) (w .passed) (ear .0))) ∙ (λ i. take (sum i) (is i))
+                    ∙ take-append-seam (samplesOf (x .drawing)) more;
+              }
+
+      pub settled-so : (a .answered ≡ 1) × (since ++ take (a .taken) samples ≡ samplesOf (x .drawing))
+      settled-so =
+          let h = heard-all in
+          (ap (λ (c : Settled). c .answered) (h .answers), ap (λ (c : Settled). since ++ take (c .taken) samples) (h .answers) ∙ h .taken)
+
+      stands-so : SentBy (turnOf w .settings) (turnOf w .address) x → minute < 2 ^ 32 → StandsSo w since samples x minute a
+      stands-so by fits =
+          let h = heard-all in
+          let entry : Polled = replied minute told (turnOf w) in
+          let b : ByPoll p w (record { minute = minute; samples = since ++ take (h .k) samples }) entry
+          = by-poll p (timing-of p (way .paced)) m used xs since w minute fits samples so (on .1) (ear .0) (ear .1) told (h .k) (h .settles)
           (or-right (ltb mostReplies (w .round .count)) (leb (w .round .count) (w .at)) (on .0)) in
-          let q = b .poll in
-          let says : SaysSo x q
-          = said-so x q
+          let says : SaysSo x (b .poll)
+          = said-so x (b .poll)
           (record { timing = b .its .timing ∙ sym (timely .timing); settings = b .its .settings ∙ sym (b .settings) ∙ sym (by .0); address = b .its .address ∙ sym (b .address) ∙ sym (by .1) })
-          (b .its .samples ∙ taken) in
+          (b .its .samples ∙ h .taken) in
           record {
-            answered = ap (λ (c : Settled). c .answered) answer;
-            number = ap (λ (c : Settled). c .number) answer;
-            reply = ap (λ (c : Settled). c .reply) answer;
-            taken = ap (λ (c : Settled). since ++ take (c .taken) samples) answer ∙ taken;
-            entry = ap (λ (c : Settled). entryIn (getD (c .polling .round .replies) (w .at) noEntry)) answer
-                ∙ ap entryIn (getD-set-same (w .round .replies) (w .at) (replied minute told (turnOf w)) noEntry (b .placed))
+            answered = settled-so .0;
+            number = ap (λ (c : Settled). c .number) (h .answers);
+            reply = ap (λ (c : Settled). c .reply) (h .answers);
+            taken = settled-so .1;
+            entry = ap (λ (c : Settled). entryIn (getD (c .polling .round .replies) (w .at) noEntry)) (h .answers)
+                ∙ ap entryIn (getD-set-same (w .round .replies) (w .at) entry noEntry (b .placed))
                 ∙ b .entry-is ∙ says .entry
                 ∙ (λ i. entryOf ((b .its .settings ∙ sym (b .settings)) i) (b .its .minute i) ((b .its .address ∙ sym (b .address)) i) (countFor (x .reading)) (x .bytes));
           }
-
-      stands-now : (l : Listened) → listen p (w .lines) (w .passed) samples ≡ l → StandsSo w since samples x minute a
-      stands-now (goesOn left k) e = absurd (omega (arith, ap isSettled (sym (ap (later (w .passed)) e) ∙ all)))
-      stands-now (settledBy told k) e =
-          let both : settledBy told (w .passed + k) ≡ settledBy (message (r .count) (r .bits)) (length (samplesOf (x .drawing))) = sym (ap (later (w .passed)) e) ∙ all in
-          stands-by k (e ∙ ap (λ (u : Told). settledBy u k) (ap toldBy both)) (ap takenBy both)
 
 pub says-in-time : (p : Pace) (row : Row) (s : Stood) (q : Poll) → PollOf p row s q → (x : Sent) → InTime p x → SentBy (row .settings) (row .address) x
     → s .samples ≡ samplesOf (x .drawing) → SaysSo x q
@@ -185,6 +204,6 @@ said-in-time =
       goes-on = λ p rows xs since w way on x timely samples more is some minute a call.
           goes p rows xs since w way on minute samples a call x timely more is some (listen p (w .lines) (w .passed) samples) refl (beside p (w .lines) (w .passed) samples);
       stands = λ p rows xs since w way on x timely by samples more is minute a fits call.
-          stands-now p rows xs since w way on minute samples a call x timely by more is fits (listen p (w .lines) (w .passed) samples) refl;
+          stands-so p rows xs since w way on minute samples a call x timely more is by fits;
       says = says-in-time;
     }

@@ -19,6 +19,8 @@ pub mod TankToDesk
 -- A reading sent in time.
 pub mod Timely
 pub mod InTime
--- A round run to its end.
+-- A round run to its end, in any batches.
 pub mod Ending
 pub mod ToTheEnd
+pub mod Turns
+pub mod AnyBatches

@@ -110,7 +110,7 @@ same-minutes p (one-sent row x timely by more) (one-stands y tried told taken fe
     let rest = same-minutes p more from others in λ i. minute i ∷ rest i
 
 -- Rows to which a reply can be sent are as an enrolment takes them.
-sent-enrolled : (p : Pace) {rows : List Row} {xs : List Sent} → SentToAll p rows xs → Enrolled rows
+pub sent-enrolled : (p : Pace) {rows : List Row} {xs : List Sent} → SentToAll p rows xs → Enrolled rows
 sent-enrolled p none-sent = omega arith
 sent-enrolled p (one-sent row x timely by more) =
     (subst (λ (n : ℕ). n ≤ 15) (by .0) (x .asked .settings-in), subst (λ (n : ℕ). n ≤ 999) (by .1) (x .asked .address-in), sent-enrolled p more)

@@ -16,5 +16,6 @@ pub mod Running
 pub mod TankToDesk
 -- The same of a reading that is sent in time to a recorder that runs its round.
 pub mod InTime
--- And that a round is run to its end.
+-- And that a round is run to its end, in any batches.
 pub mod ToTheEnd
+pub mod AnyBatches

@@ -1,0 +1,58 @@
+-- In any batches: a host that goes on, however it batches what is drawn and what is sensed, comes to the end of the round after so many turns at the latest; and where each
+-- transmitter sends a reading in time after its poll, the polls say just these readings.
+use mathlib.Core.Path.{_≡_}
+use mathlib.Core.Bool.{true, false}
+use mathlib.Core.List.{List, [], _∷_, _++_}
+use Prim.Native.Nat.{ℕ, suc, _-_, _*_, _+_, _^_, _<_, _≤_}
+use lib.ListN.{length}
+use Rattle.board.specs.declared.Row.{Row}
+use Rattle.board.specs.Rows.{boardOf}
+use Rattle.polling.specs.declared.Begun.{Begun}
+use Rattle.polling.specs.declared.Drew.{Drew}
+use Rattle.polling.specs.declared.Pace.{Pace}
+use Rattle.polling.specs.declared.Polling.{Polling}
+use Rattle.polling.specs.declared.Settled.{Settled}
+use Rattle.polling.specs.Pace.{badPace}
+use Rattle.polling.specs.Beginning.{usedRows}
+use Rattle.polling.specs.Meant.{isOver}
+use Rattle.polling.specs.Calls.{BeginsPolling, DrawsPolling, HearsPolling}
+use Rattle.promises_polling.specs.Ends.{tryDraws}
+use Rattle.promises_wire.specs.Wire.{samplesOf, Sent}
+use Rattle.promises_wire.specs.Running.{Stood, sinceAfter, stoodBy, RanSo}
+use Rattle.promises_wire.specs.InTime.{Listens}
+use Rattle.promises_wire.specs.ToTheEnd.{SentToAll, AllSay}
+
+-- Turns of a host that goes on: in each it lends room for a sample or more, to draw, and then a sample or more, to hear. What stands, and what has been sensed since the last
+-- poll, is told as in `Running`.
+pub data Turns (p : Pace) (from : Polling) : ℕ → List Stood → List ℕ → Polling → Type 0 where
+  no-turn : Turns p from 0 [] [] from
+  one-turn : {n : ℕ} {ys : List Stood} {since : List ℕ} {w : Polling} (out after : List ℕ) (d : Drew) (minute : ℕ) (samples : List ℕ) (a : Settled)
+      → Turns p from n ys since w → 1 ≤ length out → DrawsPolling w p out d after
+      → 1 ≤ length samples → minute < 2 ^ 32 → HearsPolling (d .polling) p minute samples a
+      → Turns p from (suc n) (ys ++ stoodBy a minute samples since) (sinceAfter a samples since) (a .polling)
+
+-- What is lent while a reading is sent: with what has been sensed since the poll, a part of it; or all of it, and whatever comes behind.
+pub data Sends (x : Sent) (since samples : List ℕ) : Type 0 where
+  part : (rest : List ℕ) → since ++ samples ++ rest ≡ samplesOf (x .drawing) → 1 ≤ length rest → Sends x since samples
+  whole : (more : List ℕ) → since ++ samples ≡ samplesOf (x .drawing) ++ more → Sends x since samples
+
+-- The one after so many others.
+pub data After : List Sent → ℕ → Sent → Type 0 where
+  at-once : {x : Sent} {xs : List Sent} → After (x ∷ xs) 0 x
+  one-later : {x y : Sent} {xs : List Sent} {i : ℕ} → After xs i x → After (y ∷ xs) (suc i) x
+
+-- In each turn in which the recorder listens, the transmitter after those whose replies stand sends its reading.
+abbrev pub Answering : {p : Pace} {from : Polling} {n : ℕ} {ys : List Stood} {since : List ℕ} {w : Polling} → List Sent → Turns p from n ys since w → Type 0
+Answering xs no-turn = 0 ≤ 0
+Answering xs (one-turn {ys = ys} {since = since} out after d minute samples a t room draw some fits hear) =
+    Answering xs t × (Listens (d .polling) → (x : Sent) × After xs (length ys) x × Sends x since samples)
+
+pub record InAnyBatches : Type 0 where
+  -- Whatever is sensed: of each transmitter, `tries` tries, and of each of these no more turns than it draws and takes samples.
+  pub ends : (p : Pace) → badPace p ≡ false → (from : Polling) (n : ℕ) (ys : List Stood) (since : List ℕ) (w : Polling) → Turns p from n ys since w
+      → (from .round .count - from .at) * (p .tries * (tryDraws p + p .longest)) < n → isOver w ≡ true
+  -- And when it is over, the polls say what was sent.
+  pub say : (p : Pace) → badPace p ≡ false → (rows : List Row) (minute : ℕ) (b : Begun) → BeginsPolling rows minute b → b .number ≡ 0
+      → (xs : List Sent) → SentToAll p (usedRows (boardOf rows)) xs
+      → (n : ℕ) (ys : List Stood) (since : List ℕ) (w : Polling) (t : Turns p (b .polling) n ys since w) → Answering xs t → isOver w ≡ true
+      → (ran : RanSo p rows ys w) → AllSay xs (ran .polls)
