@@ -15,20 +15,19 @@ use Rattle.lines.specs.SoFar.{atRest}
 use Rattle.lines.specs.Step.{closes}
 use Rattle.lines.specs.Hearing.{Told, numberTold}
 use Rattle.lines.proofs.Cases.{none-of}
-use Rattle.polling.specs.declared.Drew.{Drew}
 use Rattle.polling.specs.declared.Pace.{Pace}
 use Rattle.polling.specs.declared.Polling.{Polling}
 use Rattle.polling.specs.declared.Settled.{Settled}
 use Rattle.polling.specs.Pace.{timingOf, badPace}
-use Rattle.polling.specs.Meant.{isOver, draws, listens, meant}
+use Rattle.polling.specs.Meant.{isOver, draws, listens}
 use Rattle.polling.specs.Drawing.{drawnBy}
 use Rattle.polling.specs.Listening.{Listened, goesOn, settledBy, listen}
 use Rattle.polling.specs.Settling.{isMessage, isLast, isAnswered, askedAgain, answeredWith, settledOf, settledAt}
-use Rattle.polling.specs.Calls.{DrawsPolling, heardBy, HearsPolling}
+use Rattle.polling.specs.Calls.{heardBy, HearsPolling}
 use Rattle.promises_lines.proofs.Legal.{rest}
 use Rattle.promises_polling.proofs.Paces.{fine-pace}
 use Rattle.promises_polling.proofs.Meaning.{tryOf, meant-drawn, meant-listens}
-use Rattle.promises_polling.proofs.Path.{silentNow, ending}
+use Rattle.promises_polling.proofs.Path.{silentNow}
 use Rattle.promises_polling.proofs.Drawn.{busy-draws, leaves}
 use Rattle.promises_polling.proofs.Heard.{heard-so, heard-listening}
 use Rattle.promises_polling.proofs.Kept.{at-below}

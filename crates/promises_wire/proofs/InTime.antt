@@ -2,7 +2,7 @@
 -- at its last sample; and not before, since what settles a part settles the whole. Of the poll so settled `said-so` says the rest.
 use mathlib.Core.Path.{_≡_, refl, sym, ap, subst, _∙_}
 use mathlib.Core.Bool.{Bool, true, false, _&&_}
-use mathlib.Core.List.{List, [], _∷_, _++_, map, append-nil}
+use mathlib.Core.List.{List, [], _∷_, _++_, append-nil}
 use Prim.Native.Nat.{ℕ, _+_, _^_, _<_, _≤_}
 use native.Mathlib.Omega.{arith}
 use lib.Dec.{leb, ltb}
@@ -25,16 +25,16 @@ use Rattle.round.specs.Calls.{mostReplies}
 use Rattle.polling.specs.declared.Pace.{Pace}
 use Rattle.polling.specs.declared.Polling.{Polling}
 use Rattle.polling.specs.declared.Settled.{Settled}
-use Rattle.polling.specs.Pace.{timingOf, badPace}
-use Rattle.polling.specs.Beginning.{noEntry, usedRows, replyFor, begunWith}
-use Rattle.polling.specs.Meant.{isOver, turnOf, listens, meant}
+use Rattle.polling.specs.Pace.{timingOf}
+use Rattle.polling.specs.Beginning.{noEntry, usedRows}
+use Rattle.polling.specs.Meant.{isOver, turnOf, listens}
 use Rattle.polling.specs.Listening.{Listened, goesOn, settledBy, later, givenUp, settle, listen}
 use Rattle.polling.specs.Settling.{replied, answeredWith, settledOf, settledAt}
 use Rattle.polling.specs.Calls.{heardBy, HearsPolling}
 use Rattle.promises_lines.proofs.Ends.{meant-itself}
 use Rattle.promises_polling.proofs.Meaning.{listening-by}
 use Rattle.promises_polling.proofs.Heard.{heard-so, heard-listening}
-use Rattle.promises_wire.specs.Polls.{Poll, entryFor}
+use Rattle.promises_wire.specs.Polls.{Poll}
 use Rattle.promises_wire.specs.Wire.{samplesOf, Sent}
 use Rattle.promises_wire.specs.Running.{Stood, PollOf}
 use Rattle.promises_wire.specs.TankToDesk.{SaysSo}
@@ -42,7 +42,7 @@ use Rattle.promises_wire.specs.InTime.{InTime, SentBy, OnItsWay, Listens
 use Rattle.promises_wire.proofs.SaidSo.{said-so}
 use Rattle.promises_wire.proofs.Tries.{Beside, both-go-on, both-ended, beside}
 use Rattle.promises_wire.proofs.Running.{Good, Ear, drawing-now, listening-now, ByPoll, by-poll, all-so, long-so, take-past, good-run, good-begun, begun-by, beginning-is, timing-of, or-right}
-use Rattle.promises_wire.proofs.Timely.{SettledAs, listens-to}
+use Rattle.promises_wire.proofs.Timely.{listens-to}
 
 abbrev isSettled : Listened → ℕ
 isSettled (goesOn left taken) = 0
@@ -84,7 +84,7 @@ module _ (p : Pace) (rows : List Row) (xs : List Stood) (since : List ℕ) (w : 
   abbrev m : ℕ
   m = way .minute
 
-  so : Good p m used xs since w
+  pub so : Good p m used xs since w
   so =
       let from = begun-by rows m (way .begun) (way .begins) (way .accepted) ∙ beginning-is m (boardOf rows) in
       good-run p (way .paced) (timing-of p (way .paced)) m used (way .begun .polling) (subst (Good p m used [] []) (sym from) (good-begun p m used (way .enrolled))) (way .calls)
@@ -166,10 +166,13 @@ module _ (p : Pace) (rows : List Row) (xs : List Stood) (since : List ℕ) (w : 
                     ∙ take-append-seam (samplesOf (x .drawing)) more;
               }
 
-      pub settled-so : (a .answered ≡ 1) × (since ++ take (a .taken) samples ≡ samplesOf (x .drawing))
+      pub settled-so : (a .answered ≡ 1) × (since ++ take (a .taken) samples ≡ samplesOf (x .drawing)) × (a .polling .listening ≡ 0)
       settled-so =
-          let h = heard-all in
-          (ap (λ (c : Settled). c .answered) (h .answers), ap (λ (c : Settled). since ++ take (c .taken) samples) (h .answers) ∙ h .taken)
+          let h = heard-all in (
+            ap (λ (c : Settled). c .answered) (h .answers),
+            ap (λ (c : Settled). since ++ take (c .taken) samples) (h .answers) ∙ h .taken,
+            ap (λ (c : Settled). c .polling .listening) (h .answers),
+          )
 
       stands-so : SentBy (turnOf w .settings) (turnOf w .address) x → minute < 2 ^ 32 → StandsSo w since samples x minute a
       stands-so by fits =

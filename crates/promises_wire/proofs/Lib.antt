@@ -23,4 +23,7 @@ pub mod InTime
 pub mod Ending
 pub mod ToTheEnd
 pub mod Turns
+pub mod Answering
+pub mod Habits
+pub mod Evenly
 pub mod AnyBatches

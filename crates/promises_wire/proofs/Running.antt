@@ -103,19 +103,19 @@ bytes-eight (spoiled number) = length-firstBytes 8 0 (omega arith)
 
 -- What a round holds: the answered replies, those of the rows that are left, and what stands behind them.
 pub record Holds (p : Pace) (m : ℕ) (used : List Row) (xs : List Stood) (r : Round) (at : ℕ) : Type 0 where
-  done : List Row
-  left : List Row
-  all : used ≡ done ++ left
-  enrolled : Enrolled left
-  count : r .count ≡ length used
-  answered : List Polled
-  tail : List Polled
-  here : at ≡ length answered
-  as-many : length answered ≡ length done
-  holds : r .replies ≡ answered ++ (map (replyFor m) left ++ tail)
-  polls : List Poll
-  in-step : InStep p done xs polls
-  replies : Replies polls (map entryIn answered)
+  pub done : List Row
+  pub left : List Row
+  pub all : used ≡ done ++ left
+  pub enrolled : Enrolled left
+  pub count : r .count ≡ length used
+  pub answered : List Polled
+  pub tail : List Polled
+  pub here : at ≡ length answered
+  pub as-many : length answered ≡ length done
+  pub holds : r .replies ≡ answered ++ (map (replyFor m) left ++ tail)
+  pub polls : List Poll
+  pub in-step : InStep p done xs polls
+  pub replies : Replies polls (map entryIn answered)
 
 -- The poll of a reply that comes to stand, and its place.
 pub record ByPoll (p : Pace) (w : Polling) (x : Stood) (entry : Polled) : Type 0 where

@@ -2,13 +2,13 @@
 -- rest until the message closes, and it closes within `longest`. So a reading sent in time settles the try by its message, at the last sample of its gap.
 use mathlib.Core.Path.{_≡_, refl, sym, ap, subst, _∙_}
 use mathlib.Core.Bool.{Bool, true, false, _&&_}
-use mathlib.Core.List.{List, [], _∷_, _++_, map, append-assoc, append-nil}
+use mathlib.Core.List.{List, [], _∷_, _++_, map, append-assoc}
 use Prim.Native.Nat.{ℕ, zero, suc, _+_, _<_, _≤_}
 use native.Mathlib.Omega.{arith}
 use native.Mathlib.Nat.{add-zero, zero-add}
 use borrow.Author.Tests.{lt-leb}
 use lib.Dec.{leb}
-use lib.ListN.{length, replicate, length-append, length-replicate, length-map}
+use lib.ListN.{length, replicate, length-append, length-replicate}
 use Rattle.frame.specs.Pick.{pick}
 use Rattle.frame.specs.Line as frame
 use Rattle.lines.specs.declared.SoFar.{SoFar}
@@ -17,7 +17,7 @@ use Rattle.lines.specs.Sample.{sampleOf}
 use Rattle.lines.specs.Timing.{Timing, badTiming}
 use Rattle.lines.specs.SoFar.{atRest, isRest}
 use Rattle.lines.specs.Step.{longerIdle, afterIdle, after, closes}
-use Rattle.lines.specs.Hearing.{Told, nothing, message, spoiled, toldOf, numberTold, countTold, bytesTold, hear}
+use Rattle.lines.specs.Hearing.{Told, nothing, message, spoiled, toldOf, countTold, bytesTold, hear}
 use Rattle.lines.specs.Hearing as lines
 use Rattle.lines.specs.Calls.{answered}
 use Rattle.polling.specs.declared.Pace.{Pace}
