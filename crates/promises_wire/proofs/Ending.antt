@@ -35,11 +35,8 @@ use Rattle.promises_polling.proofs.Ears.{Outcome, open-yet, ended-at, outcome, 
 use Rattle.promises_polling.proofs.Outcome.{polling-outcome}
 use Rattle.promises_wire.specs.Running.{Stood, sinceAfter, stoodBy, Running, heard}
 use Rattle.promises_wire.specs.Running as running
+use Rattle.promises_wire.proofs.Tries.{isSettled}
 use Rattle.promises_wire.specs.ToTheEnd.{Comes, Enough, StandsFrom, none-stands, one-stands}
-
-abbrev isSettled : Listened → ℕ
-isSettled (goesOn left taken) = 0
-isSettled (settledBy told taken) = 1
 
 -- As many samples as a try may take settle it.
 settles-it : (p : Pace) → badPace p ≡ false → (xs : List ℕ) → p .longest ≤ length xs → (left : SoFar) (k : ℕ) → listen p atRest 0 xs ≡ goesOn left k → ⊥

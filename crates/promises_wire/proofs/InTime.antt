@@ -19,6 +19,7 @@ use Rattle.lines.specs.Sample.{sampleOf}
 use Rattle.lines.specs.SoFar.{atRest, isRest, legal}
 use Rattle.lines.specs.Step.{after, closes}
 use Rattle.lines.specs.Hearing.{Told, nothing, message, toldOf}
+use Rattle.lines.proofs.Cases.{none-of}
 use Rattle.round.specs.declared.Polled.{Polled}
 use Rattle.round.specs.Replies.{entryIn}
 use Rattle.round.specs.Calls.{mostReplies}
@@ -33,24 +34,16 @@ use Rattle.polling.specs.Settling.{replied, answeredWith, settledOf, settledAt}
 use Rattle.polling.specs.Calls.{heardBy, HearsPolling}
 use Rattle.promises_lines.proofs.Ends.{meant-itself}
 use Rattle.promises_polling.proofs.Meaning.{listening-by}
-use Rattle.promises_polling.proofs.Heard.{heard-so, heard-listening}
+use Rattle.promises_polling.proofs.Heard.{timing-fine, heard-so, heard-listening}
 use Rattle.promises_wire.specs.Polls.{Poll}
 use Rattle.promises_wire.specs.Wire.{samplesOf, Sent}
 use Rattle.promises_wire.specs.Running.{Stood, PollOf}
 use Rattle.promises_wire.specs.TankToDesk.{SaysSo}
 use Rattle.promises_wire.specs.InTime.{InTime, SentBy, OnItsWay, Listens, GoesOn, StandsSo, SaidInTime}
 use Rattle.promises_wire.proofs.SaidSo.{said-so}
-use Rattle.promises_wire.proofs.Tries.{Beside, both-go-on, both-ended, beside}
-use Rattle.promises_wire.proofs.Running.{Good, Ear, drawing-now, listening-now, ByPoll, by-poll, all-so, long-so, take-past, good-run, good-begun, begun-by, beginning-is, timing-of, or-right}
+use Rattle.promises_wire.proofs.Tries.{isSettled, takenBy, Beside, both-go-on, both-ended, beside}
+use Rattle.promises_wire.proofs.Running.{Good, Ear, drawing-now, listening-now, ByPoll, by-poll, all-so, long-so, take-past, good-run, good-begun, begun-by, beginning-is}
 use Rattle.promises_wire.proofs.Timely.{listens-to}
-
-abbrev isSettled : Listened → ℕ
-isSettled (goesOn left taken) = 0
-isSettled (settledBy told taken) = 1
-
-abbrev takenBy : Listened → ℕ
-takenBy (goesOn left taken) = taken
-takenBy (settledBy told taken) = taken
 
 abbrev toldBy : Listened → Told
 toldBy (goesOn left taken) = nothing
@@ -87,7 +80,7 @@ module _ (p : Pace) (rows : List Row) (xs : List Stood) (since : List ℕ) (w : 
   pub so : Good p m used xs since w
   so =
       let from = begun-by rows m (way .begun) (way .begins) (way .accepted) ∙ beginning-is m (boardOf rows) in
-      good-run p (way .paced) (timing-of p (way .paced)) m used (way .begun .polling) (subst (Good p m used [] []) (sym from) (good-begun p m used (way .enrolled))) (way .calls)
+      good-run p (way .paced) (timing-fine p (way .paced)) m used (way .begun .polling) (subst (Good p m used [] []) (sym from) (good-begun p m used (way .enrolled))) (way .calls)
 
   ear : (listen p atRest 0 since ≡ goesOn (w .lines) (w .passed)) × (legal (w .lines) ≡ true)
   ear = go (so .ear)
@@ -108,7 +101,7 @@ module _ (p : Pace) (rows : List Row) (xs : List Stood) (since : List ℕ) (w : 
         ∙ heard-listening p minute w (w .lines) (w .passed) samples (on .0)
 
     whole : listen p atRest 0 (since ++ samples) ≡ later (w .passed) (listen p (w .lines) (w .passed) samples)
-    whole = all-so p (timing-of p (way .paced)) m used xs since w 0 (omega arith) samples so (on .1) (ear .0) (ear .1)
+    whole = all-so p (timing-fine p (way .paced)) m used xs since w 0 (omega arith) samples so (on .1) (ear .0) (ear .1)
 
     -- some of it
     module _ (x : Sent) (timely : InTime p x) (more : List ℕ) (is : since ++ samples ++ more ≡ samplesOf (x .drawing)) (some : 1 ≤ length more) where
@@ -179,8 +172,8 @@ module _ (p : Pace) (rows : List Row) (xs : List Stood) (since : List ℕ) (w : 
           let h = heard-all in
           let entry : Polled = replied minute told (turnOf w) in
           let b : ByPoll p w (record { minute = minute; samples = since ++ take (h .k) samples }) entry
-          = by-poll p (timing-of p (way .paced)) m used xs since w minute fits samples so (on .1) (ear .0) (ear .1) told (h .k) (h .settles)
-          (or-right (ltb mostReplies (w .round .count)) (leb (w .round .count) (w .at)) (on .0)) in
+          = by-poll p (timing-fine p (way .paced)) m used xs since w minute fits samples so (on .1) (ear .0) (ear .1) told (h .k) (h .settles)
+          (none-of (ltb mostReplies (w .round .count)) (leb (w .round .count) (w .at)) (on .0) .1) in
           let says : SaysSo x (b .poll)
           = said-so x (b .poll)
           (record { timing = b .its .timing ∙ sym (timely .timing); settings = b .its .settings ∙ sym (b .settings) ∙ sym (by .0); address = b .its .address ∙ sym (b .address) ∙ sym (by .1) })

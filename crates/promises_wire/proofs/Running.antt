@@ -11,7 +11,6 @@ use lib.Dec.{eqb, leb, ltb}
 use lib.ListN.{length, getD, take, set, replicate, length-append, length-map, length-take}
 use lib.Seq.{take-all, take-append-seam, take-append-le, getD-at, set-at}
 use Rattle.frame.specs.Pick.{pick}
-use Rattle.frame.specs.Faults.{firstOf}
 use Rattle.frame.specs.Line.{mark, bytesFor}
 use Rattle.frame.specs.Reply.{replyOf}
 use Rattle.board.specs.declared.Row.{Row}
@@ -21,20 +20,19 @@ use Rattle.board.specs.Order.{kept}
 use Rattle.lines.specs.declared.SoFar.{SoFar}
 use Rattle.lines.specs.SoFar.{atRest, legal}
 use Rattle.lines.specs.SoFar as lines
-use Rattle.lines.specs.Timing.{within, badTiming}
+use Rattle.lines.specs.Timing.{badTiming}
 use Rattle.lines.specs.Hearing.{Told, nothing, message, spoiled, countTold, bytesTold, numberTold}
+use Rattle.lines.proofs.Cases.{none-of}
 use Rattle.round.specs.declared.Polled.{Polled}
 use Rattle.round.specs.declared.Round.{Round}
 use Rattle.round.specs.Replies.{entryIn, entriesOf}
 use Rattle.round.specs.Calls.{mostReplies}
 use Rattle.sheet.specs.Record.{Entry}
-use Rattle.drawing.specs.Pulses.{badPulse}
 use Rattle.polling.specs.declared.Begun.{Begun}
-use Rattle.polling.specs.declared.Drew.{Drew}
 use Rattle.polling.specs.declared.Pace.{Pace}
 use Rattle.polling.specs.declared.Polling.{Polling}
 use Rattle.polling.specs.declared.Settled.{Settled}
-use Rattle.polling.specs.Pace.{timingOf, badPace, paceFault}
+use Rattle.polling.specs.Pace.{timingOf, badPace}
 use Rattle.polling.specs.Beginning.{noReply, noEntry, usedRows, replyFor, begunWith, beginning, nothingBegun}
 use Rattle.polling.specs.Meant.{isOver, turnOf, tryDrawn, draws, listens, meant}
 use Rattle.polling.specs.Drawing.{drawnBy, afterDrawn, drew}
@@ -46,6 +44,9 @@ use Rattle.promises_frame.proofs.BitsAreBits.{bits-are-bits}
 use Rattle.promises_lines.proofs.Legal.{rest, is-legal}
 use Rattle.promises_lines.proofs.Ends.{meant-itself}
 use Rattle.promises_lines.proofs.Grouped.{grouped}
+use Rattle.promises_polling.proofs.Drawn.{leaves}
+use Rattle.promises_polling.proofs.Heard as polling
+use Rattle.promises_polling.proofs.Heard.{timing-fine}
 use Rattle.promises_wire.specs.Polls.{Asked, Sensed, bitsSensed, Poll, entryFor, pollEntry}
 use Rattle.promises_wire.specs.Heard.{Heard}
 use Rattle.promises_wire.specs.Month.{Replies, none-polled, one-polled, round-saved, round-kept}
@@ -188,14 +189,6 @@ module _ (p : Pace) (m : ℕ) (used : List Row) where
       go false false e = good-meant xs since w g
       go false true e =
           good-meant xs since (draws w (w .passed + many)) (record { round = g .round; ear = drawing-now refl (none-since (eqb-true (w .listening) 0 e) (g .ear)) })
-
-or-left : (a b : Bool) → (a || b) ≡ false → a ≡ false
-or-left true b e = e
-or-left false b e = refl
-
-pub or-right : (a b : Bool) → (a || b) ≡ false → b ≡ false
-or-right true b e = absurd (let z : _≡_ {A = ℕ} 0 1 = cc in omega arith)
-or-right false b e = e
 
 pub take-past : (xs ys : List ℕ) (n k : ℕ) → n ≡ length xs → take (n + k) (xs ++ ys) ≡ xs ++ take k ys
 take-past [] ys n k e = let none : n + k ≡ k = omega (arith, e) in ap (λ (j : ℕ). take j ys) none
@@ -406,26 +399,17 @@ module _ (p : Pace) (fine : badTiming (timingOf p) ≡ false) (m : ℕ) (used : 
       go false o true e ear = at-rest 0
       go false o false e (drawing-now l none) = absurd (eqb-false (w .listening) 0 e l)
       go false o false e (listening-now l so ok) =
-          settles l so ok (or-right (ltb mostReplies (w .round .count)) (leb (w .round .count) (w .at)) o) (listen p (w .lines) (w .passed) samples) refl
+          settles l so ok (none-of (ltb mostReplies (w .round .count)) (leb (w .round .count) (w .at)) o .1) (listen p (w .lines) (w .passed) samples) refl
           (beside p (w .lines) (w .passed) samples)
 
 -- the calls, one after another
-no-fault : (p : Pace) → badPace p ≡ false → paceFault p ≡ 0
-unfolding paceFault firstOf
-no-fault p e = rw e
-
 module _ (p : Pace) (fine : badPace p ≡ false) (timed : badTiming (timingOf p) ≡ false) (m : ℕ) (used : List Row) (from : Polling) (start : Good p m used [] [] from) where
   pub good-run : {xs : List Stood} {since : List ℕ} {w : Polling} → Running p from xs since w → Good p m used xs since w
   good-run just-begun = start
   good-run (running.drew {xs = xs} {since = since} {w = w} out after answer r call) =
-      let is : answer .polling ≡ afterDrawn p w (length (drawnBy p w (length out)))
-      = ap (λ (a : Drew). a .polling) (call .answers)
-      ∙ ap (λ (k : ℕ). pick (eqb k 0) (drew (afterDrawn p w (length (drawnBy p w (length out)))) (length (drawnBy p w (length out))) (mark (isOver w)) 0) (drew w 0 0 k) .polling) (no-fault p fine) in
-      subst (Good p m used xs since) (sym is) (good-drawn p m used xs since w (length (drawnBy p w (length out))) (good-run r))
+      subst (Good p m used xs since) (sym (leaves p fine w out after answer call)) (good-drawn p m used xs since w (length (drawnBy p w (length out))) (good-run r))
   good-run (heard {xs = xs} {since = since} {w = w} minute samples answer fits r call) =
-      let is : answer ≡ heardBy p minute (meant p w) samples
-      = call .answers ∙ ap (λ (k : ℕ). pick (eqb k 0) (heardBy p minute (meant p w) samples) (settledOf w 0 0 0 0 k)) (no-fault p fine) in
-      subst (λ (a : Settled). Good p m used (xs ++ stoodBy a minute samples since) (sinceAfter a samples since) (a .polling)) (sym is)
+      subst (λ (a : Settled). Good p m used (xs ++ stoodBy a minute samples since) (sinceAfter a samples since) (a .polling)) (sym (polling.heard-so p fine w minute samples answer call))
       (good-heard p timed m used xs since (meant p w) minute fits samples (good-meant p m used xs since w (good-run r)))
 
 -- A round just begun.
@@ -469,15 +453,6 @@ good-begun p minute used ok =
       };
       ear = drawing-now refl refl;
     }
-
-third : (a b c d e f : Bool) → (a || b || c || d || e || f) ≡ false → c ≡ false
-third a b c d e f h = or-right (a || b) c (or-left (a || b || c) d (or-left (a || b || c || d) e (or-left (a || b || c || d || e) f h)))
-
-pub timing-of : (p : Pace) → badPace p ≡ false → badTiming (timingOf p) ≡ false
-timing-of p e =
-    third (badPulse (p .low) (p .still)) (ltb 1000000 (p .delay)) (badTiming (timingOf p)) (not (within 1 1000000 (p .wait)))
-    (not (within (p .wait) 10000000 (p .longest)))
-    (not (within 1 9 (p .tries))) e
 
 -- When it is over no row is left.
 module _ (p : Pace) (m : ℕ) (used : List Row) (few : length used ≤ 30) (xs : List Stood) (w : Polling) (h : Holds p m used xs (w .round) (w .at)) where
@@ -532,7 +507,7 @@ run-by-the-recorder =
       ran = λ rows minute b call z ok p fine xs since w r.
           let used = usedRows (boardOf rows) in
           let from : b .polling ≡ begunWith (map (replyFor minute) used) = begun-by rows minute b call z ∙ beginning-is minute (boardOf rows) in
-          let g = good-run p fine (timing-of p fine) minute used (b .polling) (subst (Good p minute used [] []) (sym from) (good-begun p minute used ok)) r in
+          let g = good-run p fine (timing-fine p fine) minute used (b .polling) (subst (Good p minute used [] []) (sym from) (good-begun p minute used ok)) r in
           ran-so p minute used (omega (arith, used-few (boardOf rows), length-take 30 rows)) xs w (g .round) rows refl;
       saved = λ n ms sheet page month p rows xs w ran r e allowance answer after call.
           round-saved (ran .polls) r allowance answer after month (saved-replies p rows xs w ran r e) (few-replies p rows xs w ran r e) call;

@@ -5,7 +5,7 @@ use mathlib.Core.Bool.{Bool, true, false, _&&_}
 use mathlib.Core.List.{List, [], _∷_, _++_, map, append-assoc}
 use Prim.Native.Nat.{ℕ, zero, suc, _+_, _<_, _≤_}
 use native.Mathlib.Omega.{arith}
-use native.Mathlib.Nat.{add-zero, zero-add}
+use native.Mathlib.Nat.{zero-add}
 use borrow.Author.Tests.{lt-leb}
 use lib.Dec.{leb}
 use lib.ListN.{length, replicate, length-append, length-replicate}
@@ -22,7 +22,7 @@ use Rattle.lines.specs.Hearing as lines
 use Rattle.lines.specs.Calls.{answered}
 use Rattle.polling.specs.declared.Pace.{Pace}
 use Rattle.polling.specs.Pace.{timingOf, badPace}
-use Rattle.polling.specs.Listening.{Listened, goesOn, settledBy, later, givenUp, settle, listen}
+use Rattle.polling.specs.Listening.{goesOn, settledBy, later, givenUp, settle, listen}
 use Rattle.promises_lines.specs.History.{bitsOf, said}
 use Rattle.promises_lines.specs.Runs.{isIdle}
 use Rattle.promises_lines.specs.Drawn.{Pulse, drawn, WellDrawn}
@@ -36,6 +36,7 @@ use Rattle.promises_polling.proofs.Rest.{rest-step}
 use Rattle.promises_wire.specs.Wire.{samplesOf, Sent}
 use Rattle.promises_wire.specs.InTime.{InTime}
 use Rattle.promises_wire.proofs.SaidSo.{few-pulses}
+use Rattle.promises_wire.proofs.Tries.{listen-then}
 
 -- Nothing, a message and a spoiled one are not the same.
 abbrev kindTold : Told → ℕ
@@ -98,30 +99,20 @@ module _ (p : Pace) (fine : badPace p ≡ false) where
   unfolding afterIdle longerIdle
   rest-stays = refl
 
-  later-none : (l : Listened) → later 0 l ≡ l
-  later-none (goesOn left taken) = ap (goesOn left) (zero-add taken)
-  later-none (settledBy told taken) = ap (settledBy told) (zero-add taken)
-
-  later-more : (m : ℕ) (l : Listened) → later 1 (later m l) ≡ later (suc m) l
-  later-more m (goesOn left taken) = let e : 1 + (m + taken) ≡ suc m + taken = omega arith in ap (goesOn left) e
-  later-more m (settledBy told taken) = let e : 1 + (m + taken) ≡ suc m + taken = omega arith in ap (settledBy told) e
-
-  idle-in-time : (k : ℕ) (ys : List ℕ) (q : ℕ) → q + k < p .wait → listen p atRest q (replicate k 0 ++ ys) ≡ later k (listen p atRest (q + k) ys)
+  idle-goes-on : (k q : ℕ) → q + k < p .wait → listen p atRest q (replicate k 0) ≡ goesOn atRest k
   unfolding listen settle
-  idle-in-time zero ys q h = sym (later-none (listen p atRest q ys)) ∙ ap (λ (n : ℕ). later 0 (listen p atRest n ys)) (sym (add-zero q))
-  idle-in-time (suc k) ys q h =
+  idle-goes-on zero q h = refl
+  idle-goes-on (suc k) q h =
       let f = fine-pace p fine in
       let high = f .longest in
       let some = good t (f .timing) .some in
       let shut : leb (p .gap) 0 ≡ false = lt-leb (p .gap) 0 some in
       let waits : leb (p .wait) (q + 1) ≡ false = lt-leb (p .wait) (q + 1) (omega (arith, h)) in
       let early : leb (p .longest) (q + 1) ≡ false = lt-leb (p .longest) (q + 1) (omega (arith, h, high)) in
-      let sum : q + 1 + k ≡ q + suc k = omega arith in
-      ap (λ (m : SoFar). settle p m (q + 1) (later 1 (listen p m (q + 1) (replicate k 0 ++ ys)))) rest-stays
-      ∙ (λ i. pick (shut i) (settledBy (toldOf atRest) 1) (pick (waits i) (settledBy nothing 1) (pick (early i) (settledBy (givenUp atRest) 1) (later 1 (listen p atRest (q + 1) (replicate k 0 ++ ys))))))
-      ∙ ap (later 1) (idle-in-time k ys (q + 1) (omega (arith, h)))
-      ∙ later-more k (listen p atRest (q + 1 + k) ys)
-      ∙ ap (λ (n : ℕ). later (suc k) (listen p atRest n ys)) sum
+      let one : 1 + k ≡ suc k = omega arith in
+      ap (λ (m : SoFar). settle p m (q + 1) (later 1 (listen p m (q + 1) (replicate k 0)))) rest-stays
+      ∙ (λ i. pick (shut i) (settledBy (toldOf atRest) 1) (pick (waits i) (settledBy nothing 1) (pick (early i) (settledBy (givenUp atRest) 1) (later 1 (listen p atRest (q + 1) (replicate k 0))))))
+      ∙ ap (later 1) (idle-goes-on k (q + 1) (omega (arith, h))) ∙ ap (goesOn atRest) one
 
 -- The lines hear a drawing to its end, as a message.
 record HeardAs (t : Timing) (xs : List ℕ) (n : ℕ) : Type 0 where
@@ -213,6 +204,7 @@ listens-to p fine x timely more =
       count = h .count;
       bits = h .bits;
       is = ap (listen p atRest 0) (append-assoc (replicate (d .quiet) 0) (drawn (d .first ∷ d .rest)) more)
-          ∙ idle-in-time p fine (d .quiet) (drawn (d .first ∷ d .rest) ++ more) 0 (let b = timely .begins in omega (arith, b))
+          ∙ listen-then p atRest 0 (replicate (d .quiet) 0) (drawn (d .first ∷ d .rest) ++ more) atRest (d .quiet)
+          (idle-goes-on p fine (d .quiet) 0 (let b = timely .begins in omega (arith, b)))
           ∙ ap (later (d .quiet)) low-part ∙ ap (settledBy (message (h .count) (h .bits))) (sym size);
     }

@@ -30,11 +30,11 @@ use Rattle.promises_lines.proofs.Tellings.{answerTo, answers}
 use Rattle.promises_wire.specs.Heard.{Heard, heard}
 
 -- What is settled and what goes on are not the same.
-abbrev isSettled : Listened → ℕ
+abbrev pub isSettled : Listened → ℕ
 isSettled (goesOn left taken) = 0
 isSettled (settledBy told taken) = 1
 
-abbrev takenBy : Listened → ℕ
+abbrev pub takenBy : Listened → ℕ
 takenBy (goesOn left taken) = taken
 takenBy (settledBy told taken) = taken
 
