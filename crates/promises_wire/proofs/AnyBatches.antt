@@ -19,7 +19,7 @@ use Rattle.promises_wire.specs.Wire.{Sent}
 use Rattle.promises_wire.specs.AnyBatches.{SentToAll, Habit, AllSaid, InAnyBatches}
 use Rattle.promises_wire.proofs.Running.{run-by-the-recorder}
 use Rattle.promises_wire.proofs.Turns.{turns-few}
-use Rattle.promises_wire.proofs.Answering.{sent-enrolled, turns-run, they-say}
+use Rattle.promises_wire.proofs.Answering.{sent-enrolled, turns-run, it-says, they-say}
 use Rattle.promises_wire.proofs.Habits.{any-habit}
 use Rattle.promises_wire.proofs.Evenly.{sent-evenly}
 
@@ -47,6 +47,8 @@ pub in-any-batches : InAnyBatches
 in-any-batches =
     record {
       ends = λ p fine from n ys since w t many. must-be (isOver w) (λ e. let few = turns-few p fine t e in omega (arith, few, many));
+      said = λ p fine rows minute b begins accepted ok i row at x timely by n ys since w t sends ran q poll.
+          it-says p fine rows minute b begins accepted ok i x timely row at by t sends ran q poll;
       say = they-say;
       sent = all-said;
       readings = λ p fine rows minute b begins accepted rs can quiet low still suits h.

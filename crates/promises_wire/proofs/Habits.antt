@@ -38,7 +38,7 @@ use Rattle.promises_wire.specs.InTime.{OnItsWay, Listens, GoesOn}
 use Rattle.promises_wire.specs.AnyBatches.{SentToAll, none-sent, one-sent, no-turn, one-turn, Sends, part, whole, After, at-once, one-later, Habit, Batched}
 use Rattle.promises_wire.proofs.Timely.{listens-to}
 use Rattle.promises_wire.proofs.InTime.{so, settled-so, said-in-time}
-use Rattle.promises_wire.proofs.Answering.{timely-at, sent-enrolled, drawn-itself, turns-run}
+use Rattle.promises_wire.proofs.Answering.{same-after, timely-at, sent-enrolled, drawn-itself, turns-run}
 
 -- There is one after as many as are fewer than all.
 one-after : (xs : List Sent) (i : ℕ) → i < length xs → (x : Sent) × After xs i x
@@ -191,7 +191,7 @@ module _ (p : Pace) (fine : badPace p ≡ false) (rows : List Row) (minute : ℕ
   any-turns : (h : Habit) (n : ℕ) → So h n
   any-turns h zero =
       record {
-        turns = record { stood = []; since = []; end = b .polling; turns = no-turn; answering = omega arith; by-such = omega arith };
+        turns = record { stood = []; since = []; end = b .polling; turns = no-turn; answering = λ i x a. omega arith; by-such = omega arith };
         coming = nothing-yet refl;
       }
   any-turns h (suc n) =
@@ -212,7 +212,8 @@ module _ (p : Pace) (fine : badPace p ≡ false) (rows : List Row) (minute : ℕ
           since = sinceAfter (r .a) (r .samples) (t .since);
           end = r .a .polling;
           turns = one-turn out after d (h .minute n) (r .samples) (r .a) (t .turns) (omega (arith, room)) (o .allowed) (omega (arith, r .size)) (h .fits n) (r .hear);
-          answering = (t .answering, r .sends);
+          answering = λ i x a.
+              (t .answering i x a, λ on e. let s = r .sends on in subst (λ (z : Sent). Sends z (t .since) (r .samples)) (same-after (s .1) a e) (s .2));
           by-such = (t .by-such, room, r .size, refl);
         };
         coming = r .then;

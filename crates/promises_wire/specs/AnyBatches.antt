@@ -21,7 +21,7 @@ use Rattle.promises_frame.specs.WrittenThenRead.{CanSay}
 use Rattle.promises_polling.specs.Ends.{tryDraws}
 use Rattle.promises_wire.specs.Polls.{Poll}
 use Rattle.promises_wire.specs.Wire.{samplesOf, Sent}
-use Rattle.promises_wire.specs.Running.{Stood, sinceAfter, stoodBy, RanSo}
+use Rattle.promises_wire.specs.Running.{Stood, sinceAfter, stoodBy, Enrolled, RanSo}
 use Rattle.promises_wire.specs.TankToDesk.{SaysSo}
 use Rattle.promises_wire.specs.InTime.{InTime, SentBy, Listens}
 
@@ -50,15 +50,19 @@ pub data Sends (x : Sent) (since samples : List ℕ) : Type 0 where
   whole : (more : List ℕ) → since ++ samples ≡ samplesOf (x .drawing) ++ more → Sends x since samples
 
 -- The one after so many others.
-pub data After : List Sent → ℕ → Sent → Type 0 where
-  at-once : {x : Sent} {xs : List Sent} → After (x ∷ xs) 0 x
-  one-later : {x y : Sent} {xs : List Sent} {i : ℕ} → After xs i x → After (y ∷ xs) (suc i) x
+pub data After {A : Type 0} : List A → ℕ → A → Type 0 where
+  at-once : {x : A} {xs : List A} → After (x ∷ xs) 0 x
+  one-later : {x y : A} {xs : List A} {i : ℕ} → After xs i x → After (y ∷ xs) (suc i) x
 
--- In each turn in which the recorder listens, the transmitter after those whose replies stand sends its reading.
+-- A transmitter sends a reading: in each turn in which the recorder listens to the one after so many others.
+abbrev pub Sending : {p : Pace} {from : Polling} {n : ℕ} {ys : List Stood} {since : List ℕ} {w : Polling} → ℕ → Sent → Turns p from n ys since w → Type 0
+Sending i x no-turn = 0 ≤ 0
+Sending i x (one-turn {ys = ys} {since = since} out after d minute samples a t room draw some fits hear) =
+    Sending i x t × (Listens (d .polling) → length ys ≡ i → Sends x since samples)
+
+-- Each of them sends its own.
 abbrev pub Answering : {p : Pace} {from : Polling} {n : ℕ} {ys : List Stood} {since : List ℕ} {w : Polling} → List Sent → Turns p from n ys since w → Type 0
-Answering xs no-turn = 0 ≤ 0
-Answering xs (one-turn {ys = ys} {since = since} out after d minute samples a t room draw some fits hear) =
-    Answering xs t × (Listens (d .polling) → (x : Sent) × After xs (length ys) x × Sends x since samples)
+Answering xs t = (i : ℕ) (x : Sent) → After xs i x → Sending i x t
 
 -- A host's habit: the room that it lends in each turn, and the samples, each one more than this, and the minute.
 pub record Habit : Type 0 where
@@ -107,7 +111,13 @@ pub record InAnyBatches : Type 0 where
   -- Whatever is sensed: of each transmitter, `tries` tries, and of each of these no more turns than it draws and takes samples.
   pub ends : (p : Pace) → badPace p ≡ false → (from : Polling) (n : ℕ) (ys : List Stood) (since : List ℕ) (w : Polling) → Turns p from n ys since w
       → (from .round .count - from .at) * (p .tries * (tryDraws p + p .longest)) < n → isOver w ≡ true
-  -- And when it is over, the polls say what was sent.
+  -- Where a transmitter sends a reading in time, its poll says that reading, whatever the others do.
+  pub said : (p : Pace) → badPace p ≡ false → (rows : List Row) (minute : ℕ) (b : Begun) → BeginsPolling rows minute b → b .number ≡ 0
+      → Enrolled (usedRows (boardOf rows)) → (i : ℕ) (row : Row) → After (usedRows (boardOf rows)) i row
+      → (x : Sent) → InTime p x → SentBy (row .settings) (row .address) x
+      → (n : ℕ) (ys : List Stood) (since : List ℕ) (w : Polling) (t : Turns p (b .polling) n ys since w) → Sending i x t
+      → (ran : RanSo p rows ys w) (q : Poll) → After (ran .polls) i q → SaysSo x q
+  -- Where each of them does, all polls of a round that is over say what was sent.
   pub say : (p : Pace) → badPace p ≡ false → (rows : List Row) (minute : ℕ) (b : Begun) → BeginsPolling rows minute b → b .number ≡ 0
       → (xs : List Sent) → SentToAll p (usedRows (boardOf rows)) xs
       → (n : ℕ) (ys : List Stood) (since : List ℕ) (w : Polling) (t : Turns p (b .polling) n ys since w) → Answering xs t → isOver w ≡ true
