@@ -11,6 +11,3 @@ pub mod OneRow
 pub mod Hearing
 pub mod Polling
 pub mod LentRows
-pub mod Settled
-pub mod LendShared
-pub mod Thin

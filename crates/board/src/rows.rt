@@ -30,7 +30,7 @@ pub(crate) fn free_row() -> Row
     }
 }
 
-pub(crate) fn free_rows() -> [Row; 30]
+pub fn free_rows() -> [Row; 30]
     ensures { λ r. ⌜ r ≡ replicate 30 freeRow ⌝ }
 {
     let row = free_row();

@@ -18,7 +18,7 @@ use frame::Written;
 // A row is carried over a run of `count` places: each takes the row that comes, the first `row`, and hands on the one that stood in it. The
 // places go on from `at`, where `up` is 1 and `down` 0, or back from the one before it, where `up` is 0 and `down` 1. And the number that the
 // call answers, with the place of the unreadable digit beside 7.
-pub(crate) struct Change {
+pub struct Change {
     pub at: usize,
     pub count: usize,
     pub up: usize,
@@ -189,7 +189,7 @@ fn refused(number: u8) -> Change
 }
 
 // Enrolling: 38, 10, 11, 27, 18, 19. The rows from the new one's place up to the first free one move on by one.
-pub(crate) fn enrol(f: Found, settings: u8, address: u16, gauge: u8) -> Change
+pub fn enrol(f: Found, settings: u8, address: u16, gauge: u8) -> Change
     requires { ⌜ Bounded f ⌝ }
     ensures { λ r. ⌜ EnrolsOn f settings address gauge r ⌝ }
 {
@@ -267,7 +267,7 @@ fn heard(at: usize, row: Row, minute: u32, answer: Reply) -> Change
 }
 
 // What hearing answers of a change.
-pub(crate) fn said(c: Change) -> Heard
+pub fn said(c: Change) -> Heard
     ensures { λ r. ⌜ r ≡ saidOf c ⌝ }
 {
     Heard {
@@ -277,7 +277,7 @@ pub(crate) fn said(c: Change) -> Heard
 }
 
 // Hearing: 38, 11, 14, 17, then what the frame answers by the row's settings, and 26 by the row's profile.
-pub(crate) fn hear(f: Found, minute: u32, address: u16, count: usize, reply: &[u8]) -> Change
+pub fn hear(f: Found, minute: u32, address: u16, count: usize, reply: &[u8]) -> Change
     ensures { λ r. ⌜ HearsOn f minute address count (now (reply .entry)) r ⌝ }
 {
     if !f.kept {
@@ -298,7 +298,7 @@ pub(crate) fn hear(f: Found, minute: u32, address: u16, count: usize, reply: &[u
 }
 
 // Removing: 38, 11, 17. The rows behind the one found move up by one, from the last in use on, whose place is left free.
-pub(crate) fn remove(f: Found, address: u16) -> Change
+pub fn remove(f: Found, address: u16) -> Change
     requires { ⌜ Bounded f ⌝ }
     ensures { λ r. ⌜ RemovesOn f address r ⌝ }
 {
@@ -324,7 +324,7 @@ pub(crate) fn remove(f: Found, address: u16) -> Change
 }
 
 // Looking: 38, 11, 17.
-pub(crate) fn look(f: Found, address: u16) -> Looked
+pub fn look(f: Found, address: u16) -> Looked
     ensures { λ r. ⌜ LooksOn f address r ⌝ }
 {
     if !f.kept {
@@ -341,7 +341,7 @@ pub(crate) fn look(f: Found, address: u16) -> Looked
 }
 
 // Whether a row may be polled so: 38, 11, 17, 28. Raise or reset is only for a marked row, and never both.
-pub(crate) fn may_poll(f: Found, address: u16, raise: u8, reset: u8) -> u8
+pub fn may_poll(f: Found, address: u16, raise: u8, reset: u8) -> u8
     ensures { λ r. ⌜ MayPollOn f address raise reset r ⌝ }
 {
     if !f.kept {
@@ -364,7 +364,7 @@ pub(crate) fn may_poll(f: Found, address: u16, raise: u8, reset: u8) -> u8
 }
 
 // Answers the number that refused already, or writes the poll: 15.
-pub(crate) fn write_or(number: u8, address: u16, raise: u8, reset: u8, out: &mut [u8]) -> u8
+pub fn write_or(number: u8, address: u16, raise: u8, reset: u8, out: &mut [u8]) -> u8
     ensures { λ r. ⌜ WritesOr number address raise reset (now (out .entry)) r (now (out .exit)) ⌝ }
 {
     if number != 0 {

@@ -79,7 +79,7 @@ pub struct Settled {
 pub extern "C" fn sisal_polling_begin(rows: &[Row], minute: u32) -> Begun
     ensures { λ r. ⌜ BeginsPolling (now (rows .entry)) minute r ⌝ }
 {
-    let held = board::lent::load(rows);
+    let held = lending::lent::load(rows);
     beginning::begin(held, rows.len(), minute)
 }
 

@@ -1,4 +1,4 @@
--- `board::lent::load` meets its contract: a walk of its MIR by hand, with a branch, each arm of which calls `fill` and returns. The slice's type is
+-- `lending::lent::load` meets its contract: a walk of its MIR by hand, with a branch, each arm of which calls `fill` and returns. The slice's type is
 -- Copy: `fill` is passed one copy, at its own lifetime, share and name, and the other is kept for the exit.
 use mathlib.Core.Path.{_≡_, refl, sym, _∙_, ap}
 use mathlib.Core.Bool.{Bool}
@@ -43,21 +43,21 @@ use denote.Triple.Spec.{Meets, tripleOf}
 use denote.Triple.Table.{entered, cited}
 use denote.Triple.Walked.{says, Stays, stay-none-slice, walkOf, goes-none-slice, Walks, ends-at, walked, walk-meets}
 use denote.Exit.{yes}
 use Rattle.board.specs.declared.Row.{Row}
 use Rattle.board.specs.Rows.{boardOf}
 use Rattle.board.specs.inside.ByValue.{filled}
-use Rattle.board.proofs.Thin.{shared-rows, lent-as, slice-val}
+use Rattle.lending.proofs.Thin.{shared-rows, lent-as, slice-val}
 use Rattle.board.proofs.Row as T
 use Rattle.board.proofs.Row.Laws as T′
-use Rattle.board.proofs.lent.fill as fill′
-use Rattle.board.proofs.lent.fill.Symbol as fill-def
-use Rattle.board.proofs.lent.fill.Symbol.{name as #fill}
-use Rattle.board.proofs.lent.fill.Met as fill-thm
-use Rattle.board.proofs.lent.load.Key.{name as #call}
-use Rattle.board.proofs.lent.load as call
-use Rattle.board.proofs.lent.load.Statement as stated
-use Rattle.board.proofs.lent.load.Code as code
-use Rattle.board.proofs.lent.load.Code.Mir as body
+use Rattle.lending.proofs.lent.fill as fill′
+use Rattle.lending.proofs.lent.fill.Symbol as fill-def
+use Rattle.lending.proofs.lent.fill.Symbol.{name as #fill}
+use Rattle.lending.proofs.lent.fill.Met as fill-thm
+use Rattle.lending.proofs.lent.load.Key.{name as #call}
+use Rattle.lending.proofs.lent.load as call
+use Rattle.lending.proofs.lent.load.Statement as stated
+use Rattle.lending.proofs.lent.load.Code as code
+use Rattle.lending.proofs.lent.load.Code.Mir as body
 
 -- the array of 30 rows, and its MIR type
 abbrev Thirty : RattleType
@@ -195,4 +195,4 @@ load-spec 𝓤 H 𝓜 𝓖 𝓡 =
     entered 𝓤 H (tripleOf 𝓤 H (𝓖 .A) call.signature (call.spec 𝓤 H (𝓖 .A) (𝓜 .mem) (𝓡 .run)))
     (tables 𝓤 H 𝓜 𝓡 code.env .C) (tables 𝓤 H 𝓜 𝓡 code.env .Λ) #call code.function (code.unfolded 𝓤 H 𝓜 𝓡)
     (call-meets 𝓤 H (𝓖 .A) (givenOf 𝓤 H 𝓜 𝓖) (𝓜 .mem) (𝓡 .run) (tablesOf 𝓤 H 𝓜 (tables 𝓤 H 𝓜 𝓡 code.env))
-    (cited 𝓤 H (Fill 𝓤 H (𝓖 .A) (𝓜 .mem) (𝓡 .run)) 𝓜 𝓡 code.env #fill fill-def.routine code.calls-board·lent·fill (fill-thm.met 𝓤 H 𝓜 𝓖 𝓡)))
+    (cited 𝓤 H (Fill 𝓤 H (𝓖 .A) (𝓜 .mem) (𝓡 .run)) 𝓜 𝓡 code.env #fill fill-def.routine code.calls-lending·lent·fill (fill-thm.met 𝓤 H 𝓜 𝓖 𝓡)))

@@ -1,4 +1,4 @@
--- `board::lent::fill` meets its contract: a walk of its MIR by hand, with a loop. The local array is taken apart into its rows. Each turn reads one
+-- `lending::lent::fill` meets its contract: a walk of its MIR by hand, with a loop. The local array is taken apart into its rows. Each turn reads one
 -- row through the slice and stores it in the array's row of that place, so that the first i of both are equal, and the rows behind them are still
 -- the free ones; after the loop the array is one value again. The slice's type is Copy: of what it owns one copy is kept whole for the exit, and
 -- of the other the fractured borrow, which each turn looks into and shuts.
@@ -51,21 +51,21 @@ use denote.Triple.Table.{entered, cited}
 use denote.Triple.Walked.{says, needs, Stays, stay-none, stay-none-slice, walkOf, goes-none, goes-none-slice, Walks, ends-at, walked, walk-meets}
 use denote.Exit.{yes}
 use borrow.Author.Tests.{ltb-true, ltb-false}
 use Rattle.board.specs.declared.Row.{Row}
 use Rattle.board.specs.Row.{freeRow}
 use Rattle.board.specs.inside.ByValue.{filled}
 use Rattle.board.proofs.LentRows.{rowBytes, lies, copied, behind, filled-by}
 use Rattle.board.proofs.Row as T
 use Rattle.board.proofs.Row.Laws as T′
 use Rattle.board.proofs.rows.free_rows as free
 use Rattle.board.proofs.rows.free_rows.Symbol as free-def
 use Rattle.board.proofs.rows.free_rows.Symbol.{name as #free}
 use Rattle.board.proofs.rows.free_rows.Met as free-thm
-use Rattle.board.proofs.lent.fill.Key.{name as #fill}
-use Rattle.board.proofs.lent.fill as fill′
-use Rattle.board.proofs.lent.fill.Statement as stated
-use Rattle.board.proofs.lent.fill.Code as code
-use Rattle.board.proofs.lent.fill.Code.Mir as body
+use Rattle.lending.proofs.lent.fill.Key.{name as #fill}
+use Rattle.lending.proofs.lent.fill as fill′
+use Rattle.lending.proofs.lent.fill.Statement as stated
+use Rattle.lending.proofs.lent.fill.Code as code
+use Rattle.lending.proofs.lent.fill.Code.Mir as body
 
 abbrev vals : Row → List Val
 vals = LL.vals T.the-type T′.the-laws

@@ -1,4 +1,4 @@
--- `board::sisal_board_remove` meets its contract: a walk of its MIR by hand. The rows are lent to `find` as a `&[Row]` and had back (`LendShared`), `remove` works on what
+-- `lending::sisal_board_remove` meets its contract: a walk of its MIR by hand. The rows are lent to `find` as a `&[Row]` and had back (`LendShared`), `remove` works on what
 -- was found, and `put`, which is passed the borrow itself, makes the change and answers its number. What the three say together is
 -- the call's outcome by `Settled`. The machine values of what was found and of the change are rewritten to the ones that their types spell.
 use mathlib.Core.Path.{_≡_, refl, ap, subst}
@@ -39,37 +39,38 @@ use denote.Triple.Spec.{Meets, tripleOf}
 use denote.Triple.Table.{entered, cited}
 use denote.Triple.Walked.{says, Stays, stay-none, gave-slice, walkOf, goes-none, goes-gave-slice, Walks, ends-at, walked, walk-meets}
 use denote.Exit.{yes}
 use Rattle.board.specs.declared.Row.{Row}
 use Rattle.board.specs.declared.value.Found.{Found}
 use Rattle.board.specs.declared.value.Change.{Change}
 use Rattle.board.specs.Rows.{boardOf}
 use Rattle.board.specs.Calls.{Removes}
 use Rattle.board.specs.inside.ByValue.{Bounded, Finds, moved, RemovesOn}
-use Rattle.board.proofs.LendShared.{Kept, lends, has-back}
-use Rattle.board.proofs.Settled.{within, settles}
-use Rattle.board.proofs.Thin.{found-val, change-val, shared-rows, mut-rows, Find, Put, find-says, lent-as, slice-val, to-find, goes-find, to-put, goes-put, Stored}
+use Rattle.lending.proofs.LendShared.{Kept, lends, has-back}
+use Rattle.lending.proofs.Settled.{within, settles}
+use Rattle.lending.proofs.Thin.{shared-rows, mut-rows, lent-as, slice-val}
+use Rattle.lending.proofs.Callees.{found-val, change-val, Find, Put, find-says, to-find, goes-find, to-put, goes-put, Stored}
 use Rattle.board.proofs.Row as T
 use Rattle.board.proofs.value.Found as F
 use Rattle.board.proofs.value.Found.Laws as F′
 use Rattle.board.proofs.value.Change as D
 use Rattle.board.proofs.value.Change.Laws as D′
-use Rattle.board.proofs.lent.find as find′
-use Rattle.board.proofs.lent.find.Symbol as find-def
-use Rattle.board.proofs.lent.find.Symbol.{name as #find}
-use Rattle.board.proofs.lent.find.Met as find-thm
+use Rattle.lending.proofs.lent.find as find′
+use Rattle.lending.proofs.lent.find.Symbol as find-def
+use Rattle.lending.proofs.lent.find.Symbol.{name as #find}
+use Rattle.lending.proofs.lent.find.Met as find-thm
 use Rattle.board.proofs.value.remove as core
 use Rattle.board.proofs.value.remove.Symbol as core-def
 use Rattle.board.proofs.value.remove.Symbol.{name as #core}
 use Rattle.board.proofs.value.remove.Met as core-thm
-use Rattle.board.proofs.lent.put as put′
-use Rattle.board.proofs.lent.put.Symbol as put-def
-use Rattle.board.proofs.lent.put.Symbol.{name as #put}
-use Rattle.board.proofs.lent.put.Met as put-thm
-use Rattle.board.proofs.sisal_board_remove.Key.{name as #call}
-use Rattle.board.proofs.sisal_board_remove as call
-use Rattle.board.proofs.sisal_board_remove.Statement as stated
-use Rattle.board.proofs.sisal_board_remove.Code as code
-use Rattle.board.proofs.sisal_board_remove.Code.Mir as body
+use Rattle.lending.proofs.lent.put as put′
+use Rattle.lending.proofs.lent.put.Symbol as put-def
+use Rattle.lending.proofs.lent.put.Symbol.{name as #put}
+use Rattle.lending.proofs.lent.put.Met as put-thm
+use Rattle.lending.proofs.sisal_board_remove.Key.{name as #call}
+use Rattle.lending.proofs.sisal_board_remove as call
+use Rattle.lending.proofs.sisal_board_remove.Statement as stated
+use Rattle.lending.proofs.sisal_board_remove.Code as code
+use Rattle.lending.proofs.sisal_board_remove.Code.Mir as body
 
 abbrev stayed : Stays (call.ended .signature .params) (call.ended .kept)
 stayed = (gave-slice (0 ∷ []) tt (plain (λ _. T.the-row)), (stay-none (λ _. u16) yes, tt))
@@ -198,6 +199,6 @@ sisal-board-remove-spec 𝓤 H 𝓜 𝓖 𝓡 =
     entered 𝓤 H (tripleOf 𝓤 H (𝓖 .A) call.signature (call.spec 𝓤 H (𝓖 .A) (𝓜 .mem) (𝓡 .run)))
     (tables 𝓤 H 𝓜 𝓡 code.env .C) (tables 𝓤 H 𝓜 𝓡 code.env .Λ) #call code.function (code.unfolded 𝓤 H 𝓜 𝓡)
     (call-meets 𝓤 H (𝓖 .A) (givenOf 𝓤 H 𝓜 𝓖) (𝓜 .mem) (𝓡 .run) (tablesOf 𝓤 H 𝓜 (tables 𝓤 H 𝓜 𝓡 code.env))
-    (cited 𝓤 H (Find 𝓤 H (𝓖 .A) (𝓜 .mem) (𝓡 .run)) 𝓜 𝓡 code.env #find find-def.routine code.calls-board·lent·find (find-thm.met 𝓤 H 𝓜 𝓖 𝓡))
+    (cited 𝓤 H (Find 𝓤 H (𝓖 .A) (𝓜 .mem) (𝓡 .run)) 𝓜 𝓡 code.env #find find-def.routine code.calls-lending·lent·find (find-thm.met 𝓤 H 𝓜 𝓖 𝓡))
     (cited 𝓤 H (Core 𝓤 H (𝓖 .A) (𝓜 .mem) (𝓡 .run)) 𝓜 𝓡 code.env #core core-def.routine code.calls-board·value·remove (core-thm.met 𝓤 H 𝓜 𝓖 𝓡))
-    (cited 𝓤 H (Put 𝓤 H (𝓖 .A) (𝓜 .mem) (𝓡 .run)) 𝓜 𝓡 code.env #put put-def.routine code.calls-board·lent·put (put-thm.met 𝓤 H 𝓜 𝓖 𝓡)))
+    (cited 𝓤 H (Put 𝓤 H (𝓖 .A) (𝓜 .mem) (𝓡 .run)) 𝓜 𝓡 code.env #put put-def.routine code.calls-lending·lent·put (put-thm.met 𝓤 H 𝓜 𝓖 𝓡)))

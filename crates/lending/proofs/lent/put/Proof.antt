@@ -1,4 +1,4 @@
--- `board::lent::put` meets its contract: a walk of its MIR by hand, with a loop. The borrow stays open through the loop. Each turn takes out the row of
+-- `lending::lent::put` meets its contract: a walk of its MIR by hand, with a loop. The borrow stays open through the loop. Each turn takes out the row of
 -- one place, copies it, stores the row that came, and carries the copied one on, so that what is still to be carried over the rows as they
 -- stand is what the change makes of the rows as they were. After the loop nothing is left to carry, the borrow is closed over the rows, and the
 -- change's number is answered.
@@ -46,21 +46,21 @@ use denote.Triple.Table.{entered}
 use denote.Triple.Walked.{says, needs, Stays, stay-none, stay-slice, walkOf, goes-none, goes-slice, Walks, ends-at, walked, walk-meets}
 use denote.Exit.{yes}
 use borrow.Author.Tests.{ltb-true, ltb-false}
 use Rattle.board.specs.declared.Row.{Row}
 use Rattle.board.specs.declared.value.Change.{Change}
 use Rattle.board.specs.Row.{freeRow}
 use Rattle.board.specs.inside.ByValue.{carry, moved, Within, FitsIn}
 use Rattle.board.proofs.Carried.{carry-none, carry-more, within-turn, within-at}
 use Rattle.board.proofs.LentRows.{rowBytes, lies}
 use Rattle.board.proofs.Row as T
 use Rattle.board.proofs.Row.Laws as T′
 use Rattle.board.proofs.value.Change as D
 use Rattle.board.proofs.value.Change.Laws as D′
-use Rattle.board.proofs.lent.put.Key.{name as #put}
-use Rattle.board.proofs.lent.put as put
-use Rattle.board.proofs.lent.put.Statement as stated
-use Rattle.board.proofs.lent.put.Code as code
-use Rattle.board.proofs.lent.put.Code.Mir as body
+use Rattle.lending.proofs.lent.put.Key.{name as #put}
+use Rattle.lending.proofs.lent.put as put
+use Rattle.lending.proofs.lent.put.Statement as stated
+use Rattle.lending.proofs.lent.put.Code as code
+use Rattle.lending.proofs.lent.put.Code.Mir as body
 
 abbrev vals : Row → List Val
 vals = LL.vals T.the-type T′.the-laws

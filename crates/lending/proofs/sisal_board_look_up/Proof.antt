@@ -1,4 +1,4 @@
--- `board::sisal_board_look_up` meets its contract: a walk of its MIR by hand. The slice's type is Copy: `find` is passed one copy, at its own lifetime,
+-- `lending::sisal_board_look_up` meets its contract: a walk of its MIR by hand. The slice's type is Copy: `find` is passed one copy, at its own lifetime,
 -- share and name, and the other is kept for the exit; `look` then works on what was found.
 use mathlib.Core.Path.{refl, ap, subst}
 use Prim.Native.Nat.{ℕ, _<_, _^_}
@@ -36,31 +36,32 @@ use denote.Triple.Spec.{Meets, tripleOf}
 use denote.Triple.Table.{entered, cited}
 use denote.Triple.Walked.{says, Stays, stay-none, stay-none-slice, walkOf, goes-none, goes-none-slice, Walks, ends-at, walked, walk-meets}
 use denote.Exit.{yes}
 use Rattle.board.specs.declared.Row.{Row}
 use Rattle.board.specs.declared.Looked.{Looked}
 use Rattle.board.specs.declared.value.Found.{Found}
 use Rattle.board.specs.Rows.{boardOf}
 use Rattle.board.specs.Calls.{LooksUp}
 use Rattle.board.specs.inside.ByValue.{Finds, LooksOn}
-use Rattle.board.proofs.Thin.{found-val, shared-rows, Find, find-says, lent-as, slice-val, to-find, goes-find}
+use Rattle.lending.proofs.Thin.{shared-rows, lent-as, slice-val}
+use Rattle.lending.proofs.Callees.{found-val, Find, find-says, to-find, goes-find}
 use Rattle.board.proofs.Row as T
 use Rattle.board.proofs.Looked as K
 use Rattle.board.proofs.Looked.Laws as K′
 use Rattle.board.proofs.value.Found as F
 use Rattle.board.proofs.value.Found.Laws as F′
-use Rattle.board.proofs.lent.find as find′
-use Rattle.board.proofs.lent.find.Symbol as find-def
-use Rattle.board.proofs.lent.find.Symbol.{name as #find}
-use Rattle.board.proofs.lent.find.Met as find-thm
+use Rattle.lending.proofs.lent.find as find′
+use Rattle.lending.proofs.lent.find.Symbol as find-def
+use Rattle.lending.proofs.lent.find.Symbol.{name as #find}
+use Rattle.lending.proofs.lent.find.Met as find-thm
 use Rattle.board.proofs.value.look as core
 use Rattle.board.proofs.value.look.Symbol as core-def
 use Rattle.board.proofs.value.look.Symbol.{name as #core}
 use Rattle.board.proofs.value.look.Met as core-thm
-use Rattle.board.proofs.sisal_board_look_up.Key.{name as #call}
-use Rattle.board.proofs.sisal_board_look_up as call
-use Rattle.board.proofs.sisal_board_look_up.Statement as stated
-use Rattle.board.proofs.sisal_board_look_up.Code as code
-use Rattle.board.proofs.sisal_board_look_up.Code.Mir as body
+use Rattle.lending.proofs.sisal_board_look_up.Key.{name as #call}
+use Rattle.lending.proofs.sisal_board_look_up as call
+use Rattle.lending.proofs.sisal_board_look_up.Statement as stated
+use Rattle.lending.proofs.sisal_board_look_up.Code as code
+use Rattle.lending.proofs.sisal_board_look_up.Code.Mir as body
 
 abbrev stayed : Stays (call.ended .signature .params) (call.ended .kept)
 stayed = (stay-none-slice (0 ∷ []) tt (plain (λ _. T.the-row)) yes, (stay-none (λ _. u16) yes, tt))
@@ -164,5 +165,5 @@ sisal-board-look-up-spec 𝓤 H 𝓜 𝓖 𝓡 =
     entered 𝓤 H (tripleOf 𝓤 H (𝓖 .A) call.signature (call.spec 𝓤 H (𝓖 .A) (𝓜 .mem) (𝓡 .run)))
     (tables 𝓤 H 𝓜 𝓡 code.env .C) (tables 𝓤 H 𝓜 𝓡 code.env .Λ) #call code.function (code.unfolded 𝓤 H 𝓜 𝓡)
     (call-meets 𝓤 H (𝓖 .A) (givenOf 𝓤 H 𝓜 𝓖) (𝓜 .mem) (𝓡 .run) (tablesOf 𝓤 H 𝓜 (tables 𝓤 H 𝓜 𝓡 code.env))
-    (cited 𝓤 H (Find 𝓤 H (𝓖 .A) (𝓜 .mem) (𝓡 .run)) 𝓜 𝓡 code.env #find find-def.routine code.calls-board·lent·find (find-thm.met 𝓤 H 𝓜 𝓖 𝓡))
+    (cited 𝓤 H (Find 𝓤 H (𝓖 .A) (𝓜 .mem) (𝓡 .run)) 𝓜 𝓡 code.env #find find-def.routine code.calls-lending·lent·find (find-thm.met 𝓤 H 𝓜 𝓖 𝓡))
     (cited 𝓤 H (Core 𝓤 H (𝓖 .A) (𝓜 .mem) (𝓡 .run)) 𝓜 𝓡 code.env #core core-def.routine code.calls-board·value·look (core-thm.met 𝓤 H 𝓜 𝓖 𝓡)))

@@ -1,4 +1,4 @@
--- `board::sisal_board_poll` meets its contract: a walk of its MIR by hand. `find` is passed one copy of the rows' slice, whose type is Copy, and the other is kept for the
+-- `lending::sisal_board_poll` meets its contract: a walk of its MIR by hand. `find` is passed one copy of the rows' slice, whose type is Copy, and the other is kept for the
 -- exit; `may_poll` works on what was found; `write_or` is passed the borrow of the output itself and answers the number. What the three say together is
 -- the call's outcome by `Polling`. The machine values of what was found and of the number are rewritten to the ones that their types spell.
 use mathlib.Core.Path.{_≡_, refl, ap, subst}
@@ -38,33 +38,34 @@ use denote.Triple.Spec.{Meets, tripleOf}
 use denote.Triple.Table.{entered, cited}
 use denote.Triple.Walked.{says, Stays, stay-none, stay-none-slice, gave-slice, walkOf, goes-none, goes-none-slice, goes-gave-slice, Walks, ends-at, walked, walk-meets}
 use denote.Exit.{yes}
 use Rattle.board.specs.declared.Row.{Row}
 use Rattle.board.specs.declared.value.Found.{Found}
 use Rattle.board.specs.Rows.{boardOf}
 use Rattle.board.specs.Calls.{PollsRow}
 use Rattle.board.specs.inside.ByValue.{Finds, MayPollOn, WritesOr}
 use Rattle.board.proofs.Polling.{polls-row}
-use Rattle.board.proofs.Thin.{found-val, shared-rows, Find, find-says, lent-as, slice-val, to-find, goes-find}
+use Rattle.lending.proofs.Thin.{shared-rows, lent-as, slice-val}
+use Rattle.lending.proofs.Callees.{found-val, Find, find-says, to-find, goes-find}
 use Rattle.board.proofs.Row as T
 use Rattle.board.proofs.value.Found as F
 use Rattle.board.proofs.value.Found.Laws as F′
-use Rattle.board.proofs.lent.find as find′
-use Rattle.board.proofs.lent.find.Symbol as find-def
-use Rattle.board.proofs.lent.find.Symbol.{name as #find}
-use Rattle.board.proofs.lent.find.Met as find-thm
+use Rattle.lending.proofs.lent.find as find′
+use Rattle.lending.proofs.lent.find.Symbol as find-def
+use Rattle.lending.proofs.lent.find.Symbol.{name as #find}
+use Rattle.lending.proofs.lent.find.Met as find-thm
 use Rattle.board.proofs.value.may_poll as core
 use Rattle.board.proofs.value.may_poll.Symbol as core-def
 use Rattle.board.proofs.value.may_poll.Symbol.{name as #core}
 use Rattle.board.proofs.value.may_poll.Met as core-thm
 use Rattle.board.proofs.value.write_or as write′
 use Rattle.board.proofs.value.write_or.Symbol as write-def
 use Rattle.board.proofs.value.write_or.Symbol.{name as #write}
 use Rattle.board.proofs.value.write_or.Met as write-thm
-use Rattle.board.proofs.sisal_board_poll.Key.{name as #call}
-use Rattle.board.proofs.sisal_board_poll as call
-use Rattle.board.proofs.sisal_board_poll.Statement as stated
-use Rattle.board.proofs.sisal_board_poll.Code as code
-use Rattle.board.proofs.sisal_board_poll.Code.Mir as body
+use Rattle.lending.proofs.sisal_board_poll.Key.{name as #call}
+use Rattle.lending.proofs.sisal_board_poll as call
+use Rattle.lending.proofs.sisal_board_poll.Statement as stated
+use Rattle.lending.proofs.sisal_board_poll.Code as code
+use Rattle.lending.proofs.sisal_board_poll.Code.Mir as body
 
 abbrev stayed : Stays (call.ended .signature .params) (call.ended .kept)
 stayed = (stay-none-slice (0 ∷ []) tt (plain (λ _. T.the-row)) yes, (stay-none (λ _. u16) yes, (stay-none (λ _. u8) yes, (stay-none (λ _. u8) yes, (gave-slice (1 ∷ []) tt (plain (λ _. u8)), tt)))))
@@ -232,6 +233,6 @@ sisal-board-poll-spec 𝓤 H 𝓜 𝓖 𝓡 =
     entered 𝓤 H (tripleOf 𝓤 H (𝓖 .A) call.signature (call.spec 𝓤 H (𝓖 .A) (𝓜 .mem) (𝓡 .run)))
     (tables 𝓤 H 𝓜 𝓡 code.env .C) (tables 𝓤 H 𝓜 𝓡 code.env .Λ) #call code.function (code.unfolded 𝓤 H 𝓜 𝓡)
     (call-meets 𝓤 H (𝓖 .A) (givenOf 𝓤 H 𝓜 𝓖) (𝓜 .mem) (𝓡 .run) (tablesOf 𝓤 H 𝓜 (tables 𝓤 H 𝓜 𝓡 code.env))
-    (cited 𝓤 H (Find 𝓤 H (𝓖 .A) (𝓜 .mem) (𝓡 .run)) 𝓜 𝓡 code.env #find find-def.routine code.calls-board·lent·find (find-thm.met 𝓤 H 𝓜 𝓖 𝓡))
+    (cited 𝓤 H (Find 𝓤 H (𝓖 .A) (𝓜 .mem) (𝓡 .run)) 𝓜 𝓡 code.env #find find-def.routine code.calls-lending·lent·find (find-thm.met 𝓤 H 𝓜 𝓖 𝓡))
     (cited 𝓤 H (Core 𝓤 H (𝓖 .A) (𝓜 .mem) (𝓡 .run)) 𝓜 𝓡 code.env #core core-def.routine code.calls-board·value·may-poll (core-thm.met 𝓤 H 𝓜 𝓖 𝓡))
     (cited 𝓤 H (Write 𝓤 H (𝓖 .A) (𝓜 .mem) (𝓡 .run)) 𝓜 𝓡 code.env #write write-def.routine code.calls-board·value·write-or (write-thm.met 𝓤 H 𝓜 𝓖 𝓡)))

@@ -2,13 +2,13 @@
 ghost use mathlib.Core.Path.{_≡_};
 ghost use Prim.Native.Nat.{_≤_};
 ghost use lib.ListN.{length, take};
 ghost use Rattle.board.specs.Rows.{boardOf};
 ghost use Rattle.board.specs.inside.ByValue.{filled, Finds, FitsIn, moved};
-use crate::Row;
-use crate::rows;
-use crate::value;
-use crate::value::Change;
-use crate::value::Found;
+use board::Row;
+use board::rows;
+use board::value;
+use board::value::Change;
+use board::value::Found;
 
 // The first n rows by value, and free ones behind them. Each is stored straight into its place.
 fn fill(rows: &[Row], n: usize) -> [Row; 30]
