@@ -8,10 +8,10 @@ use lib.Seq.{drop-append-seam, take-append-seam}
 use Rattle.drawing.specs.declared.Done.{Done}
 use Rattle.drawing.specs.Pulses.{drawing}
 use Rattle.drawing.specs.Calls.{portion, Draws}
+use Rattle.drawing.proofs.Rest.{drawing-long}
 use Rattle.promises_drawing.specs.Sending.{Sending, begun, called}
 use Rattle.promises_drawing.specs.Batches.{DrawBatches}
 use Rattle.promises_drawing.proofs.Answered.{Answer, refused, drew, answered, put}
-use Rattle.promises_drawing.proofs.Places.{drawing-long}
 
 no-length : (l : List ℕ) → length l ≡ 0 → l ≡ []
 no-length [] e = refl

@@ -25,7 +25,7 @@ use Rattle.promises_lines.proofs.Streams.{tells, ends}
 use Rattle.promises_lines.proofs.Form.{form}
 use Rattle.promises_lines.proofs.Messages.{bits-long, same-bytes, handed-bytes, handed-bits}
 use Rattle.promises_drawing.specs.Heard.{Spoken, DrawnAndHeard}
-use Rattle.promises_drawing.proofs.Places.{bits-are, drawing-long}
+use Rattle.promises_drawing.proofs.Places.{bits-are}
 use Rattle.promises_drawing.proofs.Pulses.{Bits, are-bits, samples, a, its-call, tells-some, takes-all, long, front, calls}
 use Rattle.promises_drawing.proofs.Closing as closing
 use Rattle.promises_drawing.proofs.Batches.{whole-by-length}

@@ -1,23 +1,19 @@
--- A drawing by places: its bits are the document's, it has so many samples to a bit, and each of them is found by dividing its number.
-use mathlib.Core.Path.{_≡_, refl, sym, ap, ap₂, _∙_}
-use mathlib.Core.List.{List, [], _∷_, _++_}
+-- A drawing by places: its bits are the document's, and each sample is found by dividing its number.
+use mathlib.Core.Path.{_≡_, sym, ap, _∙_}
+use mathlib.Core.List.{List}
 use Prim.Native.Nat.{ℕ, zero, suc, _+_, _-_, _*_, _/_, _%_, _^_, _<_, _≤_}
 use native.Mathlib.Omega.{arith}
 use native.Mathlib.Nat.{add-zero, zero-add, mul-zero, mod-lt, div-lt-iff-lt-mul}
-use lib.ListN.{length, getD, drop, replicate, length-append, length-replicate, length-drop, getD-replicate, List·getD-append}
+use lib.ListN.{length, getD, drop, replicate, length-replicate, length-drop, getD-replicate, List·getD-append}
 use lib.Seq.{ext-getD, getD-drop, getD-append-add}
-use Rattle.drawing.specs.Pulses.{lineOf, bitAfter, bitsAfter, drawn, drawing}
-use Rattle.drawing.proofs.Rest.{one, one-long, bit-first, restOf, from-sample, next-bit}
+use Rattle.drawing.specs.Pulses.{lineOf, bitAfter, bitsAfter, drawing}
+use Rattle.drawing.proofs.Rest.{one, one-long, bits-after-long, restOf, from-sample, next-bit}
+pub use Rattle.drawing.proofs.Rest.{drawing-long}
 use Rattle.promises_frame.specs.Bits.{bitAt}
 use Rattle.promises_lines.specs.History.{bitsOf}
 use Rattle.promises_lines.proofs.Messages.{bits-long, bit-in}
 
 -- The bits.
-bits-after-long : (before count : ℕ) (m : List ℕ) → length (bitsAfter before count m) ≡ count
-unfolding bitsAfter
-bits-after-long before zero m = refl
-bits-after-long before (suc count) m = ap suc (bits-after-long (suc before) count m)
-
 bit-after-in : (before count : ℕ) (m : List ℕ) (j : ℕ) → j < count → getD (bitsAfter before count m) j 0 ≡ bitAfter m (before + j)
 unfolding bitsAfter
 bit-after-in before zero m j h = absurd (omega arith)
@@ -39,17 +35,6 @@ bits-are count m =
     let less : i < count = omega (arith, bits-after-long 0 count m) in
     let next : i + 1 ≡ suc i = omega arith in
     bit-after-in 0 count m i less ∙ ap (bitAfter m) (zero-add i) ∙ bit-at m i ∙ ap (bitAt m) next ∙ sym (bit-in count m i less))
-
--- The samples.
-drawn-long : (low still : ℕ) (bits : List ℕ) → length (drawn low still bits) ≡ length bits * (low + still)
-unfolding drawn
-drawn-long low still [] = omega arith
-drawn-long low still (b ∷ bits) =
-    ap length (bit-first low still b bits) ∙ length-append (one low still b) (drawn low still bits)
-    ∙ omega (arith, one-long low still b, drawn-long low still bits)
-
-pub drawing-long : (low still count : ℕ) (m : List ℕ) → length (drawing low still count m) ≡ count * (low + still)
-drawing-long low still count m = drawn-long low still (bitsAfter 0 count m) ∙ ap (λ (n : ℕ). n * (low + still)) (bits-after-long 0 count m)
 
 -- Within a bit.
 pub in-pulse : (low still bit p d : ℕ) → p < low → getD (one low still bit) p d ≡ lineOf bit

@@ -9,9 +9,10 @@ use lib.Seq.{getD-take, getD-drop}
 use Rattle.drawing.specs.declared.Done.{Done}
 use Rattle.drawing.specs.Pulses.{lineOf, bitAfter, drawing}
 use Rattle.drawing.specs.Calls.{portion, Draws}
+use Rattle.drawing.proofs.Rest.{drawing-long}
 use Rattle.promises_drawing.specs.Samples.{IsSample, EachSample}
 use Rattle.promises_drawing.proofs.Answered.{put, counted}
-use Rattle.promises_drawing.proofs.Places.{bit-at, drawing-long, in-pulse, in-idle, some-size, sample-in}
+use Rattle.promises_drawing.proofs.Places.{bit-at, in-pulse, in-idle, some-size, sample-in}
 use Rattle.promises_drawing.proofs.Batches.{begins-so}
 
 -- A sample of the drawing.
