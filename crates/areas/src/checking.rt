@@ -5,31 +5,30 @@ ghost use lib.ListN.{length};
 ghost use Rattle.areas.specs.Site.{feet, tenths, total, isArea};
 ghost use Rattle.areas.specs.Check.{keeps};
 
-// The feet of at most 30 transmitters.
-fn all_feet(part: &[u32]) -> u32
-    requires { ⌜ length (now part) ≤ 30 ⌝ }
-    ensures { λ r. ⌜ r ≡ total feet (now (part .entry)) ⌝ }
-{
-    let mut sum: u32 = 0;
-    let mut i = 0;
-    while i < part.len() {
-        sum = sum + part[i] / 65536;
-        i += 1;
-    }
-    sum
+// What an area's limits are asked of: the feet and the tenths of an ohm of all its transmitters.
+struct Sums {
+    feet: u32,
+    tenths: u32,
 }
 
-fn all_tenths(part: &[u32]) -> u32
+// The sums of at most 30 transmitters.
+fn totals(part: &[u32]) -> Sums
     requires { ⌜ length (now part) ≤ 30 ⌝ }
-    ensures { λ r. ⌜ r ≡ total tenths (now (part .entry)) ⌝ }
+    ensures { λ r. ⌜ (r .feet ≡ total feet (now (part .entry))) × (r .tenths ≡ total tenths (now (part .entry))) ⌝ }
 {
-    let mut sum: u32 = 0;
+    let mut far: u32 = 0;
+    let mut ohms: u32 = 0;
     let mut i = 0;
     while i < part.len() {
-        sum = sum + part[i] % 65536;
+        let t = part[i];
+        far = far + t / 65536;
+        ohms = ohms + t % 65536;
         i += 1;
     }
-    sum
+    Sums {
+        feet: far,
+        tenths: ohms,
+    }
 }
 
 fn is_area(part: &[u32]) -> bool
@@ -41,10 +40,11 @@ fn is_area(part: &[u32]) -> bool
     if 30 < part.len() {
         return false;
     }
-    if 10000 < all_feet(part) {
+    let sums = totals(part);
+    if 10000 < sums.feet {
         return false;
     }
-    all_tenths(part) <= 500
+    sums.tenths <= 500
 }
 
 fn wide(byte: u8) -> usize

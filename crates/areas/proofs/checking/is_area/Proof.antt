@@ -16,28 +16,25 @@ returns-2 : tie.Need-returns-2
 returns-2 c =
     sym (area-by (c .before .before .before .args .part .now) true false _ _ (le-leb _ _ (c .before .if1 .left)) (lt-leb _ _ (c .if2 .taken)) refl refl)
 
-all-feet-requires : tie.Need-all-feet-requires
-all-feet-requires c κs = search needs
+totals-requires : tie.Need-totals-requires
+totals-requires c κs = search needs
 
 returns-3 : tie.Need-returns-3
 returns-3 c =
-    let far = ap (λ (n : ℕ). leb n 10000) (c .before .all-feet .ensures) in
+    let t = c .before .before in
+    let far = ap (λ (n : ℕ). leb n 10000) (t .totals .ensures .0) in
     sym
-    (area-by (c .before .before .before .before .before .args .part .now) true true false _ (le-leb _ _ (c .before .before .before .if1 .left)) (le-leb _ _ (c .before .before .if2 .left))
+    (area-by (t .before .before .before .before .args .part .now) true true false _ (le-leb _ _ (t .before .before .if1 .left)) (le-leb _ _ (t .before .if2 .left))
     (sym far ∙ lt-leb _ _ (c .if3 .taken)) refl)
-
-all-tenths-requires : tie.Need-all-tenths-requires
-all-tenths-requires c κs = search needs
 
 returns-4 : tie.Need-returns-4
 returns-4 c =
-    let far = ap (λ (n : ℕ). leb n 10000) (c .before .before .all-feet .ensures) in
-    let ohms = ap (λ (n : ℕ). leb n 500) (c .all-tenths .ensures) in
+    let t = c .before .before .before in
+    let far = ap (λ (n : ℕ). leb n 10000) (t .totals .ensures .0) in
+    let ohms = ap (λ (n : ℕ). leb n 500) (t .totals .ensures .1) in
     sym
-    (area-by (c .before .before .before .before .before .before .args .part .now) true true true (leb (c .all-tenths .result) 500) (le-leb _ _ (c .before .before .before .before .if1 .left)) (le-leb _ _ (c .before .before .before .if2 .left))
+    (area-by (t .before .before .before .before .args .part .now) true true true (leb (t .totals .result .tenths) 500) (le-leb _ _ (t .before .before .if1 .left)) (le-leb _ _ (t .before .if2 .left))
     (sym far ∙ le-leb _ _ (c .before .if3 .left)) (sym ohms))
 
 pub is-area-spec : {M : Type 1} → statement M
-is-area-spec =
-    tie.close
-    (tie.spec returns returns-2 all-feet-requires returns-3 all-tenths-requires returns-4)
+is-area-spec = tie.close (tie.spec returns returns-2 totals-requires returns-3 returns-4)
