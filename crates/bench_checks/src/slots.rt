@@ -61,7 +61,7 @@ pub(crate) fn old_sheet(sheet: &mut [u8]) {
 fn listed(sheet: &[u8]) {
     let mut out = [0u8; 200];
     match listing::whole_listing(sheet, &mut out) {
-        Written::Bytes(k) => print::front(&out, k),
+        Written::Bytes(k) => print::words(print::first(&out, k)),
         Written::Refused(n) => shown::fault(n),
     }
 }

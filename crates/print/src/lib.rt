@@ -1,42 +1,46 @@
-// What the programs print with, on standard output: words, numbers, and bytes in hexadecimal.
+// What the programs print with, on standard output: words, numbers, and bytes as numbers or in hexadecimal; and the part of an array that is printed.
 use libc::STDOUT_FILENO;
 
 pub fn words(text: &[u8]) {
     io::write_all(STDOUT_FILENO, text);
 }
 
-// The first k bytes of a text, or all where there are fewer.
-pub fn front(text: &[u8], k: usize) {
-    if k <= text.len() {
-        words(&text[..k]);
-    } else {
-        words(text);
+// The first k bytes, or all where there are fewer.
+pub fn first(s: &[u8], k: usize) -> &[u8] {
+    if k <= s.len() {
+        return &s[..k];
     }
+    s
 }
 
 pub fn number(n: u64) {
     io::print_decimal(STDOUT_FILENO, n);
 }
 
-pub fn byte(b: u8) {
+fn one(b: u8, decimal: bool) {
     words(b" ");
-    io::print_hex(STDOUT_FILENO, b as u64, 2);
+    if decimal {
+        number(b as u64);
+    } else {
+        io::print_hex(STDOUT_FILENO, b as u64, 2);
+    }
 }
 
-// Bytes in hexadecimal, each after a space.
-pub fn bytes(s: &[u8]) {
+// Each byte after a space.
+fn each(s: &[u8], decimal: bool) {
     let mut i = 0;
     while i < s.len() {
-        byte(s[i]);
+        one(s[i], decimal);
         i += 1;
     }
 }
 
-// The first k of them, or all where there are fewer.
-pub fn front_bytes(s: &[u8], k: usize) {
-    if k <= s.len() {
-        bytes(&s[..k]);
-    } else {
-        bytes(s);
-    }
+// Bytes in hexadecimal.
+pub fn bytes(s: &[u8]) {
+    each(s, false);
+}
+
+// Bytes as numbers.
+pub fn numbers(s: &[u8]) {
+    each(s, true);
 }

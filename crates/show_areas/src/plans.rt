@@ -1,28 +1,10 @@
 // What the program shows: plans, and what the checker says of them.
-fn size(n: u8) {
-    print::words(b" ");
-    print::number(n as u64);
-}
-
-// The numbers of a plan, each after a space.
-pub(crate) fn bytes(s: &[u8]) {
-    let mut i = 0;
-    while i < s.len() {
-        size(s[i]);
-        i += 1;
-    }
-}
-
-// The first k of them, or all where there are fewer.
+// The first k numbers of a plan, each after a space.
 fn front(sizes: [u8; 8], k: usize) {
     if k == 0 {
         print::words(b" no areas");
     }
-    if k <= 8 {
-        bytes(&sizes[..k]);
-    } else {
-        bytes(&sizes);
-    }
+    print::numbers(print::first(&sizes, k));
 }
 
 fn fault(n: u8) {
@@ -46,9 +28,7 @@ pub(crate) fn plan(site: &[u32]) {
 }
 
 fn checked(site: &[u32], sizes: [u8; 8], k: usize) {
-    if k <= 8 {
-        verdict(areas::sisal_check_areas(site, &sizes[..k]));
-    }
+    verdict(areas::sisal_check_areas(site, print::first(&sizes, k)));
 }
 
 pub(crate) fn verdict(n: u8) {

@@ -44,7 +44,7 @@ pub(crate) fn alike() {
 
 fn draw(site: &[u32], plan: &[u8]) {
     print::words(b"[");
-    plans::bytes(plan);
+    print::numbers(plan);
     print::words(b" ]:");
     plans::verdict(areas::sisal_check_areas(site, plan));
     print::words(b"\n");

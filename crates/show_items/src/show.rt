@@ -21,7 +21,7 @@ fn kind(kind: u8) {
 
 // The first k characters of an item's data.
 fn data(characters: [u8; 16], k: usize) {
-    print::front(&characters, k);
+    print::words(print::first(&characters, k));
 }
 
 // What an accepted record tells, in words.
@@ -82,15 +82,9 @@ pub(crate) fn both_ways(
         return;
     }
     print::words(b"write");
-    print::front_bytes(&out, count);
+    print::bytes(print::first(&out, count));
     print::words(b"\n read");
-    read_front(&out, count);
-}
-
-fn read_front(out: &[u8], count: usize) {
-    if count <= out.len() {
-        answer(enraf::sisal_read_item(&out[..count]));
-    }
+    answer(enraf::sisal_read_item(print::first(&out, count)));
 }
 
 // An output of nine bytes is one too few for any record.

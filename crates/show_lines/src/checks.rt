@@ -23,10 +23,7 @@ fn front(
     samples: [u8; 356],
     size: usize,
 ) -> SoFar {
-    if size <= 356 {
-        return check(s, least, most, gap, &samples[..size]);
-    }
-    s
+    check(s, least, most, gap, print::first(&samples, size))
 }
 
 // The samples of a picture.
@@ -90,20 +87,11 @@ fn strange() {
     picture(s, 1, 3, 4, b"....");
 }
 
-// The bench's reply, 80 0E 50 00 00, with pulses and idle of 4 samples, and a gap of 40.
+// The bench's reply, with pulses and idle of 4 samples, and a gap of 40.
 fn reply() {
     let mut samples = [0u8; 356];
-    let line: u64 = 0x800e500000;
-    let mut at = 0;
-    for bit in 0..40u64 {
-        let of = if (line >> (39 - bit)) % 2 == 1 {
-            1u8
-        } else {
-            2u8
-        };
-        at = draw::bit(&mut samples, at, of, 4, 4);
-    }
-    front(draw::beginning(), 3, 5, 40, samples, 356);
+    drawing::sisal_draw(4, 4, 40, &[0x80, 0x0e, 0x50, 0, 0], 0, &mut samples);
+    check(draw::beginning(), 3, 5, 40, &samples);
 }
 
 pub(crate) fn all() {

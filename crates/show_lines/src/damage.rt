@@ -42,9 +42,7 @@ fn hear(samples: &[u8]) {
 
 // The first of the samples drawn.
 fn front(samples: [u8; 356], size: usize) {
-    if size <= 356 {
-        hear(&samples[..size]);
-    }
+    hear(print::first(&samples, size));
 }
 
 fn show(name: &[u8], letters: &[u8]) {

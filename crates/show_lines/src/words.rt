@@ -15,15 +15,7 @@ fn after(text: &[u8], n: u64) {
 // The bytes of a message.
 fn message(told: LinesTold) {
     let bytes = told.message;
-    let bits = told.count as usize;
-    let mut i = 0;
-    while i < 8 {
-        if bits <= 8 * i {
-            return;
-        }
-        print::byte(bytes[i]);
-        i += 1;
-    }
+    print::bytes(print::first(&bytes, (told.count as usize + 7) / 8));
 }
 
 // A message, a report, or nothing.

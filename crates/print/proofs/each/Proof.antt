@@ -1,24 +1,24 @@
--- `print::bytes` is safe and ends: the index stays within the bytes. Assumes nothing.
+-- `print::each` is safe and ends: the index stays within the bytes. Assumes nothing.
 use Prim.Native.Nat.{_≤_, _-_}
 use native.Mathlib.Omega.{arith}
 use lib.ListN.{length}
-use Rattle.print.proofs.bytes.Statement.{statement}
-use Rattle.print.proofs.bytes.Tie as tie
+use Rattle.print.proofs.each.Statement.{statement}
+use Rattle.print.proofs.each.Tie as tie
 
 abbrev Inv-loop : tie.InvT-loop
-Inv-loop s i₀ i = i ≤ length s
+Inv-loop s decimal i₀ i = i ≤ length s
 
 abbrev μ-loop : tie.MeasureT-loop
-μ-loop s i₀ i = length s - i
+μ-loop s decimal i₀ i = length s - i
 
 loop-holds : tie.Need-loop-holds Inv-loop μ-loop
 loop-holds c = omega arith
 
-shared-slice-read-byte : tie.Need-shared-slice-read-byte Inv-loop μ-loop
-shared-slice-read-byte c = omega arith
+shared-slice-read-one : tie.Need-shared-slice-read-one Inv-loop μ-loop
+shared-slice-read-one c = omega arith
 
-byte-requires : tie.Need-byte-requires Inv-loop μ-loop
-byte-requires c κs = tt
+one-requires : tie.Need-one-requires Inv-loop μ-loop
+one-requires c κs = tt
 
 add-i : tie.Need-add-i Inv-loop μ-loop
 add-i c = omega arith
@@ -32,15 +32,15 @@ loop-again c = omega arith
 returns : tie.Need-returns Inv-loop μ-loop
 returns c = tt
 
-pub bytes-spec : {M : Type 1} → statement M
-bytes-spec =
+pub each-spec : {M : Type 1} → statement M
+each-spec =
     tie.close
     (tie.spec
     Inv-loop
     μ-loop
     loop-holds
-    shared-slice-read-byte
-    byte-requires
+    shared-slice-read-one
+    one-requires
     add-i
     loop-less
     loop-again
