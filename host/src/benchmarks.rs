@@ -369,10 +369,9 @@ mod tests {
     use crate::reading::IndependentReading;
     use std::time::Duration;
 
-    /// Each case of document 02's requests runs, with one side on both.
-    #[test]
-    fn every_case_of_the_requests_is_timed() {
-        let benchmarks = Benchmarks {
+    /// Every case in one round, however short, with one side on both.
+    pub(super) fn at_once() -> Benchmarks<'static, IndependentReading, IndependentReading> {
+        Benchmarks {
             left: &IndependentReading,
             right: &IndependentReading,
             watch: Stopwatch {
@@ -381,7 +380,13 @@ mod tests {
             },
             seed: 0,
             only: String::new(),
-        };
+        }
+    }
+
+    /// Each case of document 02's requests runs, with one side on both.
+    #[test]
+    fn every_case_of_the_requests_is_timed() {
+        let benchmarks = at_once();
         let mut names = Vec::new();
         let mut tell = |timing: &Timing| {
             assert!(timing.left > 0.0 && timing.right > 0.0, "{timing}");

@@ -33,25 +33,13 @@ impl<L: Bare, R: Bare> Benchmarks<'_, L, R> {
 #[cfg(test)]
 mod tests {
     use super::*;
-    use crate::reading::IndependentReading;
-    use crate::stopwatch::Stopwatch;
-    use std::time::Duration;
+    use crate::benchmarks::tests::at_once;
 
     /// Each mode is timed alone, with one side on both.
     #[test]
     fn every_mode_is_timed() {
-        let benchmarks = Benchmarks {
-            left: &IndependentReading,
-            right: &IndependentReading,
-            watch: Stopwatch {
-                rounds: 1,
-                least: Duration::ZERO,
-            },
-            seed: 0,
-            only: String::new(),
-        };
         let mut rows = Vec::new();
-        benchmarks.modes(|timing| rows.push(timing.row()));
+        at_once().modes(|timing| rows.push(timing.row()));
         assert_eq!(rows.len(), 3 * MODES.len(), "{rows:#?}");
     }
 }

@@ -42,13 +42,13 @@ impl Pen {
         self.0 == Some(mistake)
     }
 
-    /// What it refuses.
-    fn refusal(&self, drawing: &Drawing) -> Option<Fault> {
+    /// Low, still and count of a drawing, as it takes them.
+    fn numbers(&self, drawing: &Drawing) -> (usize, usize, usize) {
         let &Drawing {
             mut low,
             mut still,
             mut count,
-            message,
+            ..
         } = drawing;
         if self.is(LengthsCutToTwoBytes) {
             (low, still) = (low & 0xFFFF, still & 0xFFFF);
@@ -56,6 +56,13 @@ impl Pen {
         if self.is(CountTakenAsByte) {
             count &= 0xFF;
         }
+        (low, still, count)
+    }
+
+    /// What it refuses.
+    fn refusal(&self, drawing: &Drawing) -> Option<Fault> {
+        let (low, still, count) = self.numbers(drawing);
+        let message = drawing.message;
         let most_low = 1_000 - usize::from(self.is(LongestLowRefused));
         let most_still = 10_000 - usize::from(self.is(LongestStillRefused));
         let least_still = usize::from(!self.is(NoStillTaken));
@@ -74,18 +81,8 @@ impl Pen {
 
     /// Sample k of a drawing, if it has so many.
     fn sample(&self, drawing: &Drawing, k: usize) -> Option<u8> {
-        let &Drawing {
-            mut low,
-            mut still,
-            mut count,
-            message,
-        } = drawing;
-        if self.is(LengthsCutToTwoBytes) {
-            (low, still) = (low & 0xFFFF, still & 0xFFFF);
-        }
-        if self.is(CountTakenAsByte) {
-            count &= 0xFF;
-        }
+        let (mut low, mut still, count) = self.numbers(drawing);
+        let message = drawing.message;
         if self.is(PulseOneLonger) && still > 1 {
             (low, still) = (low + 1, still - 1);
         }
