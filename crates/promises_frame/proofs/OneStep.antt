@@ -91,6 +91,16 @@ code-step c ok true d h =
     (subst (λ (k : ℕ). OneBitApart (c .width) (getD (c .codes) i 0) (getD (c .codes) k 0)) up (ok .neighbours i (omega arith)))
 code-step c ok false d h = ok .neighbours d h
 
+-- The next value by digit and rest: within the rest, or after its end. These are laws of their own since `omega` reads all that stands around it.
+next-within : (v d r many : ℕ) → d * many + r ≡ v → v + 1 ≡ d * many + (r + 1)
+next-within v d r many all = omega (arith, all)
+
+rest-ends : (r many : ℕ) → r < many → many ≤ r + 1 → r ≡ many - 1
+rest-ends r many low high = omega arith
+
+next-after : (v d r many : ℕ) → d * many + r ≡ v → r < many → many ≤ r + 1 → v + 1 ≡ (d + 1) * many + 0
+next-after v d r many all low high = omega (arith, all)
+
 step : (row : List Chart) → StepwiseRow row → (odd : Bool) (v : ℕ) → v + 1 < valuesOf row
     → OneBitApart (widthOf row) (writeRow row odd v) (writeRow row odd (v + 1))
 unfolding writeRow widthOf valuesOf
@@ -105,15 +115,15 @@ step (c ∷ cs) ok odd v h =
     let under : lo < 2 ^ widthOf cs = fits cs (narrow cs (ok .1)) (isOdd d) r (mod-lt v p) in
     by-lt (r + 1) many
     (λ k.
-    let next : v + 1 ≡ d * many + (r + 1) = omega (arith, all) in
+    let next : v + 1 ≡ d * many + (r + 1) = next-within v d r many all in
     let digit : (v + 1) / many ≡ d = ap (λ (n : ℕ). n / many) next ∙ digits-div d k in
     let rest : (v + 1) % many ≡ r + 1 = ap (λ (n : ℕ). n % many) next ∙ digits-mod d k in
     rw (digit, rest)
     (lower-step (c .width) (widthOf cs) (codeOf odd c d) lo (writeRow cs (isOdd d) (r + 1)) under
     (fits cs (narrow cs (ok .1)) (isOdd d) (r + 1) k) (step cs (ok .1) (isOdd d) r k)))
     (λ k.
-    let last : r ≡ many - 1 = omega (arith, mod-lt v p) in
-    let next : v + 1 ≡ (d + 1) * many + 0 = omega (arith, all, mod-lt v p) in
+    let last : r ≡ many - 1 = rest-ends r many (mod-lt v p) k in
+    let next : v + 1 ≡ (d + 1) * many + 0 = next-after v d r many all (mod-lt v p) k in
     let digit : (v + 1) / many ≡ d + 1 = ap (λ (n : ℕ). n / many) next ∙ digits-div (d + 1) p in
     let rest : (v + 1) % many ≡ 0 = ap (λ (n : ℕ). n % many) next ∙ digits-mod (d + 1) p in
     let above : d + 1 < sizeOf c = subst (λ (n : ℕ). n < sizeOf c) digit (digit-lt c many (v + 1) p h) in
