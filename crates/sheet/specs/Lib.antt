@@ -4,6 +4,7 @@ pub mod Record
 pub mod Slots
 pub mod Stores
 pub mod Save
+pub mod Into
 pub mod Look
 pub mod View
 pub mod StoresTold

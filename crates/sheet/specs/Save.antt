@@ -12,9 +12,14 @@ use Rattle.sheet.specs.Record.{Entry, checks, lengthOf}
 use Rattle.sheet.specs.Slots.{sizeAllowed, slots, next}
 use Rattle.sheet.specs.Stores.{after}
 
--- Saving: 12, then the record's checks 10, 11, 14, then 13 where no slot is left.
+-- Saving into a slot: 12, then the record's checks 10, 11, 14, then 13 where the sheet has no such slot.
+unfoldable pub intoFault : List ℕ → ℕ → Entry → ℕ
+intoFault s slot e = firstOf (not (sizeAllowed s) gives 12 ∷ checks e ++ leb (slots s) slot gives 13 ∷ [])
+
+-- Saving: into the next slot, so 13 where none is left.
 unfoldable pub saveFault : List ℕ → Entry → ℕ
-saveFault s e = firstOf (not (sizeAllowed s) gives 12 ∷ checks e ++ leb (slots s) (next s) gives 13 ∷ [])
+unfolding intoFault
+saveFault s e = intoFault s (next s) e
 
 -- What `save` answers, and the sheet after it: the stores made, the smaller of the allowance and length plus 2, and exactly those; or the
 -- refusal's number, and the sheet as it was.

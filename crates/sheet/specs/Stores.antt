@@ -32,6 +32,10 @@ lengthStores at e = (at + 1) puts getD (lengthBytes e) 1 0 ∷ at puts getD (len
 unfoldable pub stores : ℕ → Entry → List Store
 stores at e = ascending (at + 2) (bodyOf e) ++ lengthStores at e
 
--- The sheet after a save that may make so many stores: the first of them, into the slot that it goes to.
+-- The sheet after a save into a slot that may make so many stores: the first of a record's; and after a save, into the slot that it goes to.
+unfoldable pub afterInto : List ℕ → ℕ → Entry → ℕ → List ℕ
+afterInto s slot e may = made s (take may (stores (32 * slot) e))
+
 unfoldable pub after : List ℕ → Entry → ℕ → List ℕ
-after s e may = made s (take may (stores (32 * next s) e))
+unfolding afterInto
+after s e may = afterInto s (next s) e may
