@@ -8,7 +8,7 @@ use native.Mathlib.Omega.{arith}
 use native.Mathlib.Numerals.{add-one}
 use borrow.Author.Tests.{eq-eqb, ne-eqb, lt-ltb, le-ltb, ltb-true, ltb-false}
 use lib.Dec.{ltb}
-use lib.ListN.{length, getD, take, drop, set, replicate, length-append, length-set, drop-of-length-le, take-append-drop}
+use lib.ListN.{length, getD, take, drop, set, replicate, length-append, length-set, drop-of-length-le, take-append-drop, List·getD-map}
 use lib.Seq.{drop-cons, length-take-le, take-suc-set, drop-set-lt, append-snoc}
 use Rattle.frame.specs.Rising.{Above, above-none, above-more, Rises, rises-none, rises-more}
 use Rattle.frame.proofs.Rising.{above-lower}
@@ -21,8 +21,11 @@ use Rattle.summary.specs.Joined.{putAll, joinLines}
 use Rattle.summary.specs.inside.Placed.{Sound}
 use Rattle.summary.specs.inside.Joining.{mergedFrom, merged, Turn}
 use Rattle.summary.proofs.LinesAdded.{count-of, line-of}
-use Rattle.summary.proofs.Entering.{pair-at}
 use Rattle.summary.proofs.Putting.{Order, less, same, more, order, pair-together, put-before, put-at, put-after}
+
+-- the pairs of lines as numbers
+pub pair-at : (ls : List Line) (i : ℕ) → getD (map pairOf ls) i 0 ≡ pairOf (getD ls i blankLine)
+pair-at ls i = unfold pairOf in List·getD-map pairOf ls i blankLine
 
 -- the line that is next
 merged-none : (l : Line) (ls : List Line) → merged (l ∷ ls) [] ≡ l ∷ merged ls []

@@ -1,16 +1,32 @@
 // Two summaries put together, as two rows of lines that rise are merged: one pass over both. How many pairs the join has is counted before anything is
 // added up, since counts that are over could not be summed.
+use summary::Line;
 use summary::Summary;
-use summary::adding::pairs_in;
 use summary::blank;
+use summary::figures::pair_of;
 use summary::figures::together;
 ghost use mathlib.Core.Path.{_≡_};
+ghost use mathlib.Core.List.{map};
 ghost use Prim.Native.Nat.{_+_, _<_, _≤_};
 ghost use lib.ListN.{length};
-ghost use Rattle.summary.specs.Line.{page};
+ghost use Rattle.summary.specs.Line.{pairOf, page};
 ghost use Rattle.summary.specs.Joined.{joinLines};
 ghost use Rattle.summary.specs.inside.Placed.{Sound};
 ghost use Rattle.summary.specs.inside.Joining.{Few, Turn};
+
+// The pairs of all 30 lines, one number each: what the turns go over, so that they copy no line.
+fn pairs_in(lines: [Line; 30]) -> [u32; 30]
+    ensures { λ r. ⌜ r ≡ map pairOf lines ⌝ }
+{
+    let mut pairs = [0u32; 30];
+    let mut i: usize = 0;
+    while i < 30 {
+        let line = lines[i];
+        pairs[i] = pair_of(line);
+        i += 1;
+    }
+    pairs
+}
 
 // Whose line is next, of the first n and the first m of two rows of pairs, from places i and j on: 0 the first row's, 1 the second's, 2 that of both.
 fn turn(a: &[u32; 30], i: usize, n: usize, b: &[u32; 30], j: usize, m: usize) -> u8

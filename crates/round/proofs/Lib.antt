@@ -3,4 +3,3 @@ pub mod Turns
 pub mod Trying
 pub mod Lent
 pub mod Counting
-pub mod KeptLines

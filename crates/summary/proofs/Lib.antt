@@ -5,6 +5,7 @@ pub mod Pages
 pub mod Levels
 pub mod LineAdded
 pub mod Moved
+pub mod Words
 pub mod PairFigures
 pub mod KeptPairs
 pub mod OneRecordMore
@@ -17,5 +18,5 @@ pub mod StillRight
 pub mod RecordAdded
 pub mod PutAll
 pub mod LinesAdded
-pub mod Entering
+pub mod LineEntered
 pub mod JoinTests

@@ -118,14 +118,14 @@ pub fn fault_of(s: Summary) -> u8
 }
 
 // What a summary that no test refused is refused by when this line of it has changed: 24, or 0 where its counts are not over.
-pub fn line_fault(line: Line) -> u8
+pub(crate) fn line_fault(line: Line) -> u8
     ensures { λ r. ⌜ r ≡ pick (countsOver line) 24 0 ⌝ }
 {
     if counts_over(line) { 24 } else { 0 }
 }
 
 // The same when a record more is one of the others.
-pub fn others_fault(others: u32) -> u8
+pub(crate) fn others_fault(others: u32) -> u8
     ensures { λ r. ⌜ r ≡ pick (ltb most others) 24 0 ⌝ }
 {
     if 1_000_000 < others { 24 } else { 0 }

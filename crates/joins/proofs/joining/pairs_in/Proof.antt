@@ -1,4 +1,4 @@
--- `summary::adding::pairs_in` meets its contract. The invariant: the pairs of the lines passed stand in their places.
+-- `joins::joining::pairs_in` meets its contract. The invariant: the pairs of the lines passed stand in their places.
 use mathlib.Core.Path.{_≡_, refl, sym, ap, _∙_}
 use mathlib.Core.List.{List, map}
 use Prim.Native.Nat.{ℕ, _+_, _-_, _<_, _≤_}
@@ -7,14 +7,14 @@ use borrow.Author.Needs.{needs}
 use borrow.Author.Count.{below-more}
 use lib.ListN.{length, getD, set, length-set, length-map}
 use lib.Seq.{ext-getD, getD-set-same, getD-set-other}
 use Rattle.summary.specs.declared.Line.{Line}
 use Rattle.summary.specs.Line.{pairOf, blankLine}
-use Rattle.summary.proofs.Entering.{pair-at}
-use Rattle.summary.proofs.adding.pairs_in.Statement.{statement}
-use Rattle.summary.proofs.adding.pairs_in.Tie as tie
-use Rattle.summary.proofs.adding.pairs_in.Reads as reads
-use Rattle.summary.proofs.adding.pairs_in.Lts as lts
+use Rattle.joins.proofs.Merging.{pair-at}
+use Rattle.joins.proofs.joining.pairs_in.Statement.{statement}
+use Rattle.joins.proofs.joining.pairs_in.Tie as tie
+use Rattle.joins.proofs.joining.pairs_in.Reads as reads
+use Rattle.joins.proofs.joining.pairs_in.Lts as lts
 use Rattle.summary.proofs.figures.pair_of.Reads as pair-of-reads
 
 -- one pair more
 stored : (ps : List ℕ) (ls : List Line) (i v : ℕ) → i < length ps → v ≡ pairOf (getD ls i blankLine)
