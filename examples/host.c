@@ -174,9 +174,8 @@ static int run_round(struct sisal_round *round, uint32_t minute, enum power powe
     want(begun.number == SISAL_OK, "no round");
     struct sisal_polling polling = begun.polling;
     for (;;) {
-        struct sisal_drew drew = sisal_polling_draw(polling, pace, port, sizeof port);
+        struct sisal_drew drew = sisal_polling_draw(&polling, pace, port, sizeof port);
         want(drew.number == SISAL_OK, "bad timing numbers");
-        polling = drew.polling;
         *round = polling.round;
         if (drew.over)
             return 1;
@@ -187,8 +186,8 @@ static int run_round(struct sisal_round *round, uint32_t minute, enum power powe
         if (power == GONE_IN_ROUND && polling.at == 1)
             return 0;
         size_t sensed = sense(port);
-        struct sisal_settled told = sisal_polling_hear(polling, pace, minute, port, sensed);
-        polling = told.polling; /* what was sensed behind the samples taken is dropped */
+        struct sisal_settled told = sisal_polling_hear(&polling, pace, minute, port, sensed);
+        /* what was sensed behind the samples taken is dropped */
         const struct sisal_polled *of = &polling.round.replies[told.reply];
         if (!polling.listening && of->count == 0) /* a try without a message */
             printf("minute %u: %u, %s; %s\n", minute, of->address, told.number == SISAL_OK ? "no answer" : sisal_number_text(told.number),

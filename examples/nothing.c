@@ -67,10 +67,10 @@ int main(void)
     TRY("sisal_draw", sisal_draw(2, 3, 0, bytes, 0, 0, out, 0).number);
     TRY("sisal_draw, 2 bits", sisal_draw(2, 3, 2, bytes, 0, 0, out, 0).number);
     TRY("sisal_polling_begin", sisal_polling_begin(rows, 0, 600).number);
-    TRY("sisal_polling_draw", sisal_polling_draw(polling, pace, out, 0).number);
-    TRY("sisal_polling_hear", sisal_polling_hear(polling, pace, 600, bytes, 0).number);
+    TRY("sisal_polling_draw", sisal_polling_draw(&polling, pace, out, 0).number);
+    TRY("sisal_polling_hear", sisal_polling_hear(&polling, pace, 600, bytes, 0).number);
     polling.listening = 1;
-    TRY("sisal_polling_hear, listening", sisal_polling_hear(polling, pace, 600, bytes, 0).number);
+    TRY("sisal_polling_hear, listening", sisal_polling_hear(&polling, pace, 600, bytes, 0).number);
     TRY("sisal_board_enrol", sisal_board_enrol(rows, 0, 1, 7, 0));
     TRY("sisal_board_hear", sisal_board_hear(rows, 0, 600, 7, 0, bytes, 0).number);
     TRY("sisal_board_remove", sisal_board_remove(rows, 0, 7));

@@ -63,7 +63,7 @@ extern "C" {
 /* ---- the version ----------------------------------------------------------------------------------------------------------------- */
 
 /* It goes up with every change of a struct, of a call's arguments or of a number's meaning, and from 5 on with calls that are added. */
-#define SISAL_VERSION 7u
+#define SISAL_VERSION 8u
 
 /* The version of the archive. Refuses nothing. */
 SISAL_ANSWER uint32_t sisal_version(void);
@@ -690,8 +690,8 @@ struct sisal_pace {
 };
 
 /*
- * A round under way. A host hands back what the last call left and changes nothing in it, but may read it between calls: `listening` says
- * which of the two calls goes on. Every pattern of bytes has a meaning. A round is over where `at` is not below round.count, or where that
+ * A round under way. A host lends it to the two calls, which bring it up to date, and changes nothing in it, but may read it between calls:
+ * `listening` says which of the two calls goes on. Every pattern of bytes has a meaning. A round is over where `at` is not below round.count, or where that
  * is above 30. While it draws, the lines are at rest whatever stands there, and all of delay and poll drawn, or more, is time to listen,
  * with nothing heard yet. Lines that no call leaves are a spoiled message. More heard than a limit is that limit reached, which the next
  * sample settles. An address above 999 has no poll: the delay alone is drawn. 752 bytes, no padding.
@@ -713,30 +713,28 @@ struct sisal_begun {
 
 /* What was drawn of a round. */
 struct sisal_drew {
-    struct sisal_polling polling; /* for the next call */
-    size_t count;                 /* samples drawn */
-    uint8_t over;                 /* 1 where the round is over, else 0 */
+    size_t count; /* samples drawn */
+    uint8_t over; /* 1 where the round is over, else 0 */
     uint8_t number;
 };
 
 /*
  * What was heard of a round. `reply`, `answered` and `number` are 0 unless this call settled a try. It did where it took a sample and
- * polling.listening is 0; the three alone do not say so, since silence of the first reply that is asked again has 0 in all of them.
+ * polling->listening is 0; the three alone do not say so, since silence of the first reply that is asked again has 0 in all of them.
  */
 struct sisal_settled {
-    struct sisal_polling polling; /* for the next call */
-    size_t taken;                 /* samples taken */
-    uint16_t reply;               /* the try was of polling.round.replies[reply], */
-    uint8_t answered;             /* which now stands: 1; or is asked for again: 0 */
-    uint8_t over;                 /* 1 where the round is over, else 0 */
-    uint8_t number;               /* 20; or how the try was settled: 0, 21 or 22 */
+    size_t taken;     /* samples taken */
+    uint16_t reply;   /* the try was of polling->round.replies[reply], */
+    uint8_t answered; /* which now stands: 1; or is asked for again: 0 */
+    uint8_t over;     /* 1 where the round is over, else 0 */
+    uint8_t number;   /* 20; or how the try was settled: 0, 21 or 22 */
 };
 
 SISAL_HOLDS(sizeof(struct sisal_pace) == 36, "struct sisal_pace");
 SISAL_HOLDS(sizeof(struct sisal_polling) == 752, "struct sisal_polling");
 SISAL_HOLDS(sizeof(struct sisal_begun) == 760, "struct sisal_begun");
-SISAL_HOLDS(sizeof(struct sisal_drew) == 768, "struct sisal_drew");
-SISAL_HOLDS(sizeof(struct sisal_settled) == 768, "struct sisal_settled");
+SISAL_HOLDS(sizeof(struct sisal_drew) == 16, "struct sisal_drew");
+SISAL_HOLDS(sizeof(struct sisal_settled) == 16, "struct sisal_settled");
 
 /*
  * Begins a round of the board's rows in use, in address order: each reply has its row's address and settings, this minute, and 0 bits.
@@ -749,10 +747,11 @@ SISAL_ANSWER struct sisal_begun sisal_polling_begin(const struct sisal_row *rows
  * Draws on for the transmitter whose turn it is: `delay` samples of idle, then its poll, raise and reset 0, as sisal_draw draws it. Fills
  * `out` as far as there is something to draw, up to the end of the poll, and answers how many; no other byte is changed. The batches may
  * be of any size. At the poll's end `listening` is set, and it is time to listen: until the answer is settled nothing is drawn, so that a
- * count of 0 into an output with room says the same. A round that is over draws nothing and comes back as it stands, with over 1.
- * Refuses 20, asked first: count and over 0, the round under way bit for bit as it was handed in, and no byte changed.
+ * count of 0 into an output with room says the same. A round that is over draws nothing and stays as it stands, with over 1.
+ * `polling` is never null, and lies apart from `out`. Refuses 20, asked first: count and over 0, the round under way bit for bit as it was
+ * lent, and no byte changed.
  */
-SISAL_ANSWER struct sisal_drew sisal_polling_draw(struct sisal_polling polling, struct sisal_pace pace, uint8_t *out, size_t out_bytes);
+SISAL_ANSWER struct sisal_drew sisal_polling_draw(struct sisal_polling *polling, struct sisal_pace pace, uint8_t *out, size_t out_bytes);
 
 /*
  * Hears samples of the lines, the first of them the first after the poll's last, in whatever batches the host has. They are heard as
@@ -765,11 +764,12 @@ SISAL_ANSWER struct sisal_drew sisal_polling_draw(struct sisal_polling polling, 
  * with 0 bits and this minute: answered 1. A message is never asked for again, faulty or not.
  * `taken` says where the call stopped. SAMPLES BEHIND THAT ONE BELONG TO NOBODY WHERE A TRY WAS SETTLED: drop them. Handed to the next
  * call they would be one transmitter's tail taken for the next one's answer. Where no try was settled all samples are taken.
- * While it draws, nothing is taken: a recorder must not hear its own poll. A round that is over takes nothing and comes back as it stands,
+ * While it draws, nothing is taken: a recorder must not hear its own poll. A round that is over takes nothing and stays as it stands,
  * with over 1. With n transmitters it is over after at most n * tries * (delay + 16 * (low + still) + longest) samples drawn and taken.
- * Refuses 20, asked first: all else 0, and the round under way bit for bit as it was handed in. 21 and 22 are no refusals here.
+ * `polling` is never null, and lies apart from `samples`. Refuses 20, asked first: all else 0, and the round under way bit for bit as it was
+ * lent. 21 and 22 are no refusals here.
  */
-SISAL_ANSWER struct sisal_settled sisal_polling_hear(struct sisal_polling polling, struct sisal_pace pace, uint32_t minute,
+SISAL_ANSWER struct sisal_settled sisal_polling_hear(struct sisal_polling *polling, struct sisal_pace pace, uint32_t minute,
                                                      const uint8_t *samples, size_t sample_count);
 
 /* ---- the same by pointer: a page or a round is written once in a host's line ------------------------------------------------------ */

@@ -3,7 +3,7 @@ use mathlib.Core.Path.{_≡_}
 use Prim.Native.Nat.{ℕ}
 
 abbrev pub version : ℕ
-version = 7
+version = 8
 
 pub record SisalVersion (answer : ℕ) : Type 0 where
   pub answers : answer ≡ version

@@ -14,13 +14,11 @@ use Rattle.lines.specs.SoFar as lines
 use Rattle.lines.proofs.Cases.{of-pick}
 use Rattle.polling.specs.declared.Pace.{Pace}
 use Rattle.polling.specs.declared.Polling.{Polling}
-use Rattle.polling.specs.declared.Drew.{Drew}
-use Rattle.polling.specs.declared.Settled.{Settled}
 use Rattle.polling.specs.Pace.{badPace, paceFault}
 use Rattle.polling.specs.Meant.{isOver, turnOf, tryDrawn, draws, listens, meant}
-use Rattle.polling.specs.Drawing.{toDraw, drawnBy, afterDrawn, drew}
+use Rattle.polling.specs.Drawing.{toDraw, drawnBy, afterDrawn, LeftByDrawing, drew}
 use Rattle.polling.specs.Listening.{listen}
-use Rattle.polling.specs.Settling.{settledOf, settledAt}
+use Rattle.polling.specs.Settling.{LeftByHearing, settledOf, settledAt}
 use Rattle.polling.specs.Calls.{DrawsPolling, heardBy, HearsPolling}
 use Rattle.polling.specs.inside.Puts.{Puts}
 use Rattle.polling.proofs.Meaning.{drawn, while-over}
@@ -42,7 +40,7 @@ over-meant p w =
     (λ e. refl)
     (λ e. of-pick (λ (x : Polling). isOver x ≡ isOver w) (drawn p w) (listens w lines.atRest 0) (draws w (w .passed)) (λ e. refl) (λ e. refl)))
 
-module _ (w : Polling) (p : Pace) (minute : ℕ) (samples : List ℕ) (answer : Settled) where
+module _ (w : Polling) (p : Pace) (minute : ℕ) (samples : List ℕ) (answer : LeftByHearing) where
   pub hears-bad : badPace p ≡ true → answer ≡ settledOf w 0 0 0 0 20 → HearsPolling w p minute samples answer
   hears-bad b e =
       record { answers = e ∙ sym (ap (λ (n : ℕ). pick (eqb n 0) (heardBy p minute (meant p w) samples) (settledOf w 0 0 0 0 n)) (fault-by p true b)) }
@@ -67,11 +65,11 @@ module _ (p : Pace) (minute : ℕ) (w : Polling) (samples : List ℕ) where
   pub heard-listening : isOver w ≡ false → (w .listening ≡ 0 → ⊥) → settledAt p minute w (listen p (w .lines) (w .passed) samples) ≡ heardBy p minute w samples
   heard-listening o d = sym (by-tests false false o (ne-eqb (w .listening) 0 d))
 
-module _ (w : Polling) (p : Pace) (out : List ℕ) (answer : Drew) where
+module _ (w : Polling) (p : Pace) (out : List ℕ) (answer : LeftByDrawing) where
   abbrev part : List ℕ
   part = drawnBy p w (length out)
 
-  abbrev good-answer : Drew
+  abbrev good-answer : LeftByDrawing
   good-answer = drew (afterDrawn p w (length part)) (length part) (mark (isOver w)) 0
 
   pub draws-bad : badPace p ≡ true → answer ≡ drew w 0 0 20 → DrawsPolling w p out answer out

@@ -7,4 +7,7 @@ pub mod OneTurn
 pub mod Sizes
 pub mod Putting
 pub mod Answers
+pub mod Taking
+pub mod Elements
+pub mod Lent
 pub mod UsedRows

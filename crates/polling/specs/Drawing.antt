@@ -22,5 +22,15 @@ drawnBy p w room = take room (toDraw p w)
 unfoldable pub afterDrawn : Pace → Polling → ℕ → Polling
 afterDrawn p w many = pick (isOver w || not (eqb (w .listening) 0)) (meant p w) (meant p (draws w (w .passed + many)))
 
-abbrev pub drew : Polling → (count over number : ℕ) → Drew
+-- What drawing leaves and tells: the lent state after it, and its answer.
+pub record LeftByDrawing : Type 0 where
+  pub polling : Polling
+  pub count : ℕ
+  pub over : ℕ
+  pub number : ℕ
+
+abbrev pub drew : Polling → (count over number : ℕ) → LeftByDrawing
 drew w count over number = record { polling = w; count = count; over = over; number = number }
+
+abbrev pub drewWith : Polling → Drew → LeftByDrawing
+drewWith w told = drew w (told .count) (told .over) (told .number)

@@ -52,12 +52,24 @@ answeredWith minute told w =
       listening = 0;
     }
 
-abbrev pub settledOf : Polling → (taken reply answered over number : ℕ) → Settled
+-- What hearing leaves and tells: the lent state after it, and its answer.
+pub record LeftByHearing : Type 0 where
+  pub polling : Polling
+  pub taken : ℕ
+  pub reply : ℕ
+  pub answered : ℕ
+  pub over : ℕ
+  pub number : ℕ
+
+abbrev pub settledOf : Polling → (taken reply answered over number : ℕ) → LeftByHearing
 settledOf w taken reply answered over number =
     record { polling = w; taken = taken; reply = reply; answered = answered; over = over; number = number }
 
+abbrev pub settledWith : Polling → Settled → LeftByHearing
+settledWith w told = settledOf w (told .taken) (told .reply) (told .answered) (told .over) (told .number)
+
 -- What a call tells that listened: nothing where the try goes on; else which reply it was, whether it now stands, and by what number.
-unfoldable pub settledAt : Pace → (minute : ℕ) → Polling → Listened → Settled
+unfoldable pub settledAt : Pace → (minute : ℕ) → Polling → Listened → LeftByHearing
 settledAt p minute w (goesOn left taken) = settledOf (listens w left (w .passed + taken)) taken 0 0 0 0
 settledAt p minute w (settledBy told taken) =
     pick (isAnswered p w told) (settledOf (answeredWith minute told w) taken (w .at) 1 (mark (isOver (answeredWith minute told w))) (numberTold told))

@@ -1,9 +1,11 @@
 // What is drawn of a try: its delay, and then its poll, from where the last call ended.
 use crate::Drew;
 use crate::Pace;
-use crate::Polling;
+use crate::ranges;
 use crate::turns;
+use crate::turns::Turn;
 use frame::Written;
+use lines::SoFar;
 ghost use mathlib.Core.Path.{_≡_};
 ghost use mathlib.Core.Bool.{false};
 ghost use Prim.Native.Nat.{_+_, _-_, _≤_, min};
@@ -11,19 +13,49 @@ ghost use lib.ListN.{drop, replicate};
 ghost use Rattle.frame.specs.Line.{firstBytes};
 ghost use Rattle.frame.specs.Poll.{pollLine};
 ghost use Rattle.polling.specs.Pace.{badPace};
-ghost use Rattle.polling.specs.Meant.{isOver, pollDrawn, tryDrawn};
-ghost use Rattle.polling.specs.Drawing.{drew};
-ghost use Rattle.polling.specs.Calls.{DrawsPolling};
+ghost use Rattle.polling.specs.Meant.{pollDrawn, tryDrawn};
 ghost use Rattle.polling.specs.inside.Puts.{Puts};
+ghost use Rattle.polling.specs.inside.Turns.{overBy, driven, told, DrawsTurn};
 
-pub(crate) fn drew(w: Polling, count: usize, over: u8, number: u8) -> Drew
-    ensures { λ r. ⌜ r ≡ drew w count over number ⌝ }
+// What becomes of a turn that was drawn, and what the call tells of it.
+pub(crate) struct Driven {
+    pub lines: SoFar,
+    pub passed: u32,
+    pub listening: u8,
+    pub told: Drew,
+}
+
+fn drew(lines: SoFar, passed: u32, listening: u8, count: usize) -> Driven
+    ensures { λ r. ⌜ r ≡ driven lines passed listening (told count 0 0) ⌝ }
 {
-    Drew {
-        polling: w,
+    let told = Drew {
         count: count,
+        over: 0,
+        number: 0,
+    };
+    Driven {
+        lines: lines,
+        passed: passed,
+        listening: listening,
+        told: told,
+    }
+}
+
+// Nothing is drawn, and the turn is as it was.
+fn undrawn(t: Turn, over: u8, number: u8) -> Driven
+    ensures { λ r. ⌜ r ≡ driven (t .lines) (t .passed) (t .listening) (told 0 over number) ⌝ }
+{
+    let lines = t.lines;
+    let told = Drew {
+        count: 0,
         over: over,
         number: number,
+    };
+    Driven {
+        lines: lines,
+        passed: t.passed,
+        listening: t.listening,
+        told: told,
     }
 }
 
@@ -88,20 +120,35 @@ fn draw_try(p: Pace, address: u16, from: usize, out: &mut [u8]) -> usize
 }
 
 // Draws on. Where the poll's end is reached, it is time to listen.
-pub(crate) fn draw(w: Polling, p: Pace, out: &mut [u8]) -> Drew
+fn draw_on(t: Turn, p: Pace, out: &mut [u8]) -> Driven
     requires { ⌜ badPace p ≡ false ⌝ }
-    requires { ⌜ isOver w ≡ false ⌝ }
-    requires { ⌜ w .listening ≡ 0 ⌝ }
-    ensures { λ r. ⌜ DrawsPolling w p (now (out .entry)) r (now (out .exit)) ⌝ }
+    requires { ⌜ overBy t ≡ false ⌝ }
+    requires { ⌜ t .listening ≡ 0 ⌝ }
+    ensures { λ r. ⌜ DrawsTurn t p (now (out .entry)) r (now (out .exit)) ⌝ }
 {
-    let address = turns::address_of(w);
-    let passed = w.passed as usize;
+    let address = t.entry.address;
+    let passed = t.passed as usize;
     let many = draw_try(p, address, passed, out);
     let rest = lines::state::at_rest();
     if turns::size_of(p, address) as usize <= passed + many {
-        let next = turns::turn_by(w, rest, 0, w.tried, 1);
-        return drew(next, many, 0, 0);
+        return drew(rest, 0, 1, many);
     }
-    let next = turns::turn_by(w, rest, (passed + many) as u32, w.tried, 0);
-    drew(next, many, 0, 0)
+    drew(rest, (passed + many) as u32, 0, many)
+}
+
+// Draws a turn, whatever the pace and the state are.
+pub(crate) fn draw(t: Turn, p: Pace, out: &mut [u8]) -> Driven
+    ensures { λ r. ⌜ DrawsTurn t p (now (out .entry)) r (now (out .exit)) ⌝ }
+{
+    if ranges::bad_pace(p) {
+        return undrawn(t, 0, 20);
+    }
+    if turns::is_over(t) {
+        return undrawn(t, 1, 0);
+    }
+    if t.listening != 0 {
+        let heard = turns::meant(t, p);
+        return undrawn(heard, 0, 0);
+    }
+    draw_on(t, p, out)
 }

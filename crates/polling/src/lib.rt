@@ -1,6 +1,6 @@
 // The recorder runs its round: it begins from the board, says what is to be driven on the lines, is told what was sensed after it, and has the round of
-// replies in the end. The state goes in and comes back by value, so the checker covers all but the rows that are lent. The calls are exported, so their
-// names bear a prefix.
+// replies in the end. The state is lent, and most of it is replies that a call neither reads nor writes: each call takes out the one turn, works on that by
+// value, where the checker covers all, and puts it back. The calls are exported, so their names bear a prefix.
 mod beginning;
 mod drawing_out;
 mod listening;
@@ -8,9 +8,12 @@ mod ranges;
 mod settling;
 mod turns;
 
+use crate::turns::Turn;
 use board::Row;
 use lines::SoFar;
 use round::Round;
+ghost use Rattle.polling.specs.Drawing.{drewWith};
+ghost use Rattle.polling.specs.Settling.{settledWith};
 ghost use Rattle.polling.specs.Calls.{BeginsPolling, DrawsPolling, HearsPolling};
 
 // A round on its way: 752 bytes with no hole, integers alone, and every pattern of them means something. All zeros is a round that is over.
@@ -57,7 +60,6 @@ pub struct Begun {
 // What drawing answers: the samples drawn, and 1 where the round is over.
 #[repr(C)]
 pub struct Drew {
-    pub polling: Polling,
     pub count: usize,
     pub over: u8,
     pub number: u8,
@@ -66,7 +68,6 @@ pub struct Drew {
 // What hearing answers: the samples taken. Where they settled a try: which reply it was, whether it now stands, and by what number; and 1 where the round is over.
 #[repr(C)]
 pub struct Settled {
-    pub polling: Polling,
     pub taken: usize,
     pub reply: u16,
     pub answered: u8,
@@ -85,41 +86,52 @@ pub extern "C" fn sisal_polling_begin(rows: &[Row], minute: u32) -> Begun
 
 // Draws on, up to the end of the poll: then it is time to listen. Refuses 20.
 #[no_mangle]
-pub extern "C" fn sisal_polling_draw(polling: Polling, pace: Pace, out: &mut [u8]) -> Drew
-    ensures { λ r. ⌜ DrawsPolling polling pace (now (out .entry)) r (now (out .exit)) ⌝ }
+pub extern "C" fn sisal_polling_draw(polling: &mut Polling, pace: Pace, out: &mut [u8]) -> Drew
+    ensures { λ r. ⌜ DrawsPolling (now (polling .entry)) pace (now (out .entry)) (drewWith (now (polling .exit)) r) (now (out .exit)) ⌝ }
 {
-    if ranges::bad_pace(pace) {
-        return drawing_out::drew(polling, 0, 0, 20);
-    }
-    if turns::is_over(polling) {
-        return drawing_out::drew(polling, 0, 1, 0);
-    }
-    if polling.listening != 0 {
-        let heard = turns::meant(polling, pace);
-        return drawing_out::drew(heard, 0, 0, 0);
-    }
-    drawing_out::draw(polling, pace, out)
+    let place = turns::place(polling.at);
+    let turn = Turn {
+        entry: polling.round.replies[place],
+        count: polling.round.count,
+        lines: polling.lines,
+        passed: polling.passed,
+        at: polling.at,
+        tried: polling.tried,
+        listening: polling.listening,
+    };
+    let driven = drawing_out::draw(turn, pace, out);
+    polling.lines = driven.lines;
+    polling.passed = driven.passed;
+    polling.listening = driven.listening;
+    driven.told
 }
 
 // Hears the samples sensed since the poll, up to the one that settles the try. Refuses 20; 21 and 22 tell of a try that gave no message.
 #[no_mangle]
 pub extern "C" fn sisal_polling_hear(
-    polling: Polling,
+    polling: &mut Polling,
     pace: Pace,
     minute: u32,
     samples: &[u8],
 ) -> Settled
-    ensures { λ r. ⌜ HearsPolling polling pace minute (now (samples .entry)) r ⌝ }
+    ensures { λ r. ⌜ HearsPolling (now (polling .entry)) pace minute (now (samples .entry)) (settledWith (now (polling .exit)) r) ⌝ }
 {
-    if ranges::bad_pace(pace) {
-        return settling::untold(polling, 0, 0, 20);
-    }
-    if turns::is_over(polling) {
-        return settling::untold(polling, 0, 1, 0);
-    }
-    let w = turns::meant(polling, pace);
-    if w.listening == 0 {
-        return settling::untold(w, 0, 0, 0);
-    }
-    settling::hear(w, pace, minute, samples)
+    let place = turns::place(polling.at);
+    let turn = Turn {
+        entry: polling.round.replies[place],
+        count: polling.round.count,
+        lines: polling.lines,
+        passed: polling.passed,
+        at: polling.at,
+        tried: polling.tried,
+        listening: polling.listening,
+    };
+    let outcome = settling::hear(turn, pace, minute, samples);
+    polling.round.replies[place] = outcome.turn.entry;
+    polling.lines = outcome.turn.lines;
+    polling.passed = outcome.turn.passed;
+    polling.at = outcome.turn.at;
+    polling.tried = outcome.turn.tried;
+    polling.listening = outcome.turn.listening;
+    outcome.told
 }

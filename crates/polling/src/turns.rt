@@ -1,43 +1,50 @@
-// Whose turn it is, and what the state means.
+// Whose turn it is, and what it means. A turn is all of the state but the replies of the others.
 use crate::Pace;
-use crate::Polling;
 use lines::SoFar;
+use round::Polled;
 ghost use mathlib.Core.Path.{_≡_};
 ghost use mathlib.Core.Bool.{false};
 ghost use lib.ListN.{length};
 ghost use Rattle.polling.specs.Pace.{badPace};
-ghost use Rattle.polling.specs.Meant.{isOver, turnOf, turnBy, tryDrawn, meant};
+ghost use Rattle.polling.specs.Meant.{tryDrawn};
 ghost use Rattle.polling.specs.inside.Ears.{Ready};
+ghost use Rattle.polling.specs.inside.Turns.{placeOf, overBy, turnAs, MeansTurn};
 
-pub(crate) fn is_over(w: Polling) -> bool
-    ensures { λ r. ⌜ r ≡ isOver w ⌝ }
-{
-    let count = w.round.count;
-    (30 < count) | (count <= w.at as usize)
+pub(crate) struct Turn {
+    // The reply whose turn it is.
+    pub entry: Polled,
+    // How many replies the round has; the rest as in the state.
+    pub count: usize,
+    pub lines: SoFar,
+    pub passed: u32,
+    pub at: u16,
+    pub tried: u8,
+    pub listening: u8,
 }
 
-// The same round, at the same transmitter.
-pub(crate) fn turn_by(w: Polling, heard: SoFar, passed: u32, tried: u8, listening: u8) -> Polling
-    ensures { λ r. ⌜ r ≡ turnBy w heard passed tried listening ⌝ }
+// The place of the entry that is taken out: where the turn is at no entry, as in a round that is over, the first.
+pub(crate) fn place(at: u16) -> usize
+    ensures { λ r. ⌜ r ≡ placeOf at ⌝ }
 {
-    let mut next = w;
+    if at < 30 { at as usize } else { 0 }
+}
+
+pub(crate) fn is_over(t: Turn) -> bool
+    ensures { λ r. ⌜ r ≡ overBy t ⌝ }
+{
+    (30 < t.count) | (t.count <= t.at as usize)
+}
+
+// The same turn, so far on.
+pub(crate) fn turn_by(t: Turn, heard: SoFar, passed: u32, tried: u8, listening: u8) -> Turn
+    ensures { λ r. ⌜ r ≡ turnAs t heard passed tried listening ⌝ }
+{
+    let mut next = t;
     next.lines = heard;
     next.passed = passed;
     next.tried = tried;
     next.listening = listening;
     next
-}
-
-// The address whose turn it is.
-pub(crate) fn address_of(w: Polling) -> u16
-    requires { ⌜ isOver w ≡ false ⌝ }
-    ensures { λ r. ⌜ r ≡ turnOf w .address ⌝ }
-{
-    let at = w.at as usize;
-    let round = w.round;
-    let replies = round.replies;
-    let entry = replies[at];
-    entry.address
 }
 
 // How many samples a try draws: the delay, and then 16 bits. An address above 999 has no poll.
@@ -51,20 +58,20 @@ pub(crate) fn size_of(p: Pace, address: u16) -> u32
     p.delay + 16 * (p.low + p.still)
 }
 
-// What a state means by its pace, while the round is not over.
-pub(crate) fn meant(w: Polling, p: Pace) -> Polling
+// What a turn means by its pace, while the round is not over.
+pub(crate) fn meant(t: Turn, p: Pace) -> Turn
     requires { ⌜ badPace p ≡ false ⌝ }
-    requires { ⌜ isOver w ≡ false ⌝ }
-    ensures { λ r. ⌜ (r ≡ meant p w) × Ready (r .lines) ⌝ }
+    requires { ⌜ overBy t ≡ false ⌝ }
+    ensures { λ r. ⌜ MeansTurn p t r × Ready (r .lines) ⌝ }
 {
-    if w.listening != 0 {
-        let handed = w.lines;
+    if t.listening != 0 {
+        let handed = t.lines;
         let heard = lines::state::meant(handed);
-        return turn_by(w, heard, w.passed, w.tried, 1);
+        return turn_by(t, heard, t.passed, t.tried, 1);
     }
     let rest = lines::state::at_rest();
-    if size_of(p, address_of(w)) <= w.passed {
-        return turn_by(w, rest, 0, w.tried, 1);
+    if size_of(p, t.entry.address) <= t.passed {
+        return turn_by(t, rest, 0, t.tried, 1);
     }
-    turn_by(w, rest, w.passed, w.tried, 0)
+    turn_by(t, rest, t.passed, t.tried, 0)
 }

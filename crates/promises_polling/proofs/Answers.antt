@@ -17,10 +17,10 @@ use Rattle.lines.specs.Hearing.{Told, nothing, message, spoiled, numberTold, co
 use Rattle.lines.proofs.Cases.{none-of}
 use Rattle.round.specs.declared.Polled.{Polled}
 use Rattle.round.specs.declared.Round.{Round}
-use Rattle.polling.specs.declared.Drew.{Drew}
+use Rattle.polling.specs.Drawing.{LeftByDrawing}
 use Rattle.polling.specs.declared.Pace.{Pace}
 use Rattle.polling.specs.declared.Polling.{Polling}
-use Rattle.polling.specs.declared.Settled.{Settled}
+use Rattle.polling.specs.Settling.{LeftByHearing}
 use Rattle.polling.specs.Pace.{badPace}
 use Rattle.polling.specs.Beginning.{noEntry}
 use Rattle.polling.specs.Meant.{isOver, turnOf, draws, listens, meant}
@@ -45,7 +45,7 @@ use Rattle.promises_polling.proofs.ByRuns.{settles-so}
 use Rattle.promises_polling.proofs.Batches.{way-of}
 
 -- A call that draws to the end of a poll.
-listening-begins : (p : Pace) (w : Polling) → badPace p ≡ false → w .listening ≡ 0 → (out after : List ℕ) (d : Drew) → DrawsPolling w p out d after
+listening-begins : (p : Pace) (w : Polling) → badPace p ≡ false → w .listening ≡ 0 → (out after : List ℕ) (d : LeftByDrawing) → DrawsPolling w p out d after
     → (d .polling .listening ≡ 0 → ⊥) → (d .polling .listening ≡ 1) × (d .polling .passed ≡ 0) × (d .polling .lines ≡ atRest)
 listening-begins p w fine z out after d c h = go (mode p w)
   where
@@ -122,7 +122,7 @@ module _ (p : Pace) (minute : ℕ) (from : Polling) (told : Told) where
 
 module _ (p : Pace) (from : Polling) (fine : badPace p ≡ false) (o : isOver from ≡ false) (size : length (from .round .replies) ≡ 30)
     (z : from .listening ≡ 1) (q : from .passed ≡ 0) (s : from .lines ≡ atRest)
-    {ds taken : List ℕ} {w : Polling} (h : History p any from ds taken [] w) (minute : ℕ) (samples : List ℕ) (a : Settled) (c : HearsPolling w p minute samples a)
+    {ds taken : List ℕ} {w : Polling} (h : History p any from ds taken [] w) (minute : ℕ) (samples : List ℕ) (a : LeftByHearing) (c : HearsPolling w p minute samples a)
     (v : Verdict) (vs : verdicts a ≡ v ∷ []) where
   begun-so : from ≡ listens from atRest 0
   begun-so i = record { round = from .round; lines = s i; passed = q i; at = from .at; tried = from .tried; listening = z i }
@@ -159,8 +159,8 @@ module _ (p : Pace) (from : Polling) (fine : badPace p ≡ false) (o : isOver fr
       let r = told-end p minute (listens from (on .left) heardSo) t (length before + 1) (omega arith) in
       let a-is : a ≡ settledAt p minute (listens from (on .left) heardSo) (settledBy t (length before + 1))
       = e ∙ ap (λ (k : ℕ). settledAt p minute (listens from (on .left) heardSo) (settledBy (toldAt p (next p n x) k) (length before + 1))) sum in
-      let took : a .taken ≡ length before + 1 = ap (λ (b : Settled). b .taken) a-is ∙ r .0 in
-      let left : a .polling ≡ settledIn p minute from t = ap (λ (b : Settled). b .polling) a-is ∙ r .1 in
+      let took : a .taken ≡ length before + 1 = ap (λ (b : LeftByHearing). b .taken) a-is ∙ r .0 in
+      let left : a .polling ≡ settledIn p minute from t = ap (λ (b : LeftByHearing). b .polling) a-is ∙ r .1 in
       let v-is : verdictIn p minute from t ≡ v = one-verdict (sym (ap verdicts a-is ∙ r .2) ∙ vs) in
       let xs : taken ++ take (a .taken) samples ≡ pre ++ x ∷ []
       = ap₂ (λ (k : ℕ) (l : List ℕ). taken ++ take k l) took is ∙ ap (λ (l : List ℕ). taken ++ l) (take-append-add before (x ∷ more) 1) ∙ sym (append-assoc taken before (x ∷ [])) in

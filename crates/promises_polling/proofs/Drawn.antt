@@ -12,7 +12,7 @@ use borrow.Author.Tests.{eq-eqb, ne-eqb}
 use Rattle.frame.specs.Pick.{pick}
 use Rattle.frame.specs.Line.{mark}
 use Rattle.frame.specs.Faults.{firstOf}
-use Rattle.polling.specs.declared.Drew.{Drew}
+use Rattle.polling.specs.Drawing.{LeftByDrawing}
 use Rattle.polling.specs.declared.Pace.{Pace}
 use Rattle.polling.specs.declared.Polling.{Polling}
 use Rattle.polling.specs.Pace.{badPace, paceFault}
@@ -41,7 +41,7 @@ draw-many p clock w e (suc k) q h =
     (draw-one {w = draws w q} e refl less (draw-many p clock w e k (q + 1) (omega arith)))
 
 -- What one call answers where its pace is good.
-module _ (p : Pace) (fine : badPace p ≡ false) (w : Polling) (out after : List ℕ) (answer : Drew) (d : DrawsPolling w p out answer after) where
+module _ (p : Pace) (fine : badPace p ≡ false) (w : Polling) (out after : List ℕ) (answer : LeftByDrawing) (d : DrawsPolling w p out answer after) where
   abbrev put : List ℕ
   put = drawnBy p w (length out)
 
@@ -52,13 +52,13 @@ module _ (p : Pace) (fine : badPace p ≡ false) (w : Polling) (out after : List
   left-so = d .leaves ∙ ap (λ (n : ℕ). pick (eqb n 0) (put ++ drop (length put) out) out) (no-fault p fine)
 
   pub counted : answer .count ≡ length put
-  counted = ap (λ (a : Drew). a .count) drawn-so
+  counted = ap (λ (a : LeftByDrawing). a .count) drawn-so
 
   pub samples : take (answer .count) after ≡ put
   samples = ap₂ take counted left-so ∙ take-append-seam put (drop (length put) out)
 
   pub leaves : answer .polling ≡ afterDrawn p w (length put)
-  leaves = ap (λ (a : Drew). a .polling) drawn-so
+  leaves = ap (λ (a : LeftByDrawing). a .polling) drawn-so
 
 -- Nothing is drawn in a round that is over, and nothing while it listens.
 pub idle-draws : (p : Pace) (w : Polling) → (isOver w || not (eqb (w .listening) 0)) ≡ true → (room k : ℕ) → (drawnBy p w room ≡ []) × (afterDrawn p w k ≡ meant p w)
@@ -70,7 +70,7 @@ pub busy-draws : (p : Pace) (w : Polling) → (isOver w || not (eqb (w .listenin
 unfolding drawnBy toDraw afterDrawn
 busy-draws p w e room k = (rw e, rw e)
 
-module _ (p : Pace) (fine : badPace p ≡ false) (clock : Clock) (w : Polling) (out after : List ℕ) (answer : Drew) (d : DrawsPolling w p out answer after) where
+module _ (p : Pace) (fine : badPace p ≡ false) (clock : Clock) (w : Polling) (out after : List ℕ) (answer : LeftByDrawing) (d : DrawsPolling w p out answer after) where
   abbrev drawnSamples : List ℕ
   drawnSamples = drawnBy p w (length out)
 

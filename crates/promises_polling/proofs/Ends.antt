@@ -17,10 +17,10 @@ use Rattle.lines.specs.SoFar.{atRest}
 use Rattle.lines.specs.Step.{closes}
 use Rattle.lines.specs.Hearing.{Told, numberTold}
 use Rattle.lines.proofs.Cases.{none-of, of-pick}
-use Rattle.polling.specs.declared.Drew.{Drew}
+use Rattle.polling.specs.Drawing.{LeftByDrawing}
 use Rattle.polling.specs.declared.Pace.{Pace}
 use Rattle.polling.specs.declared.Polling.{Polling}
-use Rattle.polling.specs.declared.Settled.{Settled}
+use Rattle.polling.specs.Settling.{LeftByHearing}
 use Rattle.polling.specs.Pace.{timingOf, badPace}
 use Rattle.polling.specs.Meant.{isOver, turnOf, tryDrawn, draws, listens, meant}
 use Rattle.polling.specs.Drawing.{drawnBy}
@@ -322,10 +322,10 @@ module _ (p : Pace) (fine : badPace p ≡ false) where
       let i = few-samples (next p s x) (q + 1) xs in
       first-taken s q x xs (λ n. n ≤ max (p .longest - q) 1) (omega arith) (λ e. let less = not-longest (next p s x) (q + 1) e in omega (arith, i, less))
 
-  module _ (w : Polling) (minute : ℕ) (xs : List ℕ) (a : Settled) (h : HearsPolling w p minute xs a) where
+  module _ (w : Polling) (minute : ℕ) (xs : List ℕ) (a : LeftByHearing) (h : HearsPolling w p minute xs a) where
     listened : (s : SoFar) (q : ℕ) → isOver w ≡ false → meant p w ≡ listens w s q → a .taken ≡ takenIn (listen p s q xs)
     listened s q e m =
-        ap (λ (x : Settled). x .taken) (heard-so p fine w minute xs a h ∙ ap (λ (v : Polling). heardBy p minute v xs) m ∙ heard-listening p minute w s q xs e)
+        ap (λ (x : LeftByHearing). x .taken) (heard-so p fine w minute xs a h ∙ ap (λ (v : Polling). heardBy p minute v xs) m ∙ heard-listening p minute w s q xs e)
         ∙ taken-is minute (listens w s q) (listen p s q xs)
 
     over-taken : isOver w ≡ true → meant p w ≡ w → a ≡ settledOf w 0 0 0 1 0
@@ -333,13 +333,13 @@ module _ (p : Pace) (fine : badPace p ≡ false) where
 
     drawing-taken : isOver w ≡ false → w .listening ≡ 0 → (q : ℕ) → meant p w ≡ draws w q → a .taken ≡ 0
     drawing-taken e z q m =
-        ap (λ (x : Settled). x .taken) (heard-so p fine w minute xs a h ∙ ap (λ (v : Polling). heardBy p minute v xs) m ∙ heard-drawing p minute (draws w q) 0 xs e refl)
+        ap (λ (x : LeftByHearing). x .taken) (heard-so p fine w minute xs a h ∙ ap (λ (v : Polling). heardBy p minute v xs) m ∙ heard-drawing p minute (draws w q) 0 xs e refl)
 
     call-most : a .taken ≤ hearsLeft (meant p w)
     call-most = go (mode p w)
       where
         go : Mode p w → a .taken ≤ hearsLeft (meant p w)
-        go (over e m) = omega (arith, ap (λ (x : Settled). x .taken) (over-taken e m))
+        go (over e m) = omega (arith, ap (λ (x : LeftByHearing). x .taken) (over-taken e m))
         go (drawing e z l m) = omega (arith, drawing-taken e z (w .passed) m)
         go (drawn e z l m) =
             let b : hearsLeft (meant p w) ≡ max (p .longest - 0) 1 = ap hearsLeft m in
@@ -355,7 +355,7 @@ module _ (p : Pace) (fine : badPace p ≡ false) where
         go [] none is = absurd (omega arith)
         go (y ∷ ys) n is = omega (arith, is, some-sample s q y ys)
 
-    module _ (out after : List ℕ) (d : Drew) (c : DrawsPolling w p out d after) where
+    module _ (out after : List ℕ) (d : LeftByDrawing) (c : DrawsPolling w p out d after) where
       put-none : (isOver w || not (eqb (w .listening) 0)) ≡ true → d .count ≡ 0
       put-none e = counted p fine w out after d c ∙ ap length (idle-draws p w e (length out) 0 .0)
 
@@ -366,7 +366,7 @@ module _ (p : Pace) (fine : badPace p ≡ false) where
           ∙ length-take (length out) (drop (w .passed) (tryOf p w)) ∙ ap (min (length out)) (length-drop (w .passed) (tryOf p w))
 
       over-told : d .over ≡ mark (isOver w)
-      over-told = ap (λ (x : Drew). x .over) (drawn-so p fine w out after d c)
+      over-told = ap (λ (x : LeftByDrawing). x .over) (drawn-so p fine w out after d c)
 
       one-goes-on : d .over ≡ 0 → 1 ≤ length out → 1 ≤ length xs → OneGoesOn d a
       one-goes-on o room some = go (mode p w)
@@ -386,10 +386,10 @@ module _ (p : Pace) (fine : badPace p ≡ false) where
               let s : (isOver w || not (eqb (w .listening) 0)) ≡ true = ap (λ (b : Bool). b || not (eqb (w .listening) 0)) e in
               let is = over-taken e m in (
                 put-none s,
-                ap (λ (x : Settled). x .taken) is,
-                ap (λ (x : Settled). x .over) is,
+                ap (λ (x : LeftByHearing). x .taken) is,
+                ap (λ (x : LeftByHearing). x .over) is,
                 leaves p fine w out after d c ∙ idle-draws p w s (length out) (length (drawnBy p w (length out))) .1 ∙ m,
-                ap (λ (x : Settled). x .polling) is,
+                ap (λ (x : LeftByHearing). x .polling) is,
               )
 
           go : Mode p w → (d .count ≡ 0) × (a .taken ≡ 0) × (a .over ≡ 1) × (d .polling ≡ w) × (a .polling ≡ w)
@@ -399,7 +399,7 @@ module _ (p : Pace) (fine : badPace p ≡ false) where
           go (listening e z m) = absurd (omega (arith, o, over-told, ap mark e))
 
   one-try-most : (from : Polling) → from .passed ≡ 0 → from .listening ≡ 0 → (ds xs : List ℕ) (w : Polling) → History p any from ds xs [] w
-      → (minute : ℕ) (samples : List ℕ) (a : Settled) → HearsPolling w p minute samples a → (length ds ≤ tryDraws p) × (length xs + a .taken ≤ p .longest)
+      → (minute : ℕ) (samples : List ℕ) (a : LeftByHearing) → HearsPolling w p minute samples a → (length ds ≤ tryDraws p) × (length xs + a .taken ≤ p .longest)
   one-try-most from q z ds xs w h minute samples a c =
       let r = try-left (way-of p fine any from h) in
       let b = begun-left from q z in

@@ -40,7 +40,7 @@ use Rattle.round.specs.Calls.{roundOf}
 use Rattle.polling.specs.declared.Begun.{Begun}
 use Rattle.polling.specs.declared.Pace.{Pace}
 use Rattle.polling.specs.declared.Polling.{Polling}
-use Rattle.polling.specs.declared.Settled.{Settled}
+use Rattle.polling.specs.Settling.{LeftByHearing}
 use Rattle.polling.specs.Pace.{badPace}
 use Rattle.polling.specs.Beginning.{noReply, noEntry, usedRows, replyFor, beginning, nothingBegun}
 use Rattle.polling.specs.Meant.{turnOf, draws, meant}
@@ -118,7 +118,7 @@ stuck : (p : Pace) → badPace p ≡ true → (from : Polling) {ds xs : List ℕ
 stuck p bad from history.begun = refl
 stuck p bad from (drew {w = w} out after a h d) = polling-first-fault .draw-20 w p out after a d (sym (out-of-pace p) ∙ bad) .0 ∙ stuck p bad from h
 stuck p bad from (heard {w = w} minute xs a shown h c) =
-    ap (λ (x : Settled). x .polling) (polling-first-fault .hear-20 w p minute xs a c (sym (out-of-pace p) ∙ bad)) ∙ stuck p bad from h
+    ap (λ (x : LeftByHearing). x .polling) (polling-first-fault .hear-20 w p minute xs a c (sym (out-of-pace p) ∙ bad)) ∙ stuck p bad from h
 
 -- The beginning.
 none-fits : (k : ℕ) → Fits (replicate k noReply)

@@ -20,7 +20,7 @@ use Rattle.lines.specs.Hearing.{Told, numberTold}
 use Rattle.lines.proofs.Cases.{none-of, of-pick}
 use Rattle.polling.specs.declared.Pace.{Pace}
 use Rattle.polling.specs.declared.Polling.{Polling}
-use Rattle.polling.specs.declared.Settled.{Settled}
+use Rattle.polling.specs.Settling.{LeftByHearing}
 use Rattle.polling.specs.Pace.{timingOf, badPace}
 use Rattle.polling.specs.Meant.{isOver, listens, meant}
 use Rattle.polling.specs.Listening.{Listened, goesOn, settledBy, later, listen}
@@ -67,7 +67,7 @@ pub told-end : (p : Pace) (minute : ℕ) (w : Polling) (told : Told) (k : ℕ) �
 unfolding settledAt
 told-end p minute w told k h = go (isAnswered p w told)
   where
-    go : (b : Bool) → let a : Settled = pick b (settledOf (answeredWith minute told w) k (w .at) 1 (mark (isOver (answeredWith minute told w))) (numberTold told)) (settledOf (askedAgain w) k (w .at) 0 0 (numberTold told)) in
+    go : (b : Bool) → let a : LeftByHearing = pick b (settledOf (answeredWith minute told w) k (w .at) 1 (mark (isOver (answeredWith minute told w))) (numberTold told)) (settledOf (askedAgain w) k (w .at) 0 0 (numberTold told)) in
         (a .taken ≡ k) × (a .polling ≡ pick b (answeredWith minute told w) (askedAgain w))
         × (verdicts a ≡ pick b (verdictBy (w .at) 1 (mark (isOver (answeredWith minute told w))) (numberTold told)) (verdictBy (w .at) 0 0 (numberTold told)) ∷ [])
     go true = (refl, refl, rw (lt-ltb 0 k h))
@@ -95,7 +95,7 @@ some-taken p s q (x ∷ xs) =
     (of-pick Some (ending p n (q + 1)) (settledBy (toldAt p n (q + 1)) 1) (later 1 (listen p n (q + 1) xs)) (λ e. omega arith) (λ e. some-later (listen p n (q + 1) xs)))
 
 -- One sample before.
-pub record Later (a b : Settled) : Type 0 where
+pub record Later (a b : LeftByHearing) : Type 0 where
   pub taken : a .taken ≡ suc (b .taken)
   pub polling : a .polling ≡ b .polling
   pub told : verdicts a ≡ verdicts b
@@ -119,10 +119,10 @@ one-before p minute w s n q (settledBy told k) h =
     record { taken = a .0 ∙ one ∙ ap suc (sym (b .0)); polling = a .1 ∙ sym (b .1); told = a .2 ∙ sym (b .2) }
 
 module _ (p : Pace) (fine : badPace p ≡ false) (clock : Clock) (minute : ℕ) (shown : Shows clock minute) where
-  abbrev pub heardFrom : Polling → SoFar → ℕ → List ℕ → Settled
+  abbrev pub heardFrom : Polling → SoFar → ℕ → List ℕ → LeftByHearing
   heardFrom w s q xs = settledAt p minute (listens w s q) (listen p s q xs)
 
-  abbrev WayBy : Polling → SoFar → ℕ → List ℕ → Settled → Type 0
+  abbrev WayBy : Polling → SoFar → ℕ → List ℕ → LeftByHearing → Type 0
   WayBy w s q xs a = Way p clock (listens w s q) [] (take (a .taken) xs) (verdicts a) (meant p (a .polling))
 
   first-settles : (w : Polling) → isOver w ≡ false → (s : SoFar) (q : ℕ) → Legal s → (x : ℕ) (xs : List ℕ)
@@ -165,7 +165,7 @@ module _ (p : Pace) (fine : badPace p ≡ false) (clock : Clock) (minute : ℕ) 
           (hear-on {w = listens w s q} x e refl l f (onward legal)))
 
 -- What one call answers where its pace is good.
-pub heard-so : (p : Pace) → badPace p ≡ false → (w : Polling) (minute : ℕ) (xs : List ℕ) (a : Settled) → HearsPolling w p minute xs a → a ≡ heardBy p minute (meant p w) xs
+pub heard-so : (p : Pace) → badPace p ≡ false → (w : Polling) (minute : ℕ) (xs : List ℕ) (a : LeftByHearing) → HearsPolling w p minute xs a → a ≡ heardBy p minute (meant p w) xs
 heard-so p fine w minute xs a h =
     h .answers ∙ ap (λ (n : ℕ). pick (eqb n 0) (heardBy p minute (meant p w) xs) (settledOf w 0 0 0 0 n)) (no-fault p fine)
 
@@ -182,18 +182,18 @@ pub heard-listening : (p : Pace) (minute : ℕ) (w : Polling) (s : SoFar) (q : �
 unfolding heardBy
 heard-listening p minute w s q xs e = rw e
 
-module _ (p : Pace) (fine : badPace p ≡ false) (clock : Clock) (minute : ℕ) (shown : Shows clock minute) (w : Polling) (xs : List ℕ) (a : Settled) (h : HearsPolling w p minute xs a) where
+module _ (p : Pace) (fine : badPace p ≡ false) (clock : Clock) (minute : ℕ) (shown : Shows clock minute) (w : Polling) (xs : List ℕ) (a : LeftByHearing) (h : HearsPolling w p minute xs a) where
   abbrev Goes : Type 0
   Goes = Way p clock (meant p w) [] (take (a .taken) xs) (verdicts a) (meant p (a .polling))
 
   untold : (v : Polling) (o number : ℕ) → meant p w ≡ v → a ≡ settledOf v 0 0 0 o number → Goes
   untold v o number m e =
-      moved refl refl (ap (λ (b : Settled). take (b .taken) xs) (sym e)) (ap verdicts (sym e)) (sym (ap (λ (b : Settled). meant p (b .polling)) e ∙ ap (meant p) (sym m) ∙ again p w)) stop
+      moved refl refl (ap (λ (b : LeftByHearing). take (b .taken) xs) (sym e)) (ap verdicts (sym e)) (sym (ap (λ (b : LeftByHearing). meant p (b .polling)) e ∙ ap (meant p) (sym m) ∙ again p w)) stop
 
   listened : (s : SoFar) (q : ℕ) → isOver w ≡ false → Legal s → meant p w ≡ listens w s q → Goes
   listened s q e l m =
       let is : a ≡ heardFrom p fine clock minute shown w s q xs = heard-so p fine w minute xs a h ∙ ap (λ (v : Polling). heardBy p minute v xs) m ∙ heard-listening p minute w s q xs e in
-      subst (λ (b : Settled). Way p clock (meant p w) [] (take (b .taken) xs) (verdicts b) (meant p (b .polling))) (sym is)
+      subst (λ (b : LeftByHearing). Way p clock (meant p w) [] (take (b .taken) xs) (verdicts b) (meant p (b .polling))) (sym is)
       (moved (sym m) refl refl refl refl (hear-many p fine clock minute shown w e s q l xs))
 
   pub hear-way : Goes

@@ -14,10 +14,10 @@ use Rattle.lines.specs.SoFar as lines
 use Rattle.lines.specs.SoFar.{atRest}
 use Rattle.lines.specs.Hearing.{Told}
 use Rattle.round.specs.declared.Round.{Round}
-use Rattle.polling.specs.declared.Drew.{Drew}
+use Rattle.polling.specs.Drawing.{LeftByDrawing}
 use Rattle.polling.specs.declared.Pace.{Pace}
 use Rattle.polling.specs.declared.Polling.{Polling}
-use Rattle.polling.specs.declared.Settled.{Settled}
+use Rattle.polling.specs.Settling.{LeftByHearing}
 use Rattle.polling.specs.Beginning.{noEntry}
 use Rattle.polling.specs.Pace.{badPace}
 use Rattle.polling.specs.Meant.{isOver, draws, listens, meant}
@@ -74,7 +74,7 @@ polled-by v w e h = subst (λ (r : Round). (i : ℕ) → i < r .count → getD (
 of-meaning : (p : Pace) (v w : Polling) → v .round ≡ w .round → AllPolled w → Itself p (meant p v)
 of-meaning p v w e h = record { itself = again p v; polled = polled-by (meant p v) w (same-round p v .0 ∙ e) h }
 
-pub draws-itself : (p : Pace) → badPace p ≡ false → (w : Polling) → Itself p w → (out after : List ℕ) (a : Drew) → DrawsPolling w p out a after → Itself p (a .polling)
+pub draws-itself : (p : Pace) → badPace p ≡ false → (w : Polling) → Itself p w → (out after : List ℕ) (a : LeftByDrawing) → DrawsPolling w p out a after → Itself p (a .polling)
 draws-itself p fine w i out after a d = subst (Itself p) (sym (leaves p fine w out after a d)) (go (mode p w))
   where
     idle : (isOver w || not (eqb (w .listening) 0)) ≡ true → Itself p (afterDrawn p w (length (drawnBy p w (length out))))
@@ -91,11 +91,11 @@ draws-itself p fine w i out after a d = subst (Itself p) (sym (leaves p fine w o
     go (drawn e z l m) = busy (ap₂ (λ (a b : Bool). a || not b) e (eq-eqb (w .listening) 0 z))
     go (listening e z m) = idle (ap₂ (λ (a b : Bool). a || not b) e (ne-eqb (w .listening) 0 z))
 
-pub hears-itself : (p : Pace) → badPace p ≡ false → (w : Polling) → Itself p w → (minute : ℕ) (xs : List ℕ) (a : Settled) → HearsPolling w p minute xs a → Itself p (a .polling)
+pub hears-itself : (p : Pace) → badPace p ≡ false → (w : Polling) → Itself p w → (minute : ℕ) (xs : List ℕ) (a : LeftByHearing) → HearsPolling w p minute xs a → Itself p (a .polling)
 hears-itself p fine w i minute xs a h = go (mode p w)
   where
     stays : (o : ℕ) → a ≡ settledOf (meant p w) 0 0 0 o 0 → Itself p (a .polling)
-    stays o e = subst (λ (b : Settled). Itself p (b .polling)) (sym e) (of-meaning p w w refl (i .polled))
+    stays o e = subst (λ (b : LeftByHearing). Itself p (b .polling)) (sym e) (of-meaning p w w refl (i .polled))
 
     by-left : isOver w ≡ false → (left : Polling) → LeftBy p minute w left → Itself p left
     by-left e left (goes s q l is) = subst (Itself p) (sym is) (record { itself = meant-listens p w s q e l; polled = i .polled })
@@ -105,7 +105,7 @@ hears-itself p fine w i minute xs a h = go (mode p w)
     listens-on : (s : SoFar) (q : ℕ) → isOver w ≡ false → Legal s → meant p w ≡ listens w s q → Itself p (a .polling)
     listens-on s q e l m =
         by-left e (a .polling)
-        (subst (λ (b : Settled). LeftBy p minute w (b .polling))
+        (subst (λ (b : LeftByHearing). LeftBy p minute w (b .polling))
         (sym (heard-so p fine w minute xs a h ∙ ap (λ (v : Polling). heardBy p minute v xs) m ∙ heard-listening p minute w s q xs e)) (left-by p fine minute w s q l xs))
 
     go : Mode p w → Itself p (a .polling)

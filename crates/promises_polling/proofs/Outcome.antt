@@ -21,10 +21,10 @@ use Rattle.lines.specs.Hearing.{Told, nothing, message, spoiled, numberTold}
 use Rattle.lines.proofs.Cases.{of-pick}
 use Rattle.drawing.specs.Pulses.{badPulse}
 use Rattle.polling.specs.declared.Begun.{Begun}
-use Rattle.polling.specs.declared.Drew.{Drew}
+use Rattle.polling.specs.Drawing.{LeftByDrawing}
 use Rattle.polling.specs.declared.Pace.{Pace}
 use Rattle.polling.specs.declared.Polling.{Polling}
-use Rattle.polling.specs.declared.Settled.{Settled}
+use Rattle.polling.specs.Settling.{LeftByHearing}
 use Rattle.polling.specs.Pace.{timingOf, badPace, paceFault}
 use Rattle.polling.specs.Beginning.{beginning, nothingBegun}
 use Rattle.polling.specs.Meant.{isOver, listens, meant}
@@ -41,7 +41,7 @@ use Rattle.promises_polling.proofs.Meaning.{Mode, over, drawing, drawn,
 use Rattle.promises_polling.proofs.Heard.{heard-so, heard-over, heard-drawing, heard-listening}
 use Rattle.promises_polling.proofs.Sound.{Sound, Soundly, listen-sound}
 
-pair : (a b : Drew × List ℕ) → a .0 ≡ b .0 → a .1 ≡ b .1 → a ≡ b
+pair : (a b : LeftByDrawing × List ℕ) → a .0 ≡ b .0 → a .1 ≡ b .1 → a ≡ b
 pair a b e f = λ i. (e i, f i)
 
 pub polling-outcome : PollingOutcome
@@ -118,22 +118,22 @@ begin-number rows minute a b =
     go true = refl
     go false = refl
 
-draw-number : (w : Polling) (p : Pace) (out after : List ℕ) (a : Drew) → DrawsPolling w p out a after → a .number ≡ paceFault p
-draw-number w p out after a d = ap (λ (x : Drew). x .number) (d .answers) ∙ go (paceFault p) (eqb (paceFault p) 0) refl
+draw-number : (w : Polling) (p : Pace) (out after : List ℕ) (a : LeftByDrawing) → DrawsPolling w p out a after → a .number ≡ paceFault p
+draw-number w p out after a d = ap (λ (x : LeftByDrawing). x .number) (d .answers) ∙ go (paceFault p) (eqb (paceFault p) 0) refl
   where
     go : (n : ℕ) (t : Bool) → eqb n 0 ≡ t → pick t (polling.drew (afterDrawn p w (length (drawnBy p w (length out)))) (length (drawnBy p w (length out))) (mark (isOver w)) 0) (polling.drew w 0 0 n) .number ≡ n
     go n true e = sym (eqb-true n 0 e)
     go n false e = refl
 
-draw-refused : (w : Polling) (p : Pace) (out after : List ℕ) (a : Drew) → DrawsPolling w p out a after → outOfPace p ≡ true
+draw-refused : (w : Polling) (p : Pace) (out after : List ℕ) (a : LeftByDrawing) → DrawsPolling w p out a after → outOfPace p ≡ true
     → (a .polling ≡ w) × (a .count ≡ 0) × (a .over ≡ 0) × (after ≡ out)
 draw-refused w p out after a d e =
     let put : List ℕ = drawnBy p w (length out) in
     let is : a ≡ polling.drew w 0 0 20
     = d .answers ∙ ap (λ (n : ℕ). pick (eqb n 0) (polling.drew (afterDrawn p w (length put)) (length put) (mark (isOver w)) 0) (polling.drew w 0 0 n)) (bad-fault p e) in (
-      ap (λ (x : Drew). x .polling) is,
-      ap (λ (x : Drew). x .count) is,
-      ap (λ (x : Drew). x .over) is,
+      ap (λ (x : LeftByDrawing). x .polling) is,
+      ap (λ (x : LeftByDrawing). x .count) is,
+      ap (λ (x : LeftByDrawing). x .over) is,
       d .leaves ∙ ap (λ (n : ℕ). pick (eqb n 0) (put ++ drop (length put) out) out) (bad-fault p e),
     )
 
@@ -147,14 +147,14 @@ settled-number : (p : Pace) (minute : ℕ) (w : Polling) (h : Listened) → Soun
 unfolding settledAt
 settled-number p minute w (goesOn left k) s = λ e. omega arith
 settled-number p minute w (settledBy told k) s =
-    of-pick (λ (a : Settled). a .number ≡ 20 → ⊥) (isAnswered p w told) (settledOf (answeredWith minute told w) k (w .at) 1 (mark (isOver (answeredWith minute told w))) (numberTold told))
+    of-pick (λ (a : LeftByHearing). a .number ≡ 20 → ⊥) (isAnswered p w told) (settledOf (answeredWith minute told w) k (w .at) 1 (mark (isOver (answeredWith minute told w))) (numberTold told))
     (settledOf (askedAgain w) k (w .at) 0 0 (numberTold told)) (λ e. sound-number told s) (λ e. sound-number told s)
 
-hear-number : (w : Polling) (p : Pace) (minute : ℕ) (xs : List ℕ) (a : Settled) → HearsPolling w p minute xs a → badPace p ≡ false → (a .number ≡ 20 → ⊥)
+hear-number : (w : Polling) (p : Pace) (minute : ℕ) (xs : List ℕ) (a : LeftByHearing) → HearsPolling w p minute xs a → badPace p ≡ false → (a .number ≡ 20 → ⊥)
 hear-number w p minute xs a h fine = go (mode p w)
   where
-    by : (b : Settled) → a ≡ b → (b .number ≡ 20 → ⊥) → a .number ≡ 20 → ⊥
-    by b e q = subst (λ (x : Settled). x .number ≡ 20 → ⊥) (sym e) q
+    by : (b : LeftByHearing) → a ≡ b → (b .number ≡ 20 → ⊥) → a .number ≡ 20 → ⊥
+    by b e q = subst (λ (x : LeftByHearing). x .number ≡ 20 → ⊥) (sym e) q
 
     listened : (s : SoFar) (q : ℕ) → isOver w ≡ false → Legal s → meant p w ≡ listens w s q → a .number ≡ 20 → ⊥
     listened s q e l m =

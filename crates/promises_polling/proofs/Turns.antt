@@ -24,7 +24,7 @@ use Rattle.lines.proofs.Cases.{none-of, either}
 use Rattle.round.specs.declared.Polled.{Polled}
 use Rattle.round.specs.declared.Round.{Round}
 use Rattle.polling.specs.declared.Begun.{Begun}
-use Rattle.polling.specs.declared.Drew.{Drew}
+use Rattle.polling.specs.Drawing.{LeftByDrawing}
 use Rattle.polling.specs.declared.Pace.{Pace}
 use Rattle.polling.specs.declared.Polling.{Polling}
 use Rattle.polling.specs.Pace.{badPace}
@@ -342,12 +342,12 @@ was-begun rows minute b h z = go (kept (boardOf rows)) refl
 
 in-turn-so : (rows : List Row) (minute : ℕ) (b : Begun) → BeginsPolling rows minute b → b .number ≡ 0 → UpTo999 (addressesIn (boardOf rows))
     → (p : Pace) → badPace p ≡ false → {ds xs : List ℕ} {vs : List Verdict} {end : Polling} → History p any (b .polling) ds xs vs end
-    → (out after : List ℕ) (d : Drew) → DrawsPolling end p out d after → d .over ≡ 1 → InTurn p (addressesIn (boardOf rows)) ds
+    → (out after : List ℕ) (d : LeftByDrawing) → DrawsPolling end p out d after → d .over ≡ 1 → InTurn p (addressesIn (boardOf rows)) ds
 in-turn-so rows minute b g z h p fine {ds} {xs} {vs} {end} calls out after d c o =
     let is : b .polling ≡ start rows minute = was-begun rows minute b g z .1 in
     let way = way-of p fine any (start rows minute) (subst (λ (w : Polling). History p any w ds xs vs end) is calls) in
     subst (λ (l : List ℕ). InTurn p l ds) (start-addrs rows minute)
-    (from-begin p fine (start rows minute) refl refl refl refl (start-ready rows minute h) way (same-round p end .2 ∙ is-over (isOver end) (ap (λ (x : Drew). x .over) (drawn-so p fine end out after d c))))
+    (from-begin p fine (start rows minute) refl refl refl refl (start-ready rows minute h) way (same-round p end .2 ∙ is-over (isOver end) (ap (λ (x : LeftByDrawing). x .over) (drawn-so p fine end out after d c))))
   where
     is-over : (t : Bool) → d .over ≡ mark t → t ≡ true
     is-over true e = refl

@@ -8,10 +8,10 @@ use lib.ListN.{length, take}
 use Rattle.frame.specs.Pick.{pick}
 use Rattle.lines.specs.Sample.{sampleOf}
 use Rattle.lines.specs.SoFar.{atRest}
-use Rattle.polling.specs.declared.Drew.{Drew}
+use Rattle.polling.specs.Drawing.{LeftByDrawing}
 use Rattle.polling.specs.declared.Pace.{Pace}
 use Rattle.polling.specs.declared.Polling.{Polling}
-use Rattle.polling.specs.declared.Settled.{Settled}
+use Rattle.polling.specs.Settling.{LeftByHearing}
 use Rattle.polling.specs.Pace.{timingOf, badPace}
 use Rattle.polling.specs.Meant.{isOver}
 use Rattle.polling.specs.Calls.{DrawsPolling, HearsPolling}
@@ -46,7 +46,7 @@ pub record Stands (minute : ℕ) (bits : List ℕ) (after : Polling) (reply : �
   pub when : replyAt after reply .minute ≡ minute
 
 -- What a call says that settles a try by these samples: by what number, of which reply, and whether it stands now, or is asked for again with the round as it was.
-pub record TryAnswered (p : Pace) (from : Polling) (samples : List ℕ) (minute : ℕ) (a : Settled) (v : Verdict) : Type 0 where
+pub record TryAnswered (p : Pace) (from : Polling) (samples : List ℕ) (minute : ℕ) (a : LeftByHearing) (v : Verdict) : Type 0 where
   pub bits : List ℕ
   pub settles : Settles p samples (v .number) bits
   pub reply : v .reply ≡ from .at
@@ -55,14 +55,14 @@ pub record TryAnswered (p : Pace) (from : Polling) (samples : List ℕ) (minute 
 
 pub record AnswersByRuns : Type 0 where
   -- Listening begins at rest with nothing passed, whatever was drawn: a call that draws to the end of a poll leaves it so, and hears none of its samples.
-  pub begins : (p : Pace) (w : Polling) → badPace p ≡ false → w .listening ≡ 0 → (out after : List ℕ) (d : Drew) → DrawsPolling w p out d after
+  pub begins : (p : Pace) (w : Polling) → badPace p ≡ false → w .listening ≡ 0 → (out after : List ℕ) (d : LeftByDrawing) → DrawsPolling w p out d after
       → (d .polling .listening ≡ 0 → ⊥) → (d .polling .listening ≡ 1) × (d .polling .passed ≡ 0) × (d .polling .lines ≡ atRest)
   -- From there, in any calls, up to the one that settles the try: `taken` and the samples that it takes are those sensed after this poll, and no others.
   -- (A round has 30 places for replies.)
   pub told : (p : Pace) (from : Polling) → badPace p ≡ false → isOver from ≡ false → length (from .round .replies) ≡ 30
       → from .listening ≡ 1 → from .passed ≡ 0 → from .lines ≡ atRest
       → (drawn taken : List ℕ) (w : Polling) → History p any from drawn taken [] w
-      → (minute : ℕ) (samples : List ℕ) (a : Settled) → HearsPolling w p minute samples a → (v : Verdict) → verdicts a ≡ v ∷ []
+      → (minute : ℕ) (samples : List ℕ) (a : LeftByHearing) → HearsPolling w p minute samples a → (v : Verdict) → verdicts a ≡ v ∷ []
       → TryAnswered p from (taken ++ take (a .taken) samples) minute a v
   -- A reply that stands is never changed again.
   pub stays : (p : Pace) (from : Polling) → badPace p ≡ false → (drawn taken : List ℕ) (told : List Verdict) (end : Polling) → History p any from drawn taken told end

@@ -9,10 +9,10 @@ use Rattle.board.specs.declared.Row.{Row}
 use Rattle.board.specs.Rows.{boardOf}
 use Rattle.board.specs.Order.{kept}
 use Rattle.polling.specs.declared.Begun.{Begun}
-use Rattle.polling.specs.declared.Drew.{Drew}
+use Rattle.polling.specs.Drawing.{LeftByDrawing}
 use Rattle.polling.specs.declared.Pace.{Pace}
 use Rattle.polling.specs.declared.Polling.{Polling}
-use Rattle.polling.specs.declared.Settled.{Settled}
+use Rattle.polling.specs.Settling.{LeftByHearing}
 use Rattle.polling.specs.Calls.{BeginsPolling, DrawsPolling, HearsPolling}
 use Rattle.promises_frame.specs.One.{One}
 use Rattle.promises_frame.specs.FirstFault.{FirstThatApplies}
@@ -20,8 +20,8 @@ use Rattle.promises_frame.specs.FirstFault.{FirstThatApplies}
 -- The contracts allow one answer, and drawing one output, for all that a call is handed.
 pub record PollingOutcome : Type 0 where
   pub begin : (rows : List Row) (minute : ℕ) → One Begun (BeginsPolling rows minute)
-  pub draw : (w : Polling) (p : Pace) (out : List ℕ) → One (Drew × List ℕ) (λ o. DrawsPolling w p out (o .0) (o .1))
-  pub hear : (w : Polling) (p : Pace) (minute : ℕ) (samples : List ℕ) → One Settled (HearsPolling w p minute samples)
+  pub draw : (w : Polling) (p : Pace) (out : List ℕ) → One (LeftByDrawing × List ℕ) (λ o. DrawsPolling w p out (o .0) (o .1))
+  pub hear : (w : Polling) (p : Pace) (minute : ℕ) (samples : List ℕ) → One LeftByHearing (HearsPolling w p minute samples)
 
 -- 38 is a board that is not kept in order.
 abbrev pub beginTable : List Row → List Test
@@ -41,13 +41,13 @@ paceTable p = outOfPace p gives 20 ∷ []
 
 pub record PollingFirstFault : Type 0 where
   pub begin : (rows : List Row) (minute : ℕ) (answer : Begun) → BeginsPolling rows minute answer → FirstThatApplies (beginTable rows) (38 ∷ []) (answer .number)
-  pub draw : (w : Polling) (p : Pace) (out after : List ℕ) (answer : Drew) → DrawsPolling w p out answer after
+  pub draw : (w : Polling) (p : Pace) (out after : List ℕ) (answer : LeftByDrawing) → DrawsPolling w p out answer after
       → FirstThatApplies (paceTable p) (20 ∷ []) (answer .number)
   -- 20 comes before all else, a round that is over too: the state comes back as it was handed in, and all else is 0.
-  pub draw-20 : (w : Polling) (p : Pace) (out after : List ℕ) (answer : Drew) → DrawsPolling w p out answer after → outOfPace p ≡ true
+  pub draw-20 : (w : Polling) (p : Pace) (out after : List ℕ) (answer : LeftByDrawing) → DrawsPolling w p out answer after → outOfPace p ≡ true
       → (answer .polling ≡ w) × (answer .count ≡ 0) × (answer .over ≡ 0) × (after ≡ out)
-  pub hear-20 : (w : Polling) (p : Pace) (minute : ℕ) (samples : List ℕ) (answer : Settled) → HearsPolling w p minute samples answer → outOfPace p ≡ true
+  pub hear-20 : (w : Polling) (p : Pace) (minute : ℕ) (samples : List ℕ) (answer : LeftByHearing) → HearsPolling w p minute samples answer → outOfPace p ≡ true
       → answer ≡ record { polling = w; taken = 0; reply = 0; answered = 0; over = 0; number = 20 }
   -- And only there: 21 and 22 are no refusals, but tell how a try was settled.
-  pub hear-fine : (w : Polling) (p : Pace) (minute : ℕ) (samples : List ℕ) (answer : Settled) → HearsPolling w p minute samples answer → outOfPace p ≡ false
+  pub hear-fine : (w : Polling) (p : Pace) (minute : ℕ) (samples : List ℕ) (answer : LeftByHearing) → HearsPolling w p minute samples answer → outOfPace p ≡ false
       → answer .number ≡ 20 → ⊥

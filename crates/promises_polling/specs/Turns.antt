@@ -18,7 +18,7 @@ use Rattle.lines.specs.Timing.{Timing, badTiming}
 use Rattle.lines.specs.SoFar.{atRest}
 use Rattle.lines.specs.Calls.{HearsLines}
 use Rattle.polling.specs.declared.Begun.{Begun}
-use Rattle.polling.specs.declared.Drew.{Drew}
+use Rattle.polling.specs.Drawing.{LeftByDrawing}
 use Rattle.polling.specs.declared.Pace.{Pace}
 use Rattle.polling.specs.declared.Polling.{Polling}
 use Rattle.polling.specs.Pace.{badPace}
@@ -65,7 +65,7 @@ pub record PollsInTurn : Type 0 where
   -- From begin to over: a call that draws says that it is over.
   pub in-turn : (rows : List Row) (minute : ℕ) (b : Begun) → BeginsPolling rows minute b → b .number ≡ 0 → UpTo999 (addressesIn (boardOf rows))
       → (p : Pace) → badPace p ≡ false → (drawn taken : List ℕ) (told : List Verdict) (end : Polling) → History p any (b .polling) drawn taken told end
-      → (out after : List ℕ) (d : Drew) → DrawsPolling end p out d after → d .over ≡ 1
+      → (out after : List ℕ) (d : LeftByDrawing) → DrawsPolling end p out d after → d .over ≡ 1
       → InTurn p (addressesIn (boardOf rows)) drawn
   pub rising : (rows : List Row) (minute : ℕ) (b : Begun) → BeginsPolling rows minute b → b .number ≡ 0 → RisingFrom 0 (addressesIn (boardOf rows))
   -- By any timing that takes the pulses and does not take the idle between them for a gap.

@@ -14,7 +14,7 @@ use Rattle.board.specs.Rows.{boardOf}
 use Rattle.polling.specs.declared.Begun.{Begun}
 use Rattle.polling.specs.declared.Pace.{Pace}
 use Rattle.polling.specs.declared.Polling.{Polling}
-use Rattle.polling.specs.declared.Settled.{Settled}
+use Rattle.polling.specs.Settling.{LeftByHearing}
 use Rattle.polling.specs.Pace.{badPace}
 use Rattle.polling.specs.Beginning.{usedRows}
 use Rattle.polling.specs.Meant.{isOver, draws, meant}
@@ -88,7 +88,7 @@ module _ (p : Pace) (fine : badPace p ≡ false) (rows : List Row) (minute : ℕ
   StoodSo zs = (y : Stood) → After zs i y → y .samples ≡ samplesOf (x .drawing)
 
   -- One turn, heard from a state that means itself.
-  module _ (ys : List Stood) (since : List ℕ) (v : Polling) (run : Running p (b .polling) ys since v) (itself : meant p v ≡ v) (now : ℕ) (samples : List ℕ) (a : Settled)
+  module _ (ys : List Stood) (since : List ℕ) (v : Polling) (run : Running p (b .polling) ys since v) (itself : meant p v ≡ v) (now : ℕ) (samples : List ℕ) (a : LeftByHearing)
       (hear : HearsPolling v p now samples a) (before : StoodSo ys) where
     way : OnItsWay p rows ys since v
     way = record { enrolled = ok; minute = minute; begun = b; begins = begins; accepted = accepted; paced = fine; calls = run }
@@ -121,10 +121,10 @@ module _ (p : Pace) (fine : badPace p ≡ false) (rows : List Row) (minute : ℕ
         by-turn on false f = one-more (λ e. absurd (eqb-false (length ys) i f e))
 
         go : Mode p v → StoodSo (ys ++ stoodBy a now samples since)
-        go (over e m) = none-more (ap (λ (c : Settled). c .answered) (answer ∙ heard-over p now (meant p v) samples (ap isOver m ∙ e)))
+        go (over e m) = none-more (ap (λ (c : LeftByHearing). c .answered) (answer ∙ heard-over p now (meant p v) samples (ap isOver m ∙ e)))
         go (drawing e z l m) =
             none-more
-            (ap (λ (c : Settled). c .answered) (answer ∙ heard-drawing p now (meant p v) 0 samples (ap isOver m ∙ e) (ap (λ (u : Polling). u .listening) m)))
+            (ap (λ (c : LeftByHearing). c .answered) (answer ∙ heard-drawing p now (meant p v) 0 samples (ap isOver m ∙ e) (ap (λ (u : Polling). u .listening) m)))
         go (drawn e z l m) = absurd (let on : v .listening ≡ 1 = ap (λ (u : Polling). u .listening) (sym itself ∙ m) in omega (arith, z, on))
         go (listening e z m) = by-turn (e, z) (eqb (length ys) i) refl
 

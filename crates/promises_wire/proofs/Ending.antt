@@ -17,7 +17,7 @@ use Rattle.lines.specs.Hearing.{Told, numberTold}
 use Rattle.lines.proofs.Cases.{none-of}
 use Rattle.polling.specs.declared.Pace.{Pace}
 use Rattle.polling.specs.declared.Polling.{Polling}
-use Rattle.polling.specs.declared.Settled.{Settled}
+use Rattle.polling.specs.Settling.{LeftByHearing}
 use Rattle.polling.specs.Pace.{timingOf, badPace}
 use Rattle.polling.specs.Meant.{isOver, draws, listens}
 use Rattle.polling.specs.Drawing.{drawnBy}
@@ -87,7 +87,7 @@ module _ (p : Pace) (fine : badPace p ≡ false) (from : Polling) where
       v : Polling
       v = listens w atRest 0
 
-      a : Settled
+      a : LeftByHearing
       a = polling-outcome .hear v p (s .minute) (s .samples) .some
 
       call : HearsPolling v p (s .minute) (s .samples) a
@@ -98,9 +98,9 @@ module _ (p : Pace) (fine : badPace p ≡ false) (from : Polling) where
           heard-so p fine v (s .minute) (s .samples) a call ∙ ap (λ (u : Polling). heardBy p (s .minute) u (s .samples)) (meant-listens p w atRest 0 e rest)
           ∙ heard-listening p (s .minute) w atRest 0 (s .samples) e
 
-      after : (b : Settled) → a ≡ b → Running p from (xs ++ stoodBy b (s .minute) (s .samples) []) (sinceAfter b (s .samples) []) (b .polling)
+      after : (b : LeftByHearing) → a ≡ b → Running p from (xs ++ stoodBy b (s .minute) (s .samples) []) (sinceAfter b (s .samples) []) (b .polling)
       after b is =
-          subst (λ (c : Settled). Running p from (xs ++ stoodBy c (s .minute) (s .samples) []) (sinceAfter c (s .samples) []) (c .polling)) is
+          subst (λ (c : LeftByHearing). Running p from (xs ++ stoodBy c (s .minute) (s .samples) []) (sinceAfter c (s .samples) []) (c .polling)) is
           (heard (s .minute) (s .samples) a fits (polled xs w r e z) call)
 
       by : (told : Told) (n : ℕ) → listen p atRest 0 (s .samples) ≡ settledBy told n → (b : Bool) → isAnswered p v told ≡ b

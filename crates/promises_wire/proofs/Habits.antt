@@ -14,10 +14,10 @@ use Rattle.board.specs.declared.Row.{Row}
 use Rattle.board.specs.Rows.{boardOf}
 use Rattle.lines.specs.SoFar.{atRest}
 use Rattle.polling.specs.declared.Begun.{Begun}
-use Rattle.polling.specs.declared.Drew.{Drew}
+use Rattle.polling.specs.Drawing.{LeftByDrawing}
 use Rattle.polling.specs.declared.Pace.{Pace}
 use Rattle.polling.specs.declared.Polling.{Polling}
-use Rattle.polling.specs.declared.Settled.{Settled}
+use Rattle.polling.specs.Settling.{LeftByHearing}
 use Rattle.polling.specs.Pace.{badPace}
 use Rattle.polling.specs.Beginning.{usedRows}
 use Rattle.polling.specs.Meant.{isOver, meant}
@@ -74,12 +74,12 @@ module _ (p : Pace) (fine : badPace p ≡ false) (rows : List Row) (minute : ℕ
       samples : List ℕ
       size : length samples ≡ suc batch
       sends : Listens v → (x : Sent) × After xs (length ys) x × Sends x since samples
-      a : Settled
+      a : LeftByHearing
       hear : HearsPolling v p now samples a
       then : Coming xs (ys ++ stoodBy a now samples since) (sinceAfter a samples since)
 
     -- not listening
-    quiet-turn : (Listens v → ⊥) → (samples : List ℕ) → length samples ≡ suc batch → (a : Settled) → HearsPolling v p now samples a → a .answered ≡ 0 → a .taken ≡ 0 → Heard
+    quiet-turn : (Listens v → ⊥) → (samples : List ℕ) → length samples ≡ suc batch → (a : LeftByHearing) → HearsPolling v p now samples a → a .answered ≡ 0 → a .taken ≡ 0 → Heard
     quiet-turn off samples size a hear none zero-taken =
         record { samples = samples; size = size; sends = λ on. absurd (off on); a = a; hear = hear; then = go (eqb (a .polling .listening) 0) }
       where
@@ -96,7 +96,7 @@ module _ (p : Pace) (fine : badPace p ≡ false) (rows : List Row) (minute : ℕ
     abbrev idle : List ℕ
     idle = replicate (suc batch) 0
 
-    abbrev answerTo : List ℕ → Settled
+    abbrev answerTo : List ℕ → LeftByHearing
     answerTo samples = polling-outcome .hear v p now samples .some
 
     abbrev callOf : (samples : List ℕ) → HearsPolling v p now samples (answerTo samples)
@@ -111,7 +111,7 @@ module _ (p : Pace) (fine : badPace p ≡ false) (rows : List Row) (minute : ℕ
           let size : length samples ≡ suc batch = omega (arith, length-take (suc batch) rest, less) in
           let left : 1 ≤ length more = omega (arith, length-drop (suc batch) rest, less) in
           let all : since ++ samples ++ more ≡ samplesOf (x .drawing) = append-assoc since samples more ∙ ap (λ (l : List ℕ). since ++ l) (take-append-drop (suc batch) rest) ∙ is in
-          let a : Settled = answerTo samples in
+          let a : LeftByHearing = answerTo samples in
           let g : GoesOn samples a = said-in-time .goes-on p rows ys since v way on x (timely-at sent next) samples more all left now a (callOf samples) in
           let stood : ys ++ stoodBy a now samples since ≡ ys
           = ap (λ (k : ℕ). ys ++ pick (eqb k 0) [] (record { minute = now; samples = since ++ take (a .taken) samples } ∷ [])) (g .answered) ∙ append-nil ys in
@@ -133,7 +133,7 @@ module _ (p : Pace) (fine : badPace p ≡ false) (rows : List Row) (minute : ℕ
           let samples : List ℕ = rest ++ tail in
           let size : length samples ≡ suc batch = omega (arith, length-append rest tail, length-replicate {A = ℕ} (suc batch - length rest) 0, long) in
           let all : since ++ samples ≡ samplesOf (x .drawing) ++ tail = sym (append-assoc since rest tail) ∙ ap (λ (l : List ℕ). l ++ tail) is in
-          let a : Settled = answerTo samples in
+          let a : LeftByHearing = answerTo samples in
           let r = settled-so p rows ys since v way on now samples a (callOf samples) x (timely-at sent next) tail all in
           record {
             samples = samples;
@@ -161,7 +161,7 @@ module _ (p : Pace) (fine : badPace p ≡ false) (rows : List Row) (minute : ℕ
       where
         quiet : (Listens v → ⊥) → (o : ℕ) → (w : Polling) → answerTo idle ≡ settledOf w 0 0 0 o 0 → Heard
         quiet off o w e =
-            quiet-turn off idle (length-replicate (suc batch) 0) (answerTo idle) (callOf idle) (ap (λ (c : Settled). c .answered) e) (ap (λ (c : Settled). c .taken) e)
+            quiet-turn off idle (length-replicate (suc batch) 0) (answerTo idle) (callOf idle) (ap (λ (c : LeftByHearing). c .answered) e) (ap (λ (c : LeftByHearing). c .taken) e)
 
         listens-so : Listens v → Coming xs ys since → Heard
         listens-so on (still x rest next is some) = a-batch on x next rest is some
@@ -200,7 +200,7 @@ module _ (p : Pace) (fine : badPace p ≡ false) (rows : List Row) (minute : ℕ
       let w : Polling = t .end in
       let out : List ℕ = replicate (suc (h .room n)) 0 in
       let o = polling-outcome .draw w p out in
-      let d : Drew = o .some .0 in
+      let d : LeftByDrawing = o .some .0 in
       let after : List ℕ = o .some .1 in
       let left : d .polling ≡ afterDrawn p w (length (drawnBy p w (length out))) = leaves p fine w out after d (o .allowed) in
       let itself : meant p (d .polling) ≡ d .polling = ap (meant p) left ∙ drawn-itself p w (length (drawnBy p w (length out))) ∙ sym left in

@@ -25,7 +25,7 @@ use Rattle.round.specs.Replies.{entryIn}
 use Rattle.round.specs.Calls.{mostReplies}
 use Rattle.polling.specs.declared.Pace.{Pace}
 use Rattle.polling.specs.declared.Polling.{Polling}
-use Rattle.polling.specs.declared.Settled.{Settled}
+use Rattle.polling.specs.Settling.{LeftByHearing}
 use Rattle.polling.specs.Pace.{timingOf}
 use Rattle.polling.specs.Beginning.{noEntry, usedRows}
 use Rattle.polling.specs.Meant.{isOver, turnOf, listens}
@@ -93,7 +93,7 @@ module _ (p : Pace) (rows : List Row) (xs : List Stood) (since : List ℕ) (w : 
   here = listens w (w .lines) (w .passed)
 
   -- a call that hears
-  module _ (minute : ℕ) (samples : List ℕ) (a : Settled) (call : HearsPolling w p minute samples a) where
+  module _ (minute : ℕ) (samples : List ℕ) (a : LeftByHearing) (call : HearsPolling w p minute samples a) where
     hears : a ≡ settledAt p minute here (listen p (w .lines) (w .passed) samples)
     hears =
         heard-so p (way .paced) w minute samples a call
@@ -110,9 +110,9 @@ module _ (p : Pace) (rows : List Row) (xs : List Stood) (since : List ℕ) (w : 
       goes (goesOn left k) e (both-go-on there n all h) =
           let answer : a ≡ settledOf (listens here left (w .passed + k)) k 0 0 0 0 = hears ∙ ap (settledAt p minute here) e in
           record {
-            taken = ap (λ (b : Settled). b .taken) answer ∙ all;
-            answered = ap (λ (b : Settled). b .answered) answer;
-            listens = (ap (λ (b : Settled). isOver (b .polling)) answer ∙ on .0, λ z. omega (arith, z, ap (λ (b : Settled). b .polling .listening) answer));
+            taken = ap (λ (b : LeftByHearing). b .taken) answer ∙ all;
+            answered = ap (λ (b : LeftByHearing). b .answered) answer;
+            listens = (ap (λ (b : LeftByHearing). isOver (b .polling)) answer ∙ on .0, λ z. omega (arith, z, ap (λ (b : LeftByHearing). b .polling .listening) answer));
           }
       goes (settledBy told k) e (both-ended u n h few f took same) =
           let part : listen p atRest 0 (since ++ samples) ≡ settledBy told (w .passed + k) = whole ∙ ap (later (w .passed)) e in
@@ -129,7 +129,7 @@ module _ (p : Pace) (rows : List Row) (xs : List Stood) (since : List ℕ) (w : 
       abbrev told : Told
       told = let r = listens-to p (way .paced) x timely more in message (r .count) (r .bits)
 
-      abbrev answer : ℕ → Settled
+      abbrev answer : ℕ → LeftByHearing
       answer k = settledOf (answeredWith minute told here) k (w .at) 1 (mark (isOver (answeredWith minute told here))) 0
 
       record HeardAll : Type 0 where
@@ -162,9 +162,9 @@ module _ (p : Pace) (rows : List Row) (xs : List Stood) (since : List ℕ) (w : 
       pub settled-so : (a .answered ≡ 1) × (since ++ take (a .taken) samples ≡ samplesOf (x .drawing)) × (a .polling .listening ≡ 0)
       settled-so =
           let h = heard-all in (
-            ap (λ (c : Settled). c .answered) (h .answers),
-            ap (λ (c : Settled). since ++ take (c .taken) samples) (h .answers) ∙ h .taken,
-            ap (λ (c : Settled). c .polling .listening) (h .answers),
+            ap (λ (c : LeftByHearing). c .answered) (h .answers),
+            ap (λ (c : LeftByHearing). since ++ take (c .taken) samples) (h .answers) ∙ h .taken,
+            ap (λ (c : LeftByHearing). c .polling .listening) (h .answers),
           )
 
       stands-so : SentBy (turnOf w .settings) (turnOf w .address) x → minute < 2 ^ 32 → StandsSo w since samples x minute a
@@ -180,10 +180,10 @@ module _ (p : Pace) (rows : List Row) (xs : List Stood) (since : List ℕ) (w : 
           (b .its .samples ∙ h .taken) in
           record {
             answered = settled-so .0;
-            number = ap (λ (c : Settled). c .number) (h .answers);
-            reply = ap (λ (c : Settled). c .reply) (h .answers);
+            number = ap (λ (c : LeftByHearing). c .number) (h .answers);
+            reply = ap (λ (c : LeftByHearing). c .reply) (h .answers);
             taken = settled-so .1;
-            entry = ap (λ (c : Settled). entryIn (getD (c .polling .round .replies) (w .at) noEntry)) (h .answers)
+            entry = ap (λ (c : LeftByHearing). entryIn (getD (c .polling .round .replies) (w .at) noEntry)) (h .answers)
                 ∙ ap entryIn (getD-set-same (w .round .replies) (w .at) entry noEntry (b .placed))
                 ∙ b .entry-is ∙ says .entry
                 ∙ (λ i. entryOf ((b .its .settings ∙ sym (b .settings)) i) (b .its .minute i) ((b .its .address ∙ sym (b .address)) i) (countFor (x .reading)) (x .bytes));

@@ -31,7 +31,7 @@ use Rattle.sheet.specs.Record.{Entry}
 use Rattle.polling.specs.declared.Begun.{Begun}
 use Rattle.polling.specs.declared.Pace.{Pace}
 use Rattle.polling.specs.declared.Polling.{Polling}
-use Rattle.polling.specs.declared.Settled.{Settled}
+use Rattle.polling.specs.Settling.{LeftByHearing}
 use Rattle.polling.specs.Pace.{timingOf, badPace}
 use Rattle.polling.specs.Beginning.{noReply, noEntry, usedRows, replyFor, begunWith, beginning, nothingBegun}
 use Rattle.polling.specs.Meant.{isOver, turnOf, tryDrawn, draws, listens, meant}
@@ -214,7 +214,7 @@ long-so p since s passed e = go (listen p atRest 0 since) e (beside p atRest 0 s
 
 module _ (p : Pace) (fine : badTiming (timingOf p) ≡ false) (m : ℕ) (used : List Row) (xs : List Stood) (since : List ℕ) (w : Polling) (minute : ℕ) (fits : minute < 2 ^ 32)
     (samples : List ℕ) (g : Good p m used xs since w) where
-  abbrev GoodAfter : Settled → Type 0
+  abbrev GoodAfter : LeftByHearing → Type 0
   GoodAfter a = Good p m used (xs ++ stoodBy a minute samples since) (sinceAfter a samples since) (a .polling)
 
   -- nothing taken and nothing told
@@ -409,7 +409,7 @@ module _ (p : Pace) (fine : badPace p ≡ false) (timed : badTiming (timingOf p)
   good-run (running.drew {xs = xs} {since = since} {w = w} out after answer r call) =
       subst (Good p m used xs since) (sym (leaves p fine w out after answer call)) (good-drawn p m used xs since w (length (drawnBy p w (length out))) (good-run r))
   good-run (heard {xs = xs} {since = since} {w = w} minute samples answer fits r call) =
-      subst (λ (a : Settled). Good p m used (xs ++ stoodBy a minute samples since) (sinceAfter a samples since) (a .polling)) (sym (polling.heard-so p fine w minute samples answer call))
+      subst (λ (a : LeftByHearing). Good p m used (xs ++ stoodBy a minute samples since) (sinceAfter a samples since) (a .polling)) (sym (polling.heard-so p fine w minute samples answer call))
       (good-heard p timed m used xs since (meant p w) minute fits samples (good-meant p m used xs since w (good-run r)))
 
 -- A round just begun.

@@ -6,10 +6,10 @@ use Prim.Native.Nat.{ℕ, suc, _+_, _-_, _*_, _≤_}
 use native.Mathlib.Omega.{arith}
 use lib.ListN.{length, take, length-append, length-take}
 use Rattle.frame.specs.Line.{mark}
-use Rattle.polling.specs.declared.Drew.{Drew}
+use Rattle.polling.specs.Drawing.{LeftByDrawing}
 use Rattle.polling.specs.declared.Pace.{Pace}
 use Rattle.polling.specs.declared.Polling.{Polling}
-use Rattle.polling.specs.declared.Settled.{Settled}
+use Rattle.polling.specs.Settling.{LeftByHearing}
 use Rattle.polling.specs.Pace.{badPace}
 use Rattle.polling.specs.Meant.{isOver, meant}
 use Rattle.polling.specs.Calls.{DrawsPolling, heardBy, HearsPolling}
@@ -33,16 +33,16 @@ idle-way (hear-end minute y c e z l f h) d x = absurd (omega (arith, x))
 
 module _ (p : Pace) (fine : badPace p ≡ false) where
   -- One turn.
-  module _ (w : Polling) (out after : List ℕ) (d : Drew) (draw : DrawsPolling w p out d after) (minute : ℕ) (xs : List ℕ) (a : Settled) (hear : HearsPolling (d .polling) p minute xs a) where
+  module _ (w : Polling) (out after : List ℕ) (d : LeftByDrawing) (draw : DrawsPolling w p out d after) (minute : ℕ) (xs : List ℕ) (a : LeftByHearing) (hear : HearsPolling (d .polling) p minute xs a) where
     -- The same samples heard before the drawing.
-    abbrev at-first : Settled
+    abbrev at-first : LeftByHearing
     at-first = polling-outcome .hear w p minute xs .some
 
     abbrev first-call : HearsPolling w p minute xs at-first
     first-call = polling-outcome .hear w p minute xs .allowed
 
     over-is : d .over ≡ mark (isOver w)
-    over-is = ap (λ (x : Drew). x .over) (drawn-so p fine w out after d draw)
+    over-is = ap (λ (x : LeftByDrawing). x .over) (drawn-so p fine w out after d draw)
 
     stays-over : isOver w ≡ true → isOver (a .polling) ≡ true
     stays-over e =
@@ -56,7 +56,7 @@ module _ (p : Pace) (fine : badPace p ≡ false) where
     as-before : d .count ≡ 0 → a .taken ≡ at-first .taken
     as-before none =
         let same : meant p w ≡ meant p (d .polling) = idle-way (draw-way p fine any w out after d draw) (put-many ∙ none) refl in
-        ap (λ (x : Settled). x .taken)
+        ap (λ (x : LeftByHearing). x .taken)
         (heard-so p fine (d .polling) minute xs a hear ∙ ap (λ (v : Polling). heardBy p minute v xs) (sym same) ∙ sym (heard-so p fine w minute xs at-first first-call))
 
     one-sample : isOver w ≡ false → 1 ≤ length out → 1 ≤ length xs → 1 ≤ length (take (d .count) after) + length (take (a .taken) xs)

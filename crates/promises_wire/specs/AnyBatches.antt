@@ -9,10 +9,10 @@ use Rattle.frame.specs.declared.Reading.{Reading}
 use Rattle.board.specs.declared.Row.{Row}
 use Rattle.board.specs.Rows.{boardOf}
 use Rattle.polling.specs.declared.Begun.{Begun}
-use Rattle.polling.specs.declared.Drew.{Drew}
+use Rattle.polling.specs.Drawing.{LeftByDrawing}
 use Rattle.polling.specs.declared.Pace.{Pace}
 use Rattle.polling.specs.declared.Polling.{Polling}
-use Rattle.polling.specs.declared.Settled.{Settled}
+use Rattle.polling.specs.Settling.{LeftByHearing}
 use Rattle.polling.specs.Pace.{badPace}
 use Rattle.polling.specs.Beginning.{usedRows}
 use Rattle.polling.specs.Meant.{isOver}
@@ -39,7 +39,7 @@ pub data AllSay : List Sent → List Poll → Type 0 where
 -- poll, is told as in `Running`.
 pub data Turns (p : Pace) (from : Polling) : ℕ → List Stood → List ℕ → Polling → Type 0 where
   no-turn : Turns p from 0 [] [] from
-  one-turn : {n : ℕ} {ys : List Stood} {since : List ℕ} {w : Polling} (out after : List ℕ) (d : Drew) (minute : ℕ) (samples : List ℕ) (a : Settled)
+  one-turn : {n : ℕ} {ys : List Stood} {since : List ℕ} {w : Polling} (out after : List ℕ) (d : LeftByDrawing) (minute : ℕ) (samples : List ℕ) (a : LeftByHearing)
       → Turns p from n ys since w → 1 ≤ length out → DrawsPolling w p out d after
       → 1 ≤ length samples → minute < 2 ^ 32 → HearsPolling (d .polling) p minute samples a
       → Turns p from (suc n) (ys ++ stoodBy a minute samples since) (sinceAfter a samples since) (a .polling)

@@ -13,7 +13,7 @@ use Rattle.round.specs.Replies.{entryIn}
 use Rattle.polling.specs.declared.Begun.{Begun}
 use Rattle.polling.specs.declared.Pace.{Pace}
 use Rattle.polling.specs.declared.Polling.{Polling}
-use Rattle.polling.specs.declared.Settled.{Settled}
+use Rattle.polling.specs.Settling.{LeftByHearing}
 use Rattle.polling.specs.Pace.{timingOf, badPace}
 use Rattle.polling.specs.Beginning.{noEntry, usedRows}
 use Rattle.polling.specs.Meant.{isOver, turnOf}
@@ -49,13 +49,13 @@ abbrev pub Listens : Polling → Type 0
 Listens w = (isOver w ≡ false) × (w .listening ≡ 0 → ⊥)
 
 -- A call that hears a part of it takes all of that, settles nothing, and goes on listening.
-pub record GoesOn (samples : List ℕ) (a : Settled) : Type 0 where
+pub record GoesOn (samples : List ℕ) (a : LeftByHearing) : Type 0 where
   pub taken : a .taken ≡ length samples
   pub answered : a .answered ≡ 0
   pub listens : Listens (a .polling)
 
 -- The call that hears the last of it settles the try by a message, with just the samples that were sent; and the reply that stands is the reading's bits.
-pub record StandsSo (w : Polling) (since samples : List ℕ) (x : Sent) (minute : ℕ) (a : Settled) : Type 0 where
+pub record StandsSo (w : Polling) (since samples : List ℕ) (x : Sent) (minute : ℕ) (a : LeftByHearing) : Type 0 where
   pub answered : a .answered ≡ 1
   pub number : a .number ≡ 0
   pub reply : a .reply ≡ w .at
@@ -67,13 +67,13 @@ pub record SaidInTime : Type 0 where
   -- While some of it is still to come.
   pub goes-on : (p : Pace) (rows : List Row) (xs : List Stood) (since : List ℕ) (w : Polling) → OnItsWay p rows xs since w → Listens w
       → (x : Sent) → InTime p x → (samples rest : List ℕ) → since ++ samples ++ rest ≡ samplesOf (x .drawing) → 1 ≤ length rest
-      → (minute : ℕ) (a : Settled) → HearsPolling w p minute samples a
+      → (minute : ℕ) (a : LeftByHearing) → HearsPolling w p minute samples a
       → GoesOn samples a
   -- When all of it is there, and whatever comes behind it.
   pub stands : (p : Pace) (rows : List Row) (xs : List Stood) (since : List ℕ) (w : Polling) → OnItsWay p rows xs since w → Listens w
       → (x : Sent) → InTime p x → SentBy (turnOf w .settings) (turnOf w .address) x
       → (samples more : List ℕ) → since ++ samples ≡ samplesOf (x .drawing) ++ more
-      → (minute : ℕ) (a : Settled) → minute < 2 ^ 32 → HearsPolling w p minute samples a
+      → (minute : ℕ) (a : LeftByHearing) → minute < 2 ^ 32 → HearsPolling w p minute samples a
       → StandsSo w since samples x minute a
   -- And the poll of the row says that very reading, in listing, page and board.
   pub says : (p : Pace) (row : Row) (s : Stood) (q : Poll) → PollOf p row s q → (x : Sent) → InTime p x → SentBy (row .settings) (row .address) x

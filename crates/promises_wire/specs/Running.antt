@@ -16,10 +16,10 @@ use Rattle.round.specs.Replies.{entryIn}
 use Rattle.round.specs.Saving.{Page, none, kept}
 use Rattle.round.specs.Calls.{mostReplies, SavesRound, SavesRoundWith}
 use Rattle.polling.specs.declared.Begun.{Begun}
-use Rattle.polling.specs.declared.Drew.{Drew}
+use Rattle.polling.specs.Drawing.{LeftByDrawing}
 use Rattle.polling.specs.declared.Pace.{Pace}
 use Rattle.polling.specs.declared.Polling.{Polling}
-use Rattle.polling.specs.declared.Settled.{Settled}
+use Rattle.polling.specs.Settling.{LeftByHearing}
 use Rattle.polling.specs.Pace.{timingOf, badPace}
 use Rattle.polling.specs.Beginning.{usedRows}
 use Rattle.polling.specs.Meant.{isOver}
@@ -34,19 +34,19 @@ pub record Stood : Type 0 where
   pub samples : List ℕ
 
 -- What has been sensed since the poll, after one call more: nothing where the try is settled.
-abbrev pub sinceAfter : Settled → List ℕ → List ℕ → List ℕ
+abbrev pub sinceAfter : LeftByHearing → List ℕ → List ℕ → List ℕ
 sinceAfter a samples since = pick (eqb (a .polling .listening) 0) [] (since ++ take (a .taken) samples)
 
-abbrev pub stoodBy : Settled → ℕ → List ℕ → List ℕ → List Stood
+abbrev pub stoodBy : LeftByHearing → ℕ → List ℕ → List ℕ → List Stood
 stoodBy a minute samples since = pick (eqb (a .answered) 0) [] (record { minute = minute; samples = since ++ take (a .taken) samples } ∷ [])
 
 -- Calls one after another, in whatever order and batches the host has, each with what the last one left: the replies that stand, what has been sensed since the last
 -- poll, and the state.
 pub data Running (p : Pace) (from : Polling) : List Stood → List ℕ → Polling → Type 0 where
   just-begun : Running p from [] [] from
-  drew : {xs : List Stood} {since : List ℕ} {w : Polling} (out after : List ℕ) (answer : Drew) → Running p from xs since w → DrawsPolling w p out answer after
+  drew : {xs : List Stood} {since : List ℕ} {w : Polling} (out after : List ℕ) (answer : LeftByDrawing) → Running p from xs since w → DrawsPolling w p out answer after
       → Running p from xs since (answer .polling)
-  heard : {xs : List Stood} {since : List ℕ} {w : Polling} (minute : ℕ) (samples : List ℕ) (answer : Settled) → minute < 2 ^ 32 → Running p from xs since w
+  heard : {xs : List Stood} {since : List ℕ} {w : Polling} (minute : ℕ) (samples : List ℕ) (answer : LeftByHearing) → minute < 2 ^ 32 → Running p from xs since w
       → HearsPolling w p minute samples answer
       → Running p from (xs ++ stoodBy answer minute samples since) (sinceAfter answer samples since) (answer .polling)
 

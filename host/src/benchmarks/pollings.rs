@@ -111,8 +111,7 @@ fn hears<'a, C: Pollings>(core: &'a C, samples: &'a [u8], batch: usize) -> impl 
         for batch in samples.chunks(batch) {
             let mut rest = black_box(batch);
             while !rest.is_empty() {
-                let told = black_box(core.polling_hear(&now, &PACE, 605, rest));
-                now = told.polling;
+                let told = black_box(core.polling_hear(&mut now, &PACE, 605, rest));
                 rest = &rest[told.taken.min(rest.len())..];
                 if now.listening == 0 {
                     now = start;
@@ -129,8 +128,7 @@ fn draws<'a, C: Pollings>(core: &'a C, room: usize) -> impl FnMut() + 'a {
     move || {
         let mut now = start;
         while now.listening == 0 {
-            let drew = black_box(core.polling_draw(&now, &PACE, black_box(&mut out)));
-            now = drew.polling;
+            black_box(core.polling_draw(&mut now, &PACE, black_box(&mut out)));
         }
     }
 }

@@ -8,7 +8,7 @@ use crate::generate::{self, Sensed};
 use crate::random::Random;
 use crate::reading::frame::write_poll;
 use crate::reading::{board, rounds};
-use crate::types::pollings::{Drew, Pace, Polling, Settled};
+use crate::types::pollings::{Drew, Left, Pace, Polling, Settled};
 use crate::types::rounds::{Polled, Rounded};
 use crate::types::{Poll, Row, BLANK, LARGEST_ADDRESS, SLOT};
 
@@ -56,18 +56,19 @@ fn words(polling: &Polling, pace: &Pace) -> String {
     )
 }
 
-/// Draws with both, into as many bytes as there is room for in a larger buffer.
+/// Draws with both, into as many bytes as there is room for in a larger buffer: answer, state and output
+/// after it.
 fn draw<L: Pollings, R: Pollings>(
     left: &L,
     right: &R,
     polling: &Polling,
     pace: &Pace,
     out: &mut [u8],
-) -> Result<Drew, Difference> {
+) -> Result<Left<Drew>, Difference> {
     let room = out.len();
     let (mut drawn, mut other) = (vec![BEFORE; room + 4], vec![BEFORE; room + 4]);
-    let drew = left.polling_draw(polling, pace, &mut drawn[..room]);
-    let drew_other = right.polling_draw(polling, pace, &mut other[..room]);
+    let drew = left.drawn_of(polling, pace, &mut drawn[..room]);
+    let drew_other = right.drawn_of(polling, pace, &mut other[..room]);
     let asked = || format!("drawing into {room} bytes, {}", words(polling, pace));
     same(drew, drew_other, asked)?;
     same(Hex(&drawn), Hex(&other), asked)?;
@@ -75,7 +76,7 @@ fn draw<L: Pollings, R: Pollings>(
     Ok(drew)
 }
 
-/// Hears samples with both.
+/// Hears samples with both: answer and state after it.
 fn hear<L: Pollings, R: Pollings>(
     left: &L,
     right: &R,
@@ -83,11 +84,11 @@ fn hear<L: Pollings, R: Pollings>(
     pace: &Pace,
     minute: u32,
     samples: &[u8],
-) -> Result<Settled, Difference> {
-    let told = left.polling_hear(polling, pace, minute, samples);
+) -> Result<Left<Settled>, Difference> {
+    let told = left.heard_of(polling, pace, minute, samples);
     same(
         told,
-        right.polling_hear(polling, pace, minute, samples),
+        right.heard_of(polling, pace, minute, samples),
         || {
             let runs = in_runs(samples);
             format!("hearing {runs} at {minute}, {}", words(polling, pace))
@@ -332,8 +333,8 @@ fn run(
     start: &Polling,
     ticks: bool,
     comes: impl Fn(u16, usize) -> Sensed,
-    mut draw: impl FnMut(&Polling, &mut [u8]) -> Result<Drew, Difference>,
-    mut hear: impl FnMut(&Polling, u32, &[u8]) -> Result<Settled, Difference>,
+    mut draw: impl FnMut(&Polling, &mut [u8]) -> Result<Left<Drew>, Difference>,
+    mut hear: impl FnMut(&Polling, u32, &[u8]) -> Result<Left<Settled>, Difference>,
 ) -> Result<(Vec<Try>, Polling), Difference> {
     let (mut now, mut minute, mut all) = (*start, 1_000, 0);
     let (mut tries, mut drawn, mut taken) = (Vec::new(), Vec::new(), 0);
@@ -357,9 +358,9 @@ fn run(
             // While it draws nothing is heard.
             if now.listening == 0 && random.one_in(4) {
                 let told = hear(&now, minute, &[1, 0, 2, 3])?;
-                let nothing = Settled {
+                let nothing = Left {
                     polling: now,
-                    ..Settled::default()
+                    told: Settled::default(),
                 };
                 same(told, nothing, || {
                     format!("hearing while it draws, {}", words(&now, pace))
@@ -554,14 +555,14 @@ fn transmitters<C: Pollings>(core: &C, seed: u64, count: usize) -> Verdict {
             true,
             &comes,
             |now, out| {
-                let drew = core.polling_draw(now, &pace, out);
+                let drew = core.drawn_of(now, &pace, out);
                 let behind = out.iter().skip(drew.count);
                 same(behind.clone().all(|&byte| byte == BEFORE), true, || {
                     format!("what is not drawn, {}", words(now, &pace))
                 })?;
                 Ok(drew)
             },
-            |now, minute, samples| Ok(core.polling_hear(now, &pace, minute, samples)),
+            |now, minute, samples| Ok(core.heard_of(now, &pace, minute, samples)),
         )?;
         let (mut expected, replies) = expected_tries(&used, &pace, &comes);
         for (expected, told) in expected.iter_mut().zip(&tries) {

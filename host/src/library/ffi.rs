@@ -7,7 +7,7 @@
 use std::mem::{align_of, size_of};
 
 /// The version of the header that these declarations follow.
-pub const VERSION: u32 = 7;
+pub const VERSION: u32 = 8;
 
 #[repr(C)]
 pub struct Poll {

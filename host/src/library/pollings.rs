@@ -12,8 +12,8 @@ const _: () = {
     assert!(offset_of!(Polling, lines) == 728 && offset_of!(Polling, passed) == 744);
     assert!(offset_of!(Polling, at) == 748 && offset_of!(Polling, tried) == 750);
     assert!(size_of::<Begun>() == 760);
-    assert!(size_of::<Drew>() == 768 && offset_of!(Drew, over) == 760);
-    assert!(size_of::<Settled>() == 768 && offset_of!(Settled, reply) == 760);
+    assert!(size_of::<Drew>() == 16 && offset_of!(Drew, over) == 8);
+    assert!(size_of::<Settled>() == 16 && offset_of!(Settled, reply) == 8);
 };
 
 #[cfg(test)]
@@ -21,15 +21,20 @@ layout_of! {
     "sisal_pace": Pace { low, still, delay, least, most, gap, wait, longest, tries }
     "sisal_polling": Polling { round, lines, passed, at, tried, listening }
     "sisal_begun": Begun { polling, number }
-    "sisal_drew": Drew { polling, count, over, number }
-    "sisal_settled": Settled { polling, taken, reply, answered, over, number }
+    "sisal_drew": Drew { count, over, number }
+    "sisal_settled": Settled { taken, reply, answered, over, number }
 }
 
 extern "C" {
     fn sisal_polling_begin(rows: *const LentRow, row_count: usize, minute: u32) -> Begun;
-    fn sisal_polling_draw(polling: Polling, pace: Pace, out: *mut u8, out_bytes: usize) -> Drew;
+    fn sisal_polling_draw(
+        polling: *mut Polling,
+        pace: Pace,
+        out: *mut u8,
+        out_bytes: usize,
+    ) -> Drew;
     fn sisal_polling_hear(
-        polling: Polling,
+        polling: *mut Polling,
         pace: Pace,
         minute: u32,
         samples: *const u8,
@@ -50,15 +55,23 @@ impl Pollings for Library {
     }
 
     #[inline]
-    fn polling_draw(&self, polling: &Polling, pace: &Pace, out: &mut [u8]) -> Drew {
-        // SAFETY: the library writes bytes of the output alone, which is lent to nobody else.
-        unsafe { sisal_polling_draw(*polling, *pace, out.as_mut_ptr(), out.len()) }
+    fn polling_draw(&self, polling: &mut Polling, pace: &Pace, out: &mut [u8]) -> Drew {
+        // SAFETY: the library writes the state and bytes of the output alone, which are lent to nobody
+        // else.
+        unsafe { sisal_polling_draw(polling, *pace, out.as_mut_ptr(), out.len()) }
     }
 
     #[inline]
-    fn polling_hear(&self, polling: &Polling, pace: &Pace, minute: u32, samples: &[u8]) -> Settled {
-        // SAFETY: the library reads the bytes of the slice alone.
-        unsafe { sisal_polling_hear(*polling, *pace, minute, samples.as_ptr(), samples.len()) }
+    fn polling_hear(
+        &self,
+        polling: &mut Polling,
+        pace: &Pace,
+        minute: u32,
+        samples: &[u8],
+    ) -> Settled {
+        // SAFETY: the library reads the bytes of the slice alone, and writes the state, which is lent
+        // to nobody else.
+        unsafe { sisal_polling_hear(polling, *pace, minute, samples.as_ptr(), samples.len()) }
     }
 }
 

@@ -21,12 +21,18 @@ impl Pollings for IndependentReading {
     }
 
     #[inline(never)]
-    fn polling_draw(&self, polling: &Polling, pace: &Pace, out: &mut [u8]) -> Drew {
+    fn polling_draw(&self, polling: &mut Polling, pace: &Pace, out: &mut [u8]) -> Drew {
         draw(polling, pace, out)
     }
 
     #[inline(never)]
-    fn polling_hear(&self, polling: &Polling, pace: &Pace, minute: u32, samples: &[u8]) -> Settled {
+    fn polling_hear(
+        &self,
+        polling: &mut Polling,
+        pace: &Pace,
+        minute: u32,
+        samples: &[u8],
+    ) -> Settled {
         hear(polling, pace, minute, samples)
     }
 }
@@ -103,19 +109,13 @@ fn mean(polling: &mut Polling, pace: &Pace) {
 }
 
 /// Draws delay and poll from where the last call ended, as much as there is or fits. Refusal: 20.
-pub fn draw(polling: &Polling, pace: &Pace, out: &mut [u8]) -> Drew {
-    let mut told = Drew {
-        polling: *polling,
-        count: 0,
-        over: 0,
-        number: 0,
-    };
+pub fn draw(polling: &mut Polling, pace: &Pace, out: &mut [u8]) -> Drew {
+    let mut told = Drew::default();
     if !good(pace) {
         told.number = Fault::Timing.number();
     } else if is_over(polling) {
         told.over = 1;
     } else {
-        let polling = &mut told.polling;
         mean(polling, pace);
         if polling.listening == 0 {
             told.count = fill(polling, pace, out);
@@ -154,34 +154,27 @@ enum Outcome {
 }
 
 /// Hears samples up to the one that settles a try. Refusal: 20.
-pub fn hear(polling: &Polling, pace: &Pace, minute: u32, samples: &[u8]) -> Settled {
-    let mut told = Settled {
-        polling: *polling,
-        taken: 0,
-        reply: 0,
-        answered: 0,
-        over: 0,
-        number: 0,
-    };
+pub fn hear(polling: &mut Polling, pace: &Pace, minute: u32, samples: &[u8]) -> Settled {
+    let mut told = Settled::default();
     if !good(pace) {
         told.number = Fault::Timing.number();
     } else if is_over(polling) {
         told.over = 1;
     } else {
-        mean(&mut told.polling, pace);
-        if told.polling.listening != 0 {
-            let outcome = listen(&mut told, pace, samples);
+        mean(polling, pace);
+        if polling.listening != 0 {
+            let (taken, outcome) = listen(polling, pace, samples);
+            told.taken = taken;
             if let Some(outcome) = outcome {
-                settle(&mut told, pace, minute, outcome);
+                settle(polling, &mut told, pace, minute, outcome);
             }
         }
     }
     told
 }
 
-/// Takes samples, and says how that settled the try.
-fn listen(told: &mut Settled, pace: &Pace, samples: &[u8]) -> Option<Outcome> {
-    let polling = &mut told.polling;
+/// Takes samples, and says how many and how that settled the try.
+fn listen(polling: &mut Polling, pace: &Pace, samples: &[u8]) -> (usize, Option<Outcome>) {
     // A limit that is reached already is met by the next sample.
     let left = |limit: u32| limit.saturating_sub(polling.passed).max(1) as usize;
     let (wait, longest) = (left(pace.wait), left(pace.longest));
@@ -189,8 +182,7 @@ fn listen(told: &mut Settled, pace: &Pace, samples: &[u8]) -> Option<Outcome> {
     if polling.lines == SoFar::default() && samples.first() == Some(&IDLE) {
         idle = lines::run_of(&samples[..samples.len().min(wait)]);
         if idle == wait {
-            told.taken = wait;
-            return Some(Outcome::Nothing(0));
+            return (wait, Some(Outcome::Nothing(0)));
         }
     }
     let heard = lines::hear(
@@ -199,10 +191,10 @@ fn listen(told: &mut Settled, pace: &Pace, samples: &[u8]) -> Option<Outcome> {
         &samples[idle..samples.len().min(longest)],
     );
     polling.lines = heard.so_far;
-    told.taken = idle + heard.taken;
-    match (heard.count, heard.number) {
-        (0, 0) if told.taken < longest => {
-            polling.passed = polling.passed.saturating_add(told.taken as u32);
+    let taken = idle + heard.taken;
+    let outcome = match (heard.count, heard.number) {
+        (0, 0) if taken < longest => {
+            polling.passed = polling.passed.saturating_add(taken as u32);
             None
         }
         (0, 0) => Some(Outcome::Nothing(match heard.so_far.fault {
@@ -211,12 +203,18 @@ fn listen(told: &mut Settled, pace: &Pace, samples: &[u8]) -> Option<Outcome> {
         })),
         (0, number) => Some(Outcome::Nothing(number)),
         (count, _) => Some(Outcome::Message(count, heard.message)),
-    }
+    };
+    (taken, outcome)
 }
 
 /// The reply stands, or the same transmitter is polled again.
-fn settle(told: &mut Settled, pace: &Pace, minute: u32, outcome: Outcome) {
-    let polling = &mut told.polling;
+fn settle(
+    polling: &mut Polling,
+    told: &mut Settled,
+    pace: &Pace,
+    minute: u32,
+    outcome: Outcome,
+) {
     told.reply = polling.at;
     polling.lines = SoFar::default();
     (polling.passed, polling.listening) = (0, 0);

@@ -2,6 +2,7 @@
 
 use super::lines::{PulseTimes, SoFar};
 use super::rounds::Round;
+use std::ops::Deref;
 
 /// The timing numbers of a round. All but `tries` are in samples.
 #[repr(C)]
@@ -75,7 +76,6 @@ pub struct Begun {
 #[repr(C)]
 #[derive(Clone, Copy, Debug, Default, PartialEq, Eq)]
 pub struct Drew {
-    pub polling: Polling,
     pub count: usize,
     pub over: u8,
     pub number: u8,
@@ -86,10 +86,24 @@ pub struct Drew {
 #[repr(C)]
 #[derive(Clone, Copy, Debug, Default, PartialEq, Eq)]
 pub struct Settled {
-    pub polling: Polling,
     pub taken: usize,
     pub reply: u16,
     pub answered: u8,
     pub over: u8,
     pub number: u8,
+}
+
+/// What a call leaves and tells: the lent state after it, and its answer.
+#[derive(Clone, Copy, Debug, Default, PartialEq, Eq)]
+pub struct Left<T> {
+    pub polling: Polling,
+    pub told: T,
+}
+
+impl<T> Deref for Left<T> {
+    type Target = T;
+
+    fn deref(&self) -> &T {
+        &self.told
+    }
 }

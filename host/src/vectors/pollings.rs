@@ -3,7 +3,7 @@
 use super::plain;
 use crate::calls::{Core, Pollings, Rounds};
 use crate::types::lines::SoFar;
-use crate::types::pollings::{Begun, Drew, Pace, Polling, Settled};
+use crate::types::pollings::{Begun, Drew, Left, Pace, Polling, Settled};
 use crate::types::rounds::{Polled, Rounded};
 use crate::types::{Fault, Row, BLANK, SLOT};
 
@@ -149,14 +149,14 @@ impl<'a, C: Pollings> Story<'a, C> {
 
     fn draws_to(&mut self, room: usize, told: [usize; 3], drawn: &str, polling: Polling) {
         let mut out = vec![0xA5; room];
-        let drew = self.core.polling_draw(&self.now, &self.pace, &mut out);
+        let drew = self.core.drawn_of(&self.now, &self.pace, &mut out);
         let [count, over, number] = told;
-        let expected = Drew {
-            polling,
+        let told = Drew {
             count,
             over: over as u8,
             number: number as u8,
         };
+        let expected = Left { polling, told };
         let mut samples = samples(drawn);
         assert_eq!(samples.len(), count, "{drawn}");
         samples.resize(room, 0xA5);
@@ -170,16 +170,16 @@ impl<'a, C: Pollings> Story<'a, C> {
     }
 
     fn hears_to(&mut self, minute: u32, heard: &[u8], told: [usize; 5], polling: Polling) {
-        let settled = self.core.polling_hear(&self.now, &self.pace, minute, heard);
+        let settled = self.core.heard_of(&self.now, &self.pace, minute, heard);
         let [taken, reply, answered, over, number] = told;
-        let expected = Settled {
-            polling,
+        let told = Settled {
             taken,
             reply: reply as u16,
             answered: answered as u8,
             over: over as u8,
             number: number as u8,
         };
+        let expected = Left { polling, told };
         assert_eq!(settled, expected, "{:?}", self.now);
         self.now = settled.polling;
     }
@@ -460,7 +460,7 @@ fn thirty_in_batches(
     // The samples that come after the poll just drawn.
     let mut coming = Vec::new();
     for _ in 0..20_000 {
-        let drew = core.polling_draw(&now, &pace, &mut port);
+        let drew = core.drawn_of(&now, &pace, &mut port);
         assert_eq!(drew.number, 0);
         if drew.over == 1 {
             break;
@@ -473,7 +473,7 @@ fn thirty_in_batches(
             continue;
         }
         let heard = &coming[..batch.min(coming.len())];
-        let settled = core.polling_hear(&now, &pace, 605, heard);
+        let settled = core.heard_of(&now, &pace, 605, heard);
         now = settled.polling;
         all += settled.taken;
         coming.drain(..settled.taken);
@@ -484,7 +484,7 @@ fn thirty_in_batches(
                 over,
                 number,
                 ..
-            } = settled;
+            } = settled.told;
             told.push((400 - coming.len(), reply, answered, over, number));
         }
     }

@@ -386,13 +386,10 @@ impl Pollings for Poller {
         begun
     }
 
-    fn polling_draw(&self, polling: &Polling, pace: &Pace, out: &mut [u8]) -> Drew {
-        let mut told = Drew {
-            polling: *polling,
-            ..Drew::default()
-        };
+    fn polling_draw(&self, polling: &mut Polling, pace: &Pace, out: &mut [u8]) -> Drew {
+        let mut told = Drew::default();
         if let Some((state, over, number)) = self.at_once(polling, pace) {
-            (told.polling, told.over, told.number) = (state, over, number);
+            (*polling, told.over, told.number) = (state, over, number);
             return told;
         }
         let mut state = self.meant(polling, pace);
@@ -415,21 +412,24 @@ impl Pollings for Poller {
                 state = self.meant(&state, pace);
             }
         }
-        told.polling = state;
+        *polling = state;
         told
     }
 
-    fn polling_hear(&self, polling: &Polling, pace: &Pace, minute: u32, samples: &[u8]) -> Settled {
-        let mut told = Settled {
-            polling: *polling,
-            ..Settled::default()
-        };
+    fn polling_hear(
+        &self,
+        polling: &mut Polling,
+        pace: &Pace,
+        minute: u32,
+        samples: &[u8],
+    ) -> Settled {
+        let mut told = Settled::default();
         if let Some((state, over, number)) = self.at_once(polling, pace) {
-            (told.polling, told.over, told.number) = (state, over, number);
+            (*polling, told.over, told.number) = (state, over, number);
             return told;
         }
         let mut state = self.meant(polling, pace);
-        told.polling = state;
+        *polling = state;
         if state.listening == 0 && !self.is(OwnPollHeard) {
             return told;
         }
@@ -445,7 +445,7 @@ impl Pollings for Poller {
                 break;
             }
         }
-        told.polling = state;
+        *polling = state;
         told
     }
 }

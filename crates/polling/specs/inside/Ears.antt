@@ -14,12 +14,11 @@ use Rattle.lines.specs.inside.Safe.{Safe}
 use Rattle.round.specs.declared.Polled.{Polled}
 use Rattle.polling.specs.declared.Pace.{Pace}
 use Rattle.polling.specs.declared.Polling.{Polling}
-use Rattle.polling.specs.declared.Settled.{Settled}
 use Rattle.polling.specs.declared.listening.Ear.{Ear}
 use Rattle.polling.specs.Beginning.{polled}
 use Rattle.polling.specs.Meant.{isOver, turnOf}
 use Rattle.polling.specs.Listening.{Listened, goesOn, settledBy, givenUp}
-use Rattle.polling.specs.Settling.{isMessage, roundWith, settledOf}
+use Rattle.polling.specs.Settling.{isMessage, roundWith, LeftByHearing, settledOf}
 
 -- Neither a line is low nor is a message open.
 abbrev pub quiet : SoFar → Bool
@@ -74,5 +73,5 @@ standsAs minute e w =
       listening = 0;
     }
 
-abbrev pub standsBy : (minute : ℕ) → Ear → Polling → Settled
+abbrev pub standsBy : (minute : ℕ) → Ear → Polling → LeftByHearing
 standsBy minute e w = settledOf (standsAs minute e w) (e .taken) (w .at) 1 (mark (isOver (standsAs minute e w))) (e .number)

@@ -1,120 +1,93 @@
--- `polling::drawing_out::draw` meets its contract: what was put down is what was left of the try, and the state after it is what it then means. Assumes nothing.
-use mathlib.Core.Path.{refl, sym, ap, subst, _∙_}
-use Prim.Native.Nat.{ℕ, _+_, _≤_}
-use native.Mathlib.Omega.{arith}
-use lib.ListN.{length, drop, length-drop}
-use Rattle.lines.specs.declared.SoFar.{SoFar}
+-- `polling::drawing_out::draw` meets its contract: each return is what the tests that led there leave, whatever the other replies are. Assumes nothing.
+use mathlib.Core.Path.{sym, ap, ap₂, _∙_}
+use mathlib.Core.Bool.{Bool, not, _||_}
+use lib.Dec.{eqb}
+use borrow.Author.Tests.{ne-eqb}
+use Rattle.frame.specs.Line.{mark}
 use Rattle.polling.specs.declared.Polling.{Polling}
-use Rattle.polling.specs.Meant.{tryDrawn, turnBy, draws}
+use Rattle.polling.specs.declared.turns.Turn.{Turn}
 use Rattle.polling.specs.Drawing.{drew}
-use Rattle.polling.specs.inside.Puts.{Puts}
-use Rattle.polling.proofs.Meaning.{once-drawn, while-drawing}
-use Rattle.polling.proofs.Paces.{good}
-use Rattle.polling.proofs.Sizes.{try-short}
-use Rattle.polling.proofs.Putting.{fits-in}
-use Rattle.polling.proofs.Answers.{draws-on}
+use Rattle.polling.specs.inside.Turns.{stateOf, leftByDrawing}
+use Rattle.polling.proofs.Meaning.{while-over}
+use Rattle.polling.proofs.Answers.{draws-bad, draws-none}
+use Rattle.polling.proofs.Taking.{its-entry}
 use borrow.Author.Needs.{needs}
 use Rattle.polling.proofs.drawing_out.draw.Statement.{statement}
 use Rattle.polling.proofs.drawing_out.draw.Tie as tie
 
-address-of-requires : tie.Need-address-of-requires
-address-of-requires c κs = search needs
+bad-pace-requires : tie.Need-bad-pace-requires
+bad-pace-requires c κs = search needs
 
-cast-passed : tie.Need-cast-passed
-cast-passed c = search needs
+undrawn-requires : tie.Need-undrawn-requires
+undrawn-requires c κs = search needs
 
-draw-try-requires : tie.Need-draw-try-requires
-draw-try-requires c κs = search needs
+returns : tie.Need-returns
+returns c =
+    let a = c .before .before .before .before .args in
+    record {
+      on = λ rs its. draws-bad (stateOf rs (a .t)) (a .p) (a .out .now) (leftByDrawing rs (a .t) (c .undrawn .result)) (sym (c .before .before .bad-pace .ensures) ∙ c .before .if1 .taken)
+          (ap (leftByDrawing rs (a .t)) (c .undrawn .ensures));
+    }
 
-at-rest-requires : tie.Need-at-rest-requires
-at-rest-requires c κs = search needs
+is-over-requires : tie.Need-is-over-requires
+is-over-requires c κs = search needs
 
-size-of-requires : tie.Need-size-of-requires
-size-of-requires c κs = search needs
+undrawn-requires-2 : tie.Need-undrawn-requires-2
+undrawn-requires-2 c κs = search needs
 
-cast-if1 : tie.Need-cast-if1
-cast-if1 c = search needs
+returns-2 : tie.Need-returns-2
+returns-2 c =
+    let a = c .before .before .before .before .before .before .args in
+    let b = sym (c .before .before .before .before .bad-pace .ensures) ∙ c .before .before .before .if1 .left in
+    let o = sym (c .before .before .is-over .ensures) ∙ c .before .if2 .taken in
+    record {
+      on = λ rs its. draws-none (stateOf rs (a .t)) (a .p) (a .out .now) (leftByDrawing rs (a .t) (c .undrawn2 .result)) b (ap (λ (x : Bool). x || not (eqb (a .t .listening) 0)) o)
+          (ap (leftByDrawing rs (a .t)) (c .undrawn2 .ensures) ∙ ap₂ (λ (x : Polling) (y : Bool). drew x 0 (mark y) 0) (sym (while-over (a .p) (stateOf rs (a .t)) o)) (sym o));
+    }
 
-add-if1 : tie.Need-add-if1
-add-if1 c =
-    let s = c .before .before .before .before .before .before .before .before .before in
-    let put = c .before .before .before .before .draw-try in
-    let address = c .before .before .before .before .before .before .before .address-of .result in
-    let few : put .result ≤ length (drop (s .args .w .passed) (tryDrawn (s .args .p) address)) = fits-in (put .ensures) .1 in
-    omega (arith, few, length-drop (s .args .w .passed) (tryDrawn (s .args .p) address), try-short (s .args .p) (good (s .args .p) (s .pre .0)) address)
+meant-requires : tie.Need-meant-requires
+meant-requires c κs =
+    (sym (c .before .before .before .before .before .bad-pace .ensures) ∙ c .before .before .before .before .if1 .left, sym (c .before .before .before .is-over .ensures) ∙ c .before .before .if2 .left)
 
-turn-by-requires : tie.Need-turn-by-requires
-turn-by-requires c κs = search needs
+undrawn-requires-3 : tie.Need-undrawn-requires-3
+undrawn-requires-3 c κs = search needs
 
-drew-requires : tie.Need-drew-requires
-drew-requires c κs = search needs
+returns-3 : tie.Need-returns-3
+returns-3 c =
+    let a = c .before .before .before .before .before .before .before .before .before .args in
+    let b = sym (c .before .before .before .before .before .before .before .bad-pace .ensures) ∙ c .before .before .before .before .before .before .if1 .left in
+    let o = sym (c .before .before .before .before .before .is-over .ensures) ∙ c .before .before .before .before .if2 .left in
+    let m = c .before .meant in
+    record {
+      on = λ rs its. draws-none (stateOf rs (a .t)) (a .p) (a .out .now) (leftByDrawing rs (a .t) (c .undrawn3 .result)) b (ap₂ (λ (x y : Bool). x || not y) o (ne-eqb (a .t .listening) 0 (c .before .before .if3 .taken)))
+          (ap (leftByDrawing rs (a .t)) (c .undrawn3 .ensures)
+          ∙ ap (λ (x : Turn). drew (stateOf rs x) 0 0 0) (sym (m .ensures .0 .same))
+          ∙ ap₂ (λ (x : Polling) (y : Bool). drew x 0 (mark y) 0) (m .ensures .0 .on rs (its-entry rs (a .t) o its)) (sym o));
+    }
+
+draw-on-requires : tie.Need-draw-on-requires
+draw-on-requires c κs =
+    (sym (c .before .before .before .before .before .before .bad-pace .ensures) ∙ c .before .before .before .before .before .if1 .left, (sym (c .before .before .before .before .is-over .ensures) ∙ c .before .before .before .if2 .left, c .before .if3 .left))
 
 same-length : tie.Need-same-length
 same-length c = search needs
 
-returns : tie.Need-returns
-returns c =
-    let a = c .before .before .before .before .before .before .before .before .before .before .before .before .args in
-    let f = c .before .before .before .before .before .before .before .before .before .before .before .before .pre in
-    let address = c .before .before .before .before .before .before .before .before .before .before .address-of in
-    let put = c .before .before .before .before .before .before .before .draw-try in
-    let rest = c .before .before .before .before .at-rest in
-    let size = c .before .before .before .size-of .ensures ∙ ap (λ (n : ℕ). length (tryDrawn (a .p) n)) (address .ensures) in
-    draws-on (a .w) (a .p) (a .out .now) _ (f .0) (f .1 .0) (f .1 .1) (put .result) (put .last .1 .1 .1 .0)
-    (subst (λ (n : ℕ). Puts (drop (a .w .passed) (tryDrawn (a .p) n)) (a .out .now) (put .result) (put .last .1 .1 .1 .0)) (address .ensures) (put .ensures))
-    (c .drew .ensures
-    ∙ ap (λ (x : Polling). drew x (put .result) 0 0)
-    (c .before .turn-by .ensures ∙ ap (λ (s : SoFar). turnBy (a .w) s 0 (a .w .tried) 1) (rest .ensures)
-    ∙ sym (once-drawn (a .p) (draws (a .w) (a .w .passed + put .result)) (f .1 .0) refl (omega (arith, size, c .before .before .if1 .taken)))))
-
-add-turn-by : tie.Need-add-turn-by
-add-turn-by c = search needs
-
-cast-turn-by : tie.Need-cast-turn-by
-cast-turn-by c = search needs
-
-turn-by-requires-2 : tie.Need-turn-by-requires-2
-turn-by-requires-2 c κs = search needs
-
-drew-requires-2 : tie.Need-drew-requires-2
-drew-requires-2 c κs = search needs
-
-same-length-2 : tie.Need-same-length-2
-same-length-2 c = search needs
-
-returns-2 : tie.Need-returns-2
-returns-2 c =
-    let a = c .before .before .before .before .before .before .before .before .before .before .before .before .args in
-    let f = c .before .before .before .before .before .before .before .before .before .before .before .before .pre in
-    let address = c .before .before .before .before .before .before .before .before .before .before .address-of in
-    let put = c .before .before .before .before .before .before .before .draw-try in
-    let rest = c .before .before .before .before .at-rest in
-    let size = c .before .before .before .size-of .ensures ∙ ap (λ (n : ℕ). length (tryDrawn (a .p) n)) (address .ensures) in
-    draws-on (a .w) (a .p) (a .out .now) _ (f .0) (f .1 .0) (f .1 .1) (put .result) (put .last .1 .1 .1 .0)
-    (subst (λ (n : ℕ). Puts (drop (a .w .passed) (tryDrawn (a .p) n)) (a .out .now) (put .result) (put .last .1 .1 .1 .0)) (address .ensures) (put .ensures))
-    (c .drew2 .ensures
-    ∙ ap (λ (x : Polling). drew x (put .result) 0 0)
-    (c .before .turn-by2 .ensures ∙ ap (λ (s : SoFar). turnBy (a .w) s (a .w .passed + put .result) (a .w .tried) 0) (rest .ensures)
-    ∙ sym (while-drawing (a .p) (draws (a .w) (a .w .passed + put .result)) (f .1 .0) refl (omega (arith, size, c .before .before .if1 .left)))))
+returns-4 : tie.Need-returns-4
+returns-4 c = search needs
 
 pub draw-spec : {M : Type 1} → statement M
 draw-spec =
     tie.close
     (tie.spec
-    address-of-requires
-    cast-passed
-    draw-try-requires
-    at-rest-requires
-    size-of-requires
-    cast-if1
-    add-if1
-    turn-by-requires
-    drew-requires
-    same-length
+    bad-pace-requires
+    undrawn-requires
     returns
-    add-turn-by
-    cast-turn-by
-    turn-by-requires-2
-    drew-requires-2
-    same-length-2
-    returns-2)
+    is-over-requires
+    undrawn-requires-2
+    returns-2
+    meant-requires
+    undrawn-requires-3
+    returns-3
+    draw-on-requires
+    same-length
+    returns-4)

@@ -1,35 +1,30 @@
 -- `polling::settling::answered` meets its contract: what it makes anew is what the calls before it gave. Assumes nothing.
 use mathlib.Core.Path.{ap, ap₂, _∙_}
+use mathlib.Core.List.{[]}
 use Prim.Native.Nat.{ℕ, _+_}
 use Rattle.frame.specs.Line.{mark}
 use Rattle.lines.specs.declared.SoFar.{SoFar}
-use Rattle.round.specs.declared.Round.{Round}
-use Rattle.polling.specs.declared.Polling.{Polling}
-use Rattle.polling.specs.Meant.{isOver}
-use Rattle.polling.specs.Settling.{settledOf}
+use Rattle.round.specs.declared.Polled.{Polled}
+use Rattle.polling.specs.declared.turns.Turn.{Turn}
+use Rattle.polling.specs.inside.Turns.{stateOf, overBy, settled, outcome}
 use native.Mathlib.Omega.{arith}
 use Rattle.polling.proofs.Meaning.{not-over}
 use borrow.Author.Needs.{needs}
 use Rattle.polling.proofs.settling.answered.Statement.{statement}
 use Rattle.polling.proofs.settling.answered.Tie as tie
 
-abbrev next : Round → SoFar → ℕ → Polling
-next r s at = record { round = r; lines = s; passed = 0; at = at + 1; tried = 0; listening = 0 }
+abbrev next : Turn → Polled → SoFar → Turn
+next t e s = record { entry = e; count = t .count; lines = s; passed = 0; at = t .at + 1; tried = 0; listening = 0 }
 
 at-rest-requires : tie.Need-at-rest-requires
 at-rest-requires c κs = search needs
 
-cast-with-reply : tie.Need-cast-with-reply
-cast-with-reply c = search needs
+replied-requires : tie.Need-replied-requires
+replied-requires c κs = search needs
 
-with-reply-requires : tie.Need-with-reply-requires
-with-reply-requires c κs =
-    let o = not-over (c .before .before .before .args .w) (c .before .before .before .pre) in
-    omega (arith, o .0, o .1)
-
-add-t9 : tie.Need-add-t9
-add-t9 c =
-    let o = not-over (c .before .before .before .before .before .args .w) (c .before .before .before .before .before .pre) in
+add-t8 : tie.Need-add-t8
+add-t8 c =
+    let o = not-over (stateOf [] (c .before .before .before .before .args .t)) (c .before .before .before .before .pre) in
     omega (arith, o .0, o .1)
 
 is-over-requires : tie.Need-is-over-requires
@@ -43,24 +38,23 @@ told-requires c κs = search needs
 
 returns : tie.Need-returns
 returns c =
-    let a = c .before .before .before .before .before .before .before .before .args in
-    let round = c .before .before .before .before .with-reply in
-    let rest = c .before .before .before .before .before .before .at-rest in
+    let a = c .before .before .before .before .before .before .before .args in
+    let entry = c .before .before .before .before .replied in
+    let rest = c .before .before .before .before .before .at-rest in
     c .told .ensures
-    ∙ ap (λ (m : ℕ). settledOf (next (round .result) (rest .result) (a .w .at)) (a .ear .taken) (a .w .at) 1 m (a .ear .number))
+    ∙ ap (λ (m : ℕ). outcome (next (a .t) (entry .result) (rest .result)) (settled (a .ear .taken) (a .t .at) 1 m (a .ear .number)))
     (c .before .marked .ensures ∙ ap mark (c .before .before .is-over .ensures))
     ∙ ap₂
-    (λ (r : Round) (s : SoFar). settledOf (next r s (a .w .at)) (a .ear .taken) (a .w .at) 1 (mark (isOver (next r s (a .w .at)))) (a .ear .number))
-    (round .ensures) (rest .ensures)
+    (λ (e : Polled) (s : SoFar). outcome (next (a .t) e s) (settled (a .ear .taken) (a .t .at) 1 (mark (overBy (next (a .t) e s))) (a .ear .number)))
+    (entry .ensures) (rest .ensures)
 
 pub answered-spec : {M : Type 1} → statement M
 answered-spec =
     tie.close
     (tie.spec
     at-rest-requires
-    cast-with-reply
-    with-reply-requires
-    add-t9
+    replied-requires
+    add-t8
     is-over-requires
     marked-requires
     told-requires

@@ -1,10 +1,9 @@
--- `polling::settling::asked_again` meets its contract: the state is that of the same transmitter, once more tried. Assumes nothing.
+-- `polling::settling::asked_again` meets its contract: the turn is that of the same transmitter, once more tried. Assumes nothing.
 use mathlib.Core.Path.{ap, _∙_}
 use Prim.Native.Nat.{_+_}
 use Rattle.lines.specs.declared.SoFar.{SoFar}
-use Rattle.polling.specs.declared.Polling.{Polling}
-use Rattle.polling.specs.Meant.{turnBy}
-use Rattle.polling.specs.Settling.{settledOf}
+use Rattle.polling.specs.declared.turns.Turn.{Turn}
+use Rattle.polling.specs.inside.Turns.{turnAs, settled, outcome}
 use borrow.Author.Needs.{needs}
 use Rattle.polling.proofs.settling.asked_again.Statement.{statement}
 use Rattle.polling.proofs.settling.asked_again.Tie as tie
@@ -25,8 +24,8 @@ returns : tie.Need-returns
 returns c =
     let a = c .before .before .before .before .args in
     c .told .ensures
-    ∙ ap (λ (w : Polling). settledOf w (a .ear .taken) (a .w .at) 0 0 (a .ear .number))
-    (c .before .turn-by .ensures ∙ ap (λ (s : SoFar). turnBy (a .w) s 0 (a .w .tried + 1) 0) (c .before .before .before .at-rest .ensures))
+    ∙ ap (λ (x : Turn). outcome x (settled (a .ear .taken) (a .t .at) 0 0 (a .ear .number)))
+    (c .before .turn-by .ensures ∙ ap (λ (s : SoFar). turnAs (a .t) s 0 (a .t .tried + 1) 0) (c .before .before .before .at-rest .ensures))
 
 pub asked-again-spec : {M : Type 1} → statement M
 asked-again-spec =

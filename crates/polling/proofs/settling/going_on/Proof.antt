@@ -1,7 +1,7 @@
--- `polling::settling::going_on` meets its contract: the state is that of the same try, so many samples later. Assumes nothing.
+-- `polling::settling::going_on` meets its contract: the turn is that of the same try, so many samples later. Assumes nothing.
 use mathlib.Core.Path.{ap, _∙_}
-use Rattle.polling.specs.declared.Polling.{Polling}
-use Rattle.polling.specs.Settling.{settledOf}
+use Rattle.polling.specs.declared.turns.Turn.{Turn}
+use Rattle.polling.specs.inside.Turns.{settled, outcome}
 use borrow.Author.Needs.{needs}
 use Rattle.polling.proofs.settling.going_on.Statement.{statement}
 use Rattle.polling.proofs.settling.going_on.Tie as tie
@@ -24,7 +24,7 @@ untold-requires c κs = search needs
 returns : tie.Need-returns
 returns c =
     let a = c .before .before .before .before .before .args in
-    c .untold .ensures ∙ ap (λ (w : Polling). settledOf w (a .ear .taken) 0 0 0 0) (c .before .turn-by .ensures)
+    c .untold .ensures ∙ ap (λ (x : Turn). outcome x (settled (a .ear .taken) 0 0 0 0)) (c .before .turn-by .ensures)
 
 pub going-on-spec : {M : Type 1} → statement M
 going-on-spec =
