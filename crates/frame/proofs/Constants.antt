@@ -17,6 +17,7 @@ use Rattle.frame.specs.Level.{Mode, modeOf, widthOf, valuesOf, readRow, 
 use Rattle.frame.specs.inside.Packed.{chartOf, rowOf, levelCode, writeUp}
 use Rattle.frame.specs.inside.Constants.{Constants, fractional, decimalFeet, metres20, metres30, constantsBy, fillAt, digitBits, readBy, writeBy}
 use Rattle.frame.proofs.Both.{and-true}
+use Rattle.frame.proofs.Tables.{pick-case}
 use Rattle.frame.proofs.Upward.{placed-up}
 
 -- a digit's chart read in four bits
@@ -173,3 +174,13 @@ constants-fit k = go (eqb k 0) (eqb k 1) (eqb k 2)
     go false true c = decimal-fits
     go false false true = metres20-fits
     go false false false = metres30-fits
+
+-- and are within the bounds that the readers ask for
+abbrev pub Allowed : Constants → Type 0
+Allowed k = (k .digits ≤ 5) × ((16 ≤ k .first) × ((k .first ≤ 17) × ((k .before ≤ 1) × (k .after ≤ 6))))
+
+pub allowed : (k : ℕ) → Allowed (constantsBy k)
+allowed k =
+    pick-case Allowed (eqb k 0) (lit≤ tt, (lit≤ tt, (lit≤ tt, (lit≤ tt, lit≤ tt))))
+    (pick-case Allowed (eqb k 1) (lit≤ tt, (lit≤ tt, (lit≤ tt, (lit≤ tt, lit≤ tt))))
+    (pick-case Allowed (eqb k 2) (lit≤ tt, (lit≤ tt, (lit≤ tt, (lit≤ tt, lit≤ tt)))) (lit≤ tt, (lit≤ tt, (lit≤ tt, (lit≤ tt, lit≤ tt))))))

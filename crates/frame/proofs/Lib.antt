@@ -19,6 +19,7 @@ pub mod Signs
 pub mod Three
 pub mod Verdict
 pub mod Refusals
+pub mod Walks
 pub mod Fronts
 pub mod Parts
 pub mod Counted

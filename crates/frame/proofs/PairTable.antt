@@ -3,11 +3,11 @@
 use mathlib.Core.Path.{_≡_, sym, ap, _∙_}
 use mathlib.Core.Bool.{Bool, true, false}
 use Prim.Native.Nat.{ℕ, _+_, _*_, _/_, _%_, _^_, _<_}
-use native.Mathlib.Nat.{add-zero}
 use native.Mathlib.Omega.{arith}
 use lib.Dec.{eqb, eqb→eq}
 use lib.Pow.{shr-shr}
 use Rattle.frame.specs.Pick.{pick}
+use Rattle.frame.specs.Line.{mark}
 use Rattle.frame.specs.Charts.{decimal, placeIn, turned}
 use Rattle.frame.specs.Pairs.{pairOf, entryOf, indexOf}
 use Rattle.frame.specs.inside.PairWords.{words, wordOf, tableAt}
@@ -20,16 +20,27 @@ pub table-rule : (i : ℕ) → i < 512 → tableAt i ≡ entryOf i
 unfolding entryRight words pairOf decimal placeIn turned
 table-rule i h = eqb→eq _ _ (at-below entryRight 512 tt i h)
 
--- where the entry of a pair stands
-at-place : (i k j t : ℕ) → i < 512 → i % 256 / 4 ≡ k → i % 4 ≡ j → i / 256 ≡ t → wordOf k / 2 ^ (16 * j + 8 * t) % 256 ≡ entryOf i
-at-place i k j t h w r u = rw (← w, ← r, ← u) (table-rule i h)
+-- where the entry of an index stands
+at-place : (i k j : ℕ) → i < 512 → i / 8 ≡ k → i % 8 ≡ j → wordOf k / 2 ^ (8 * j) % 256 ≡ entryOf i
+at-place i k j h w r = rw (← w, ← r) (table-rule i h)
 
--- the same by the codes, as the code takes it out of a word
-pub both-rule : (odd : Bool) (a b : ℕ) → a < 16 → b < 16
-    → pick odd (wordOf (4 * a + b / 4) / 2 ^ (16 * (b % 4)) / 256 % 256) (wordOf (4 * a + b / 4) / 2 ^ (16 * (b % 4)) % 256) ≡ entryOf (indexOf odd a b)
-both-rule true a b ha hb =
-    ap (λ (q : ℕ). q % 256) (shr-shr (wordOf (4 * a + b / 4)) (16 * (b % 4)) 8)
-    ∙ at-place (indexOf true a b) (4 * a + b / 4) (b % 4) 1 (omega arith) (omega arith) (omega arith) (omega arith)
-both-rule false a b ha hb =
-    ap (λ (k : ℕ). wordOf (4 * a + b / 4) / 2 ^ k % 256) (sym (add-zero (16 * (b % 4))))
-    ∙ at-place (indexOf false a b) (4 * a + b / 4) (b % 4) 0 (omega arith) (omega arith) (omega arith) (omega arith)
+-- the same by the codes side by side, as the code takes it out of a word
+pub words-rule : (odd : Bool) (codes : ℕ) → codes < 256
+    → pick odd (wordOf (32 + codes / 8)) (wordOf (codes / 8)) / 2 ^ (8 * (codes % 8)) % 256 ≡ entryOf (mark odd * 256 + codes)
+words-rule true codes h = at-place (1 * 256 + codes) (32 + codes / 8) (codes % 8) (omega arith) (omega arith) (omega arith)
+words-rule false codes h = at-place (0 * 256 + codes) (codes / 8) (codes % 8) (omega arith) (omega arith) (omega arith)
+
+-- two codes side by side, and a code beside 0000
+join : (m x a b : ℕ) → x ≡ a * 16 + b → m * 256 + x ≡ m * 256 + a * 16 + b
+join m x a b e = omega (arith, e)
+
+halves : (q : ℕ) → q % 256 ≡ q / 2 ^ 4 % 16 * 16 + q % 16
+halves q = omega arith
+
+pub index-is : (odd : Bool) (bits k : ℕ) → mark odd * 256 + bits / 2 ^ k % 256 ≡ indexOf odd (bits / 2 ^ (k + 4) % 16) (bits / 2 ^ k % 16)
+index-is odd bits k =
+    join (mark odd) (bits / 2 ^ k % 256) (bits / 2 ^ (k + 4) % 16) (bits / 2 ^ k % 16)
+    (halves (bits / 2 ^ k) ∙ ap (λ (q : ℕ). q % 16 * 16 + bits / 2 ^ k % 16) (shr-shr bits k 4))
+
+pub index-0 : (odd : Bool) (first : ℕ) → mark odd * 256 + 16 * first ≡ indexOf odd first 0
+index-0 odd first = join (mark odd) (16 * first) first 0 (omega arith)

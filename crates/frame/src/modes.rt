@@ -3,7 +3,7 @@ ghost use mathlib.Core.Path.{_≡_};
 ghost use Prim.Native.Nat.{_<_, _^_};
 ghost use Rattle.frame.specs.Level.{modeOf, putLevel};
 ghost use Rattle.frame.specs.inside.Packed.{levelCode, secondCode};
-ghost use Rattle.frame.specs.inside.Constants.{fractional, decimalFeet, metres20, metres30, codesBy, readBy, readPairsBy, writeBy};
+ghost use Rattle.frame.specs.inside.Constants.{fractional, decimalFeet, metres20, metres30, constantsBy, codesBy, readBy, writeBy};
 use crate::level;
 use crate::level_writing;
 use crate::pairs;
@@ -98,13 +98,6 @@ impl Decimal {
         )
     }
 
-    fn read_by_pairs(n: u64) -> u64
-        ensures { λ r. ⌜ r ≡ readPairsBy decimalFeet n ⌝ }
-    {
-        let k = Self::CONSTANTS;
-        pairs::read_by(k.digits, k.first, k.before, k.after, k.largest, k.start, n)
-    }
-
     // The codes of a level's digits: hundredths, tenths, feet, feet tens.
     fn codes(v: u64) -> u64
         ensures { λ r. ⌜ (r ≡ codesBy decimalFeet v) × (r < 2 ^ 20) ⌝ }
@@ -150,13 +143,6 @@ impl Metres20 {
         )
     }
 
-    fn read_by_pairs(n: u64) -> u64
-        ensures { λ r. ⌜ r ≡ readPairsBy metres20 n ⌝ }
-    {
-        let k = Self::CONSTANTS;
-        pairs::read_by(k.digits, k.first, k.before, k.after, k.largest, k.start, n)
-    }
-
     fn write(v: u64) -> u64
         ensures { λ r. ⌜ r ≡ writeBy metres20 v ⌝ }
     {
@@ -195,13 +181,6 @@ impl Metres30 {
         )
     }
 
-    fn read_by_pairs(n: u64) -> u64
-        ensures { λ r. ⌜ r ≡ readPairsBy metres30 n ⌝ }
-    {
-        let k = Self::CONSTANTS;
-        pairs::read_by(k.digits, k.first, k.before, k.after, k.largest, k.start, n)
-    }
-
     fn write(v: u64) -> u64
         ensures { λ r. ⌜ r ≡ writeBy metres30 v ⌝ }
     {
@@ -222,16 +201,27 @@ pub(crate) fn read_level(mode: u64, n: u64) -> u64
     }
 }
 
-// The same, two digits at a time where all digits are decimal.
-pub(crate) fn read_level_by_pairs(mode: u64, n: u64) -> u64
-    ensures { λ r. ⌜ r ≡ secondCode mode n ⌝ }
+// The constants of the mode of this number, those that its type carries.
+pub(crate) fn constants_of(mode: u64) -> Constants
+    ensures { λ r. ⌜ r ≡ constantsBy mode ⌝ }
 {
     match mode {
-        0 => Fractional::read(n),
-        1 => Decimal::read_by_pairs(n),
-        2 => Metres20::read_by_pairs(n),
-        _ => Metres30::read_by_pairs(n),
+        0 => Fractional::CONSTANTS,
+        1 => Decimal::CONSTANTS,
+        2 => Metres20::CONSTANTS,
+        _ => Metres30::CONSTANTS,
     }
+}
+
+// The same as `read_level`, two digits at a time where all digits are decimal. The mode's constants are handed over as they were picked.
+pub(crate) fn read_level_by_pairs(mode: u64, k: Constants, n: u64) -> u64
+    requires { ⌜ k ≡ constantsBy mode ⌝ }
+    ensures { λ r. ⌜ r ≡ secondCode mode n ⌝ }
+{
+    if mode == 0 {
+        return Fractional::read(n);
+    }
+    pairs::read_by(k.digits, k.first, k.before, k.after, k.largest, k.start, n)
 }
 
 // The bits of a level in the mode of this number; the fill is 0.

@@ -1,78 +1,148 @@
-// The table of pairs, 512 entries as 64 words of eight: for each pair of codes the number of the pair, or 0xff for a code in no chart, its first
-// digit straight and, one byte up, its first digit turned. A word has four second codes from the lowest up, a first code four words. Made by
-// `tools/pair-table`. Compiled, the words are constant data, and both entries of a pair are a load and a shift.
+// The table of pairs, 512 entries: for each pair of codes the number of the pair, or 0xff for a code in no chart, with its first digit straight and
+// with it turned. Made by `tools/pair-table`. Compiled, the words are constant data, and an entry is a load and a shift.
 ghost use mathlib.Core.Path.{_≡_};
 ghost use Prim.Native.Nat.{_<_};
-ghost use Rattle.frame.specs.inside.PairWords.{wordOf};
+ghost use Rattle.frame.specs.inside.PairWords.{entriesOf};
 
-pub(crate) fn word(k: u64) -> u64
-    requires { ⌜ k < 64 ⌝ }
-    ensures { λ r. ⌜ r ≡ wordOf k ⌝ }
+// The entries of one first code and eight second codes, a byte each, the lowest code lowest.
+pub(crate) struct Entries {
+    pub(crate) straight: u64,
+    pub(crate) turned: u64,
+}
+
+// Those of eight pairs of codes, first code by first code: two such for each.
+pub(crate) fn eight(k: u64) -> Entries
+    requires { ⌜ k < 32 ⌝ }
+    ensures { λ r. ⌜ r ≡ entriesOf k ⌝ }
 {
     match k {
-        0 => 0x6102600362016300,
-        1 => 0x5e055f045d065c07,
-        2 => 0xffffffffffff5a09,
-        3 => 0xffffffffffff5b08,
-        4 => 0x5211531051125013,
-        5 => 0x550e540f560d570c,
-        6 => 0xffffffffffff590a,
-        7 => 0xffffffffffff580b,
-        8 => 0x3e253f243d263c27,
-        9 => 0x4122402342214320,
-        10 => 0xffffffffffff451e,
-        11 => 0xffffffffffff441f,
-        12 => 0x4d164c174e154f14,
-        13 => 0x4a194b18491a481b,
-        14 => 0xffffffffffff461d,
-        15 => 0xffffffffffff471c,
-        16 => 0x164d174c154e144f,
-        17 => 0x194a184b1a491b48,
-        18 => 0xffffffffffff1d46,
-        19 => 0xffffffffffff1c47,
-        20 => 0x253e243f263d273c,
-        21 => 0x2241234021422043,
-        22 => 0xffffffffffff1e45,
-        23 => 0xffffffffffff1f44,
-        24 => 0x392a382b3a293b28,
-        25 => 0x362d372c352e342f,
-        26 => 0xffffffffffff3231,
-        27 => 0xffffffffffff3330,
-        28 => 0x2a392b38293a283b,
-        29 => 0x2d362c372e352f34,
-        30 => 0xffffffffffff3132,
-        31 => 0xffffffffffff3033,
-        32 => 0x0261036001620063,
-        33 => 0x055e045f065d075c,
-        34 => 0xffffffffffff095a,
-        35 => 0xffffffffffff085b,
-        36 => 0xffffffffffffffff,
-        37 => 0xffffffffffffffff,
-        38 => 0xffffffffffffffff,
-        39 => 0xffffffffffffffff,
-        40 => 0xffffffffffffffff,
-        41 => 0xffffffffffffffff,
-        42 => 0xffffffffffffffff,
-        43 => 0xffffffffffffffff,
-        44 => 0xffffffffffffffff,
-        45 => 0xffffffffffffffff,
-        46 => 0xffffffffffffffff,
-        47 => 0xffffffffffffffff,
-        48 => 0x1152105312511350,
-        49 => 0x0e550f540d560c57,
-        50 => 0xffffffffffff0a59,
-        51 => 0xffffffffffff0b58,
-        52 => 0xffffffffffffffff,
-        53 => 0xffffffffffffffff,
-        54 => 0xffffffffffffffff,
-        55 => 0xffffffffffffffff,
-        56 => 0xffffffffffffffff,
-        57 => 0xffffffffffffffff,
-        58 => 0xffffffffffffffff,
-        59 => 0xffffffffffffffff,
-        60 => 0xffffffffffffffff,
-        61 => 0xffffffffffffffff,
-        62 => 0xffffffffffffffff,
-        _ => 0xffffffffffffffff,
+        0 => Entries {
+            straight: 0x0504060702030100,
+            turned: 0x5e5f5d5c61606263,
+        },
+        1 => Entries {
+            straight: 0xffffff08ffffff09,
+            turned: 0xffffff5bffffff5a,
+        },
+        2 => Entries {
+            straight: 0x0e0f0d0c11101213,
+            turned: 0x5554565752535150,
+        },
+        3 => Entries {
+            straight: 0xffffff0bffffff0a,
+            turned: 0xffffff58ffffff59,
+        },
+        4 => Entries {
+            straight: 0x2223212025242627,
+            turned: 0x414042433e3f3d3c,
+        },
+        5 => Entries {
+            straight: 0xffffff1fffffff1e,
+            turned: 0xffffff44ffffff45,
+        },
+        6 => Entries {
+            straight: 0x19181a1b16171514,
+            turned: 0x4a4b49484d4c4e4f,
+        },
+        7 => Entries {
+            straight: 0xffffff1cffffff1d,
+            turned: 0xffffff47ffffff46,
+        },
+        8 => Entries {
+            straight: 0x4a4b49484d4c4e4f,
+            turned: 0x19181a1b16171514,
+        },
+        9 => Entries {
+            straight: 0xffffff47ffffff46,
+            turned: 0xffffff1cffffff1d,
+        },
+        10 => Entries {
+            straight: 0x414042433e3f3d3c,
+            turned: 0x2223212025242627,
+        },
+        11 => Entries {
+            straight: 0xffffff44ffffff45,
+            turned: 0xffffff1fffffff1e,
+        },
+        12 => Entries {
+            straight: 0x2d2c2e2f2a2b2928,
+            turned: 0x3637353439383a3b,
+        },
+        13 => Entries {
+            straight: 0xffffff30ffffff31,
+            turned: 0xffffff33ffffff32,
+        },
+        14 => Entries {
+            straight: 0x3637353439383a3b,
+            turned: 0x2d2c2e2f2a2b2928,
+        },
+        15 => Entries {
+            straight: 0xffffff33ffffff32,
+            turned: 0xffffff30ffffff31,
+        },
+        16 => Entries {
+            straight: 0x5e5f5d5c61606263,
+            turned: 0x0504060702030100,
+        },
+        17 => Entries {
+            straight: 0xffffff5bffffff5a,
+            turned: 0xffffff08ffffff09,
+        },
+        18 => Entries {
+            straight: 0xffffffffffffffff,
+            turned: 0xffffffffffffffff,
+        },
+        19 => Entries {
+            straight: 0xffffffffffffffff,
+            turned: 0xffffffffffffffff,
+        },
+        20 => Entries {
+            straight: 0xffffffffffffffff,
+            turned: 0xffffffffffffffff,
+        },
+        21 => Entries {
+            straight: 0xffffffffffffffff,
+            turned: 0xffffffffffffffff,
+        },
+        22 => Entries {
+            straight: 0xffffffffffffffff,
+            turned: 0xffffffffffffffff,
+        },
+        23 => Entries {
+            straight: 0xffffffffffffffff,
+            turned: 0xffffffffffffffff,
+        },
+        24 => Entries {
+            straight: 0x5554565752535150,
+            turned: 0x0e0f0d0c11101213,
+        },
+        25 => Entries {
+            straight: 0xffffff58ffffff59,
+            turned: 0xffffff0bffffff0a,
+        },
+        26 => Entries {
+            straight: 0xffffffffffffffff,
+            turned: 0xffffffffffffffff,
+        },
+        27 => Entries {
+            straight: 0xffffffffffffffff,
+            turned: 0xffffffffffffffff,
+        },
+        28 => Entries {
+            straight: 0xffffffffffffffff,
+            turned: 0xffffffffffffffff,
+        },
+        29 => Entries {
+            straight: 0xffffffffffffffff,
+            turned: 0xffffffffffffffff,
+        },
+        30 => Entries {
+            straight: 0xffffffffffffffff,
+            turned: 0xffffffffffffffff,
+        },
+        _ => Entries {
+            straight: 0xffffffffffffffff,
+            turned: 0xffffffffffffffff,
+        },
     }
 }

@@ -4,32 +4,36 @@ ghost use mathlib.Core.Bool.{Bool};
 ghost use Prim.Native.Nat.{suc, _+_, _-_, _*_, _/_, _%_, _^_, _<_, _≤_};
 ghost use lib.Dec.{eqb};
 ghost use Rattle.frame.specs.Pick.{pick};
+ghost use Rattle.frame.specs.Line.{mark};
 ghost use Rattle.frame.specs.Level.{Level};
 ghost use Rattle.frame.specs.Pairs.{noPair, entryOf, indexOf, readPairs, uncounted};
 ghost use Rattle.frame.specs.inside.Packed.{readCode, Below, levelNumber};
 ghost use Rattle.frame.specs.inside.Constants.{readPairsAt};
 use crate::level;
 use crate::pair_table;
+use crate::pair_table::Entries;
 
 // The mark for a pair in no chart. Every pair's number is below it.
 const NO_PAIR: u64 = 255;
 
-// The entry of a pair of codes out of both, the straight one below the turned one.
-fn either(odd: bool, both: u64) -> u64
-    ensures { λ r. ⌜ r ≡ pick odd (both / 256 % 256) (both % 256) ⌝ }
+// The words that the entries of a pair with its first digit turned or straight stand in.
+fn either(odd: bool, entries: Entries) -> u64
+    ensures { λ r. ⌜ r ≡ pick odd (entries .turned) (entries .straight) ⌝ }
 {
-    if odd { both / 256 % 256 } else { both % 256 }
+    if odd {
+        entries.turned
+    } else {
+        entries.straight
+    }
 }
 
-// The table's entry for a pair of codes, its first digit turned or straight. Both stand in one word, so that its load need not wait for the digit
-// above.
-fn entry(odd: bool, first: u64, second: u64) -> u64
-    requires { ⌜ first < 16 ⌝ }
-    requires { ⌜ second < 16 ⌝ }
-    ensures { λ r. ⌜ r ≡ entryOf (indexOf odd first second) ⌝ }
+// The table's entry for a pair of codes, its first digit turned or straight; the codes stand side by side in eight bits.
+fn entry(odd: bool, codes: u64) -> u64
+    requires { ⌜ codes < 256 ⌝ }
+    ensures { λ r. ⌜ r ≡ entryOf (mark odd * 256 + codes) ⌝ }
 {
-    let word = pair_table::word(4 * first + second / 4);
-    either(odd, word >> (16 * (second % 4)))
+    let word = either(odd, pair_table::eight(codes / 8));
+    (word >> (8 * (codes % 8))) % 256
 }
 
 // The entry of the top one of `left` pairs.
@@ -38,8 +42,7 @@ fn top_pair(left: u64, bits: u64, odd: bool) -> u64
     requires { ⌜ left ≤ 4 ⌝ }
     ensures { λ r. ⌜ r ≡ entryOf (indexOf odd (bits / 2 ^ (8 * (left - 1) + 4) % 16) (bits / 2 ^ (8 * (left - 1)) % 16)) ⌝ }
 {
-    let at = 8 * (left - 1);
-    entry(odd, (bits >> (at + 4)) % 16, (bits >> at) % 16)
+    entry(odd, (bits >> (8 * (left - 1))) % 256)
 }
 
 // The place of the digit in no chart of a pair that is marked. The table is asked again, with 0000 for the second code, which is in the chart from
@@ -51,7 +54,7 @@ fn lost_place(left: u64, bits: u64, odd: bool, place: u64) -> u64
     ensures { λ r. ⌜ (r ≡ pick (eqb (entryOf (indexOf odd (bits / 2 ^ (8 * (left - 1) + 4) % 16) 0)) noPair) place (suc place)) × (r ≤ 9) ⌝ }
 {
     let first = (bits >> (8 * (left - 1) + 4)) % 16;
-    if entry(odd, first, 0) == NO_PAIR {
+    if entry(odd, 16 * first) == NO_PAIR {
         return place;
     }
     place + 1

@@ -167,10 +167,13 @@ pub(crate) fn read(settings: u8, address: u16, count: usize, reply: &[u8]) -> Re
     with_level(n, level, read_heat(settings, count, n))
 }
 
-// Any reply, its level two digits at a time.
+// Any reply, its level two digits at a time. The mode's constants are picked before the first test: behind the tests a jump by the mode would be made
+// of it, which a processor guesses wrong where modes come mixed.
 pub(crate) fn read_by_pairs(settings: u8, address: u16, count: usize, reply: &[u8]) -> Reply
     ensures { λ r. ⌜ r ≡ replyOf settings address count (now (reply .entry)) ⌝ }
 {
+    let mode = (settings % 4) as u64;
+    let constants = modes::constants_of(mode);
     let early = unread(settings, address, count, reply);
     if early != 0 {
         return Reply::Refused(early as u8);
@@ -180,7 +183,7 @@ pub(crate) fn read_by_pairs(settings: u8, address: u16, count: usize, reply: &[u
     if fault != 0 {
         return Reply::Refused(fault as u8);
     }
-    let level = modes::read_level_by_pairs((settings % 4) as u64, n);
+    let level = modes::read_level_by_pairs(mode, constants, n);
     if level::FAULT <= level {
         return by_level(level);
     }
