@@ -1,2 +1,3 @@
 -- Laws of days counted on.
 pub mod Counted
+pub mod Years

@@ -11,6 +11,10 @@ februaryDays y = pick (eqb (y % 4) 0) (pick (eqb (y % 100) 0) (pick (eqb (y % 40
 abbrev pub daysIn : ℕ → ℕ → ℕ
 daysIn y m = pick (eqb m 2) (februaryDays y) (pick (eqb m 4) 30 (pick (eqb m 6) 30 (pick (eqb m 9) 30 (pick (eqb m 11) 30 31))))
 
+-- A year has 337 days beside those of February.
+unfoldable pub yearDays : ℕ → ℕ
+yearDays y = 337 + februaryDays y
+
 -- The month after a month, and its year, which is one more after December.
 abbrev pub monthAfter : ℕ → ℕ
 monthAfter m = pick (ltb m 12) (m + 1) 1

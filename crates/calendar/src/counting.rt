@@ -1,7 +1,6 @@
 // Days counted on, month by month.
 ghost use mathlib.Core.Path.{_≡_};
-ghost use Prim.Native.Nat.{_-_};
-ghost use Rattle.calendar.specs.Days.{februaryDays, daysIn, monthAfter, yearAfter, firstOf, daysAfter, daysFrom};
+ghost use Rattle.calendar.specs.Days.{februaryDays, daysIn, monthAfter, yearAfter, firstOf, daysAfter};
 
 // A day; where its day is 0, none.
 pub struct Day {
@@ -20,7 +19,7 @@ pub fn no_day() -> Day
     }
 }
 
-fn february(year: u32) -> u32
+pub(crate) fn february(year: u32) -> u32
     ensures { λ r. ⌜ r ≡ februaryDays year ⌝ }
 {
     if year % 4 != 0 {
@@ -51,14 +50,14 @@ pub(crate) fn days_in(year: u32, month: u32) -> u32
     if month == 11 { 30 } else { 31 }
 }
 
-fn next_month(month: u32) -> u32
+pub(crate) fn next_month(month: u32) -> u32
     ensures { λ r. ⌜ r ≡ monthAfter month ⌝ }
 {
     if month < 12 { month + 1 } else { 1 }
 }
 
 // No minute is so late that the last year comes.
-fn year_after(year: u32, month: u32) -> u32
+pub(crate) fn year_after(year: u32, month: u32) -> u32
     ensures { λ r. ⌜ r ≡ yearAfter year month ⌝ }
 {
     if month < 12 {
@@ -68,7 +67,7 @@ fn year_after(year: u32, month: u32) -> u32
 }
 
 // The day that comes so many days after the first of a month.
-fn from_first(beginning: u32, first: u32, days: u64) -> Day
+pub(crate) fn from_first(beginning: u32, first: u32, days: u64) -> Day
     ensures { λ r. ⌜ r ≡ daysAfter (firstOf beginning first) days ⌝ }
 {
     let mut year = beginning;
@@ -86,25 +85,4 @@ fn from_first(beginning: u32, first: u32, days: u64) -> Day
         month,
         day: (left as u32) + 1,
     }
-}
-
-// How many days of its month are over where a day begins.
-fn days_over(day: u32) -> u64
-    ensures { λ r. ⌜ r ≡ day - 1 ⌝ }
-{
-    if day < 1 {
-        return 0;
-    }
-    (day - 1) as u64
-}
-
-// The day that comes so many days after another.
-pub fn after(begin: Day, days: u32) -> Day
-    ensures { λ r. ⌜ r ≡ daysFrom begin days ⌝ }
-{
-    from_first(
-        begin.year,
-        begin.month,
-        (days as u64) + days_over(begin.day),
-    )
 }
