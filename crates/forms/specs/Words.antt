@@ -1,14 +1,10 @@
--- What the page says in words: moments, levels and temperatures in people's form, modes, types and faults.
+-- What is said in words: levels and temperatures in people's form, modes, types and faults.
 use mathlib.Core.List.{List, [], _∷_}
 use Prim.Native.Nat.{ℕ, _-_, _/_, _%_}
 use lib.Dec.{eqb, ltb}
 use Rattle.frame.specs.Pick.{pick}
 use Rattle.listing.specs.Text.{ascii}
 use Rattle.forms.specs.Form.{fill, choice}
-
--- A minute, counted from the beginning of day 0: "day 0, 06:00".
-unfoldable pub momentText : ℕ → List ℕ
-momentText m = fill (ascii "day ~, ~~:~~") (m / 1440 ∷ m % 1440 / 600 ∷ m % 1440 / 60 % 10 ∷ m % 60 / 10 ∷ m % 10 ∷ [])
 
 -- A level in its mode's unit: sixteenths of an inch, hundredths of a foot, millimetres.
 abbrev pub inSixteenths : ℕ → List ℕ

@@ -1,25 +1,11 @@
-// The words of the page: moments, levels in people's form, modes, types and faults.
+// Words for people: levels and temperatures in people's form, modes, types and faults.
 use crate::form::put_choice;
 use crate::form::put_form;
 ghost use mathlib.Core.Path.{_≡_};
 ghost use Prim.Native.Nat.{_+_, _≤_};
 ghost use lib.ListN.{length};
 ghost use Rattle.listing.specs.inside.Puts.{Puts};
-ghost use Rattle.forms.specs.Words.{momentText, levelText, degreesText, modeText, typeText, faultText};
-
-pub fn put_moment(out: &mut [u8], at: usize, minute: u32) -> usize
-    requires { ⌜ at + 57 ≤ length (now out) ⌝ }
-    ensures { λ r. ⌜ Puts (momentText minute) 57 (now (out .entry)) at r (now (out .exit)) ⌝ }
-{
-    let numbers = [
-        minute / 1440,
-        minute % 1440 / 600,
-        minute % 1440 / 60 % 10,
-        minute % 60 / 10,
-        minute % 10,
-    ];
-    put_form(out, at, b"day ~, ~~:~~", &numbers)
-}
+ghost use Rattle.forms.specs.Words.{levelText, degreesText, modeText, typeText, faultText};
 
 pub fn put_level(out: &mut [u8], at: usize, settings: u16, level: u16) -> usize
     requires { ⌜ at + 43 ≤ length (now out) ⌝ }

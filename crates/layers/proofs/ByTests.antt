@@ -13,6 +13,7 @@ use Rattle.frame.specs.declared.Temperature.the-variants.{Degrees}
 use Rattle.frame.specs.Pick.{pick}
 use Rattle.frame.specs.Temperature.{isPlus, magnitude}
 use Rattle.listing.specs.Text.{ascii}
+use Rattle.calendar.specs.declared.counting.Day.{Day}
 use Rattle.forms.specs.Form.{fill, choice}
 use Rattle.layers.specs.declared.parts.Value.{Value}
 use Rattle.layers.specs.Drawing.{stands, heatValue, pointText, alarmShown, alarmMark, saidAs, faultMark}
@@ -27,16 +28,16 @@ degrees-value d m plus fits test said took size =
     let number : m ≡ magnitude d = size ∙ ap magnitude (same d fits) in
     λ i. stands (pick (sign i) (8000 + number i) (8000 - number i))
 
-module _ (layer minute n place : ℕ) where
-  pub as-mark : layer ≡ 2 → saidAs 0 minute n place ≡ faultMark layer minute n place
+module _ (begin : Day) (layer minute n place : ℕ) where
+  pub as-mark : layer ≡ 2 → saidAs begin 0 minute n place ≡ faultMark begin layer minute n place
   unfolding faultMark
   as-mark h = simp (eq-eqb layer 2 h)
 
-  pub as-words : (layer ≡ 2 → ⊥) → layer ≡ 5 → saidAs 1 minute n place ≡ faultMark layer minute n place
+  pub as-words : (layer ≡ 2 → ⊥) → layer ≡ 5 → saidAs begin 1 minute n place ≡ faultMark begin layer minute n place
   unfolding faultMark
   as-words g h = simp (ne-eqb layer 2 g, eq-eqb layer 5 h)
 
-  pub as-nothing : (layer ≡ 2 → ⊥) → (layer ≡ 5 → ⊥) → [] ≡ faultMark layer minute n place
+  pub as-nothing : (layer ≡ 2 → ⊥) → (layer ≡ 5 → ⊥) → [] ≡ faultMark begin layer minute n place
   unfolding faultMark
   as-nothing g h = simp (ne-eqb layer 2 g, ne-eqb layer 5 h)
 
@@ -45,7 +46,7 @@ module _ (layer minute : ℕ) (r : Reading) (shown : Bool) (told : shown ≡ ala
   unfolding alarmMark
   no-alarm e = simp (sym told ∙ e)
 
-  pub an-alarm : shown ≡ true → fill (ascii "<path d='M~,0h0'/>") (minute ∷ []) ≡ alarmMark layer minute r
+  pub an-alarm : shown ≡ true → fill (ascii "<path d='M~,0h1'/>") (minute ∷ []) ≡ alarmMark layer minute r
   unfolding alarmMark
   an-alarm e = simp (sym told ∙ e)
 

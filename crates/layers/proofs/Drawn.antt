@@ -14,17 +14,18 @@ use Rattle.sheet.specs.Slots.{slotAt, slotOf, recordIn, listUpTo}
 use Rattle.summary.specs.Worked.{pairIn, ofPair}
 use Rattle.summary.proofs.Seen.{list-more}
 use Rattle.summary.proofs.PairFigures.{pair-append}
+use Rattle.calendar.specs.declared.counting.Day.{Day}
 use Rattle.layers.specs.Drawing.{partText, goesOn, layerText}
 use Rattle.listing.specs.inside.Puts.{Puts}
 use Rattle.listing.proofs.Putting.{text-is, at-most, nothing-put}
 use Rattle.layers.specs.inside.Layers.{joinedAfter}
 
-pub layer-append : (n : ℕ) (j : Bool) (l m : List Entry) → layerText n j (l ++ m) ≡ layerText n j l ++ layerText n (joinedAfter n j l) m
+pub layer-append : (b : Day) (n : ℕ) (j : Bool) (l m : List Entry) → layerText b n j (l ++ m) ≡ layerText b n j l ++ layerText b n (joinedAfter n j l) m
 unfolding layerText joinedAfter
-layer-append n j [] m = refl
-layer-append n j (e ∷ l) m =
-    ap (λ (t : List ℕ). partText n j e ++ t) (layer-append n (goesOn n e) l m)
-    ∙ sym (append-assoc (partText n j e) (layerText n (goesOn n e) l) (layerText n (joinedAfter n (goesOn n e) l) m))
+layer-append b n j [] m = refl
+layer-append b n j (e ∷ l) m =
+    ap (λ (t : List ℕ). partText b n j e ++ t) (layer-append b n (goesOn n e) l m)
+    ∙ sym (append-assoc (partText b n j e) (layerText b n (goesOn n e) l) (layerText b n (joinedAfter n (goesOn n e) l) m))
 
 pub joined-append : (n : ℕ) (j : Bool) (l m : List Entry) → joinedAfter n j (l ++ m) ≡ joinedAfter n (joinedAfter n j l) m
 unfolding joinedAfter
@@ -32,17 +33,17 @@ joined-append n j [] m = refl
 joined-append n j (e ∷ l) m = joined-append n (goesOn n e) l m
 
 -- a layer of one record, and of none
-pub layer-one : (n : ℕ) (j : Bool) (e : Entry) → layerText n j (e ∷ []) ≡ partText n j e
+pub layer-one : (b : Day) (n : ℕ) (j : Bool) (e : Entry) → layerText b n j (e ∷ []) ≡ partText b n j e
 unfolding layerText
-layer-one n j e = append-nil (partText n j e)
+layer-one b n j e = append-nil (partText b n j e)
 
 pub joined-one : (n : ℕ) (j : Bool) (e : Entry) → joinedAfter n j (e ∷ []) ≡ goesOn n e
 unfolding joinedAfter
 joined-one n j e = refl
 
-pub layer-none : (n : ℕ) (j : Bool) → layerText n j [] ≡ []
+pub layer-none : (b : Day) (n : ℕ) (j : Bool) → layerText b n j [] ≡ []
 unfolding layerText
-layer-none n j = refl
+layer-none b n j = refl
 
 pub joined-none : (n : ℕ) (j : Bool) → joinedAfter n j [] ≡ j
 unfolding joinedAfter
@@ -76,20 +77,20 @@ count-grows k s i (suc d) =
     rw e (omega (arith, count-grows k s i d, count-more k s (i + d)))
 
 -- what some records of a pair add, in an output; the same of records that are equal, of none, of one of the pair and of one of another
-abbrev pub Adds : ℕ → ℕ → Bool → List Entry → List ℕ → ℕ → ℕ → Bool → List ℕ → Type 0
-Adds pair layer joined m out at end after-joined after =
-    Puts (layerText layer joined (ofPair pair m)) (138 * length (ofPair pair m)) out at end after × (after-joined ≡ joinedAfter layer joined (ofPair pair m))
+abbrev pub Adds : Day → ℕ → ℕ → Bool → List Entry → List ℕ → ℕ → ℕ → Bool → List ℕ → Type 0
+Adds b pair layer joined m out at end after-joined after =
+    Puts (layerText b layer joined (ofPair pair m)) (104 * length (ofPair pair m)) out at end after × (after-joined ≡ joinedAfter layer joined (ofPair pair m))
 
-pub adds-same : (pair layer : ℕ) (joined : Bool) (m n : List Entry) (out : List ℕ) (at end : ℕ) (goes : Bool) (after : List ℕ) → m ≡ n → Adds pair layer joined m out at end goes after → Adds pair layer joined n out at end goes after
-adds-same pair layer joined m n out at end goes after e x = rw (← e) x
+pub adds-same : (b : Day) (pair layer : ℕ) (joined : Bool) (m n : List Entry) (out : List ℕ) (at end : ℕ) (goes : Bool) (after : List ℕ) → m ≡ n → Adds b pair layer joined m out at end goes after → Adds b pair layer joined n out at end goes after
+adds-same b pair layer joined m n out at end goes after e x = rw (← e) x
 
-pub adds-none : (pair layer : ℕ) (joined : Bool) (m : List Entry) (out : List ℕ) (at : ℕ) → ofPair pair m ≡ [] → Adds pair layer joined m out at at joined out
-adds-none pair layer joined m out at e =
-    (nothing-put (sym (ap (layerText layer joined) e ∙ layer-none layer joined)), sym (ap (joinedAfter layer joined) e ∙ joined-none layer joined))
+pub adds-none : (b : Day) (pair layer : ℕ) (joined : Bool) (m : List Entry) (out : List ℕ) (at : ℕ) → ofPair pair m ≡ [] → Adds b pair layer joined m out at at joined out
+adds-none b pair layer joined m out at e =
+    (nothing-put (sym (ap (layerText b layer joined) e ∙ layer-none b layer joined)), sym (ap (joinedAfter layer joined) e ∙ joined-none layer joined))
 
-pub adds-one : (pair layer : ℕ) (joined : Bool) (e : Entry) (out : List ℕ) (at end : ℕ) (goes : Bool) (after : List ℕ) → pairIn e ≡ pair → Puts (partText layer joined e) 138 out at end after → goes ≡ goesOn layer e → Adds pair layer joined (e ∷ []) out at end goes after
-adds-one pair layer joined e out at end goes after own put q =
+pub adds-one : (b : Day) (pair layer : ℕ) (joined : Bool) (e : Entry) (out : List ℕ) (at end : ℕ) (goes : Bool) (after : List ℕ) → pairIn e ≡ pair → Puts (partText b layer joined e) 104 out at end after → goes ≡ goesOn layer e → Adds b pair layer joined (e ∷ []) out at end goes after
+adds-one b pair layer joined e out at end goes after own put q =
     let is = of-pair pair e own in (
-      at-most (omega (arith, ap length is)) (text-is (sym (ap (layerText layer joined) is ∙ layer-one layer joined e)) put),
+      at-most (omega (arith, ap length is)) (text-is (sym (ap (layerText b layer joined) is ∙ layer-one b layer joined e)) put),
       q ∙ sym (ap (joinedAfter layer joined) is ∙ joined-one layer joined e),
     )

@@ -16,7 +16,9 @@ use Rattle.summary.specs.Worked.{replyIn}
 use Rattle.listing.specs.Text.{ascii}
 use Rattle.layers.specs.declared.parts.Value.{Value}
 use Rattle.forms.specs.Form.{fill, choice}
-use Rattle.forms.specs.Words.{momentText, faultText}
+use Rattle.calendar.specs.declared.counting.Day.{Day}
+use Rattle.forms.specs.Days.{momentText}
+use Rattle.forms.specs.Words.{faultText}
 
 -- What a record has on a line: its level, or its temperature in tenths, 8000 higher so that no sign is needed; or nothing, and the line breaks there.
 abbrev pub nothing : Value
@@ -40,35 +42,37 @@ valueIn layer (Unreadable place) = nothing
 unfoldable pub pointText : Bool → ℕ → Value → List ℕ
 pointText joined minute v = pick (v .there) (fill (choice (pick joined 1 0) (ascii "M~,~h0|L~,~")) (minute ∷ v .y ∷ [])) []
 
--- A mark of an alarm, and of a fault, which says when it was and what; the same in words, in a list.
+-- A mark of an alarm, a minute long so that every printer shows it; that of a fault, which says when it was and what; the same in words, in a list. The
+-- day of minute 0 goes along, for moments.
 abbrev pub alarmShown : ℕ → Reading → Bool
 alarmShown layer r = pick (eqb layer 3) (r .alarm1) (pick (eqb layer 4) (r .alarm0) false)
 
 unfoldable pub alarmMark : ℕ → ℕ → Reading → List ℕ
-alarmMark layer minute r = pick (alarmShown layer r) (fill (ascii "<path d='M~,0h0'/>") (minute ∷ [])) []
+alarmMark layer minute r = pick (alarmShown layer r) (fill (ascii "<path d='M~,0h1'/>") (minute ∷ [])) []
 
-abbrev pub saidAs : ℕ → ℕ → ℕ → ℕ → List ℕ
-saidAs form minute n place =
-    fill (choice form (ascii "<path d='M~,0v1'><title>|<li>")) (minute ∷ []) ++ momentText minute ++ ascii ": " ++ faultText n place
+abbrev pub saidAs : Day → ℕ → ℕ → ℕ → ℕ → List ℕ
+saidAs begin form minute n place =
+    fill (choice form (ascii "<path d='M~,0v1'><title>|<li>")) (minute ∷ []) ++ momentText begin minute ++ ascii ": " ++ faultText n place
     ++ fill (choice form (ascii "</title></path>|</li>")) []
 
-unfoldable pub faultMark : ℕ → ℕ → ℕ → ℕ → List ℕ
-faultMark layer minute n place = pick (eqb layer 2) (saidAs 0 minute n place) (pick (eqb layer 5) (saidAs 1 minute n place) [])
+unfoldable pub faultMark : Day → ℕ → ℕ → ℕ → ℕ → List ℕ
+faultMark begin layer minute n place = pick (eqb layer 2) (saidAs begin 0 minute n place) (pick (eqb layer 5) (saidAs begin 1 minute n place) [])
 
-abbrev pub markText : ℕ → ℕ → Reply → List ℕ
-markText layer minute (Read r) = alarmMark layer minute r
-markText layer minute (Refused n) = faultMark layer minute n 0
-markText layer minute (Unreadable place) = faultMark layer minute 7 place
+abbrev pub markText : Day → ℕ → ℕ → Reply → List ℕ
+markText begin layer minute (Read r) = alarmMark layer minute r
+markText begin layer minute (Refused n) = faultMark begin layer minute n 0
+markText begin layer minute (Unreadable place) = faultMark begin layer minute 7 place
 
 -- What a record adds, and whether a line goes on after it.
-unfoldable pub partText : ℕ → Bool → Entry → List ℕ
-partText layer joined e = pick (ltb layer 2) (pointText joined (e .minute) (valueIn layer (replyIn e))) (markText layer (e .minute) (replyIn e))
+unfoldable pub partText : Day → ℕ → Bool → Entry → List ℕ
+partText begin layer joined e =
+    pick (ltb layer 2) (pointText joined (e .minute) (valueIn layer (replyIn e))) (markText begin layer (e .minute) (replyIn e))
 
 unfoldable pub goesOn : ℕ → Entry → Bool
 goesOn layer e = pick (ltb layer 2) (valueIn layer (replyIn e) .there) false
 
 -- A layer of some records, in their order.
-unfoldable pub layerText : ℕ → Bool → List Entry → List ℕ
+unfoldable pub layerText : Day → ℕ → Bool → List Entry → List ℕ
 unfolding partText goesOn
-layerText layer joined [] = []
-layerText layer joined (e ∷ l) = partText layer joined e ++ layerText layer (goesOn layer e) l
+layerText begin layer joined [] = []
+layerText begin layer joined (e ∷ l) = partText begin layer joined e ++ layerText begin layer (goesOn layer e) l

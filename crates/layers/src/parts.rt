@@ -1,8 +1,9 @@
 // What one record adds to a layer of its pair's picture.
+use calendar::Day;
+use forms::days::put_moment;
 use forms::form::put_choice;
 use forms::form::put_form;
 use forms::words::put_fault;
-use forms::words::put_moment;
 use frame::Reading;
 use frame::Reply;
 use frame::Temperature;
@@ -113,42 +114,58 @@ fn put_alarm(out: &mut [u8], at: usize, layer: u8, minute: u32, r: Reading) -> u
     if !alarm_shown(layer, r) {
         return at;
     }
-    put_form(out, at, b"<path d='M~,0h0'/>", &[minute])
+    put_form(out, at, b"<path d='M~,0h1'/>", &[minute])
 }
 
-fn put_said(out: &mut [u8], at: usize, form: usize, minute: u32, n: u8, place: u8) -> usize
-    requires { ⌜ at + 138 ≤ length (now out) ⌝ }
-    ensures { λ r. ⌜ Puts (saidAs form minute n place) 138 (now (out .entry)) at r (now (out .exit)) ⌝ }
+fn put_said(
+    out: &mut [u8],
+    at: usize,
+    form: usize,
+    minute: u32,
+    n: u8,
+    place: u8,
+    begin: Day,
+) -> usize
+    requires { ⌜ at + 104 ≤ length (now out) ⌝ }
+    ensures { λ r. ⌜ Puts (saidAs begin form minute n place) 104 (now (out .entry)) at r (now (out .exit)) ⌝ }
 {
     let none: [u32; 0] = [];
     let begun = put_choice(out, at, b"<path d='M~,0v1'><title>|<li>", form, &[minute]);
-    let when = put_moment(out, begun, minute);
+    let when = put_moment(out, begun, begin, minute);
     let gap = put_word(out, when, b": ");
     let what = put_fault(out, gap, n, place);
     put_choice(out, what, b"</title></path>|</li>", form, &none)
 }
 
-fn put_faulty(out: &mut [u8], at: usize, layer: u8, minute: u32, n: u8, place: u8) -> usize
-    requires { ⌜ at + 138 ≤ length (now out) ⌝ }
-    ensures { λ r. ⌜ Puts (faultMark layer minute n place) 138 (now (out .entry)) at r (now (out .exit)) ⌝ }
+fn put_faulty(
+    out: &mut [u8],
+    at: usize,
+    layer: u8,
+    minute: u32,
+    n: u8,
+    place: u8,
+    begin: Day,
+) -> usize
+    requires { ⌜ at + 104 ≤ length (now out) ⌝ }
+    ensures { λ r. ⌜ Puts (faultMark begin layer minute n place) 104 (now (out .entry)) at r (now (out .exit)) ⌝ }
 {
     if layer == 2 {
-        return put_said(out, at, 0, minute, n, place);
+        return put_said(out, at, 0, minute, n, place, begin);
     }
     if layer == 5 {
-        return put_said(out, at, 1, minute, n, place);
+        return put_said(out, at, 1, minute, n, place, begin);
     }
     at
 }
 
-fn put_mark(out: &mut [u8], at: usize, layer: u8, minute: u32, reply: Reply) -> usize
-    requires { ⌜ at + 138 ≤ length (now out) ⌝ }
-    ensures { λ r. ⌜ Puts (markText layer minute reply) 138 (now (out .entry)) at r (now (out .exit)) ⌝ }
+fn put_mark(out: &mut [u8], at: usize, layer: u8, minute: u32, reply: Reply, begin: Day) -> usize
+    requires { ⌜ at + 104 ≤ length (now out) ⌝ }
+    ensures { λ r. ⌜ Puts (markText begin layer minute reply) 104 (now (out .entry)) at r (now (out .exit)) ⌝ }
 {
     match reply {
         Reply::Read(r) => put_alarm(out, at, layer, minute, r),
-        Reply::Refused(n) => put_faulty(out, at, layer, minute, n, 0),
-        Reply::Unreadable(place) => put_faulty(out, at, layer, minute, 7, place),
+        Reply::Refused(n) => put_faulty(out, at, layer, minute, n, 0, begin),
+        Reply::Unreadable(place) => put_faulty(out, at, layer, minute, 7, place, begin),
     }
 }
 
@@ -159,9 +176,10 @@ pub(crate) fn put_part(
     joined: bool,
     minute: u32,
     reply: Reply,
+    begin: Day,
 ) -> Part
-    requires { ⌜ at + 138 ≤ length (now out) ⌝ }
-    ensures { λ r. ⌜ Puts (pick (ltb layer 2) (pointText joined minute (valueIn layer reply)) (markText layer minute reply)) 138
+    requires { ⌜ at + 104 ≤ length (now out) ⌝ }
+    ensures { λ r. ⌜ Puts (pick (ltb layer 2) (pointText joined minute (valueIn layer reply)) (markText begin layer minute reply)) 104
         (now (out .entry)) at (r .end) (now (out .exit)) ⌝ }
     ensures { λ r. ⌜ r .joined ≡ pick (ltb layer 2) (valueIn layer reply .there) false ⌝ }
 {
@@ -171,6 +189,6 @@ pub(crate) fn put_part(
         let end = put_point(out, at, joined, minute, v);
         return Part { end, joined: there };
     }
-    let end = put_mark(out, at, layer, minute, reply);
+    let end = put_mark(out, at, layer, minute, reply, begin);
     Part { end, joined: false }
 }

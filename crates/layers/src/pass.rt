@@ -1,6 +1,7 @@
 // A layer of a pair's picture: one pass over the sheet, in which the records of the pair each add their part.
 use crate::parts::Part;
 use crate::parts::put_part;
+use calendar::Day;
 use sheet::Found;
 use sheet::Head;
 use sheet::look;
@@ -33,17 +34,18 @@ fn put_record(
     joined: bool,
     head: Head,
     reply: [u8; 8],
+    begin: Day,
 ) -> Part
-    requires { ⌜ at + 138 ≤ length (now out) ⌝ }
+    requires { ⌜ at + 104 ≤ length (now out) ⌝ }
     requires { ⌜ head .count ≤ 64 ⌝ }
-    ensures { λ r. ⌜ Puts (partText layer joined (entryWith head (take (bytesFor (head .count)) reply))) 138
+    ensures { λ r. ⌜ Puts (partText begin layer joined (entryWith head (take (bytesFor (head .count)) reply))) 104
         (now (out .entry)) at (r .end) (now (out .exit)) ⌝ }
     ensures { λ r. ⌜ r .joined ≡ goesOn layer (entryWith head (take (bytesFor (head .count)) reply)) ⌝ }
 {
     let size = (head.count + 7) / 8;
     let minute = head.minute;
     let read = frame::read_reply(head.settings, head.address, head.count, &reply[..size]);
-    put_part(out, at, layer, joined, minute, read)
+    put_part(out, at, layer, joined, minute, read, begin)
 }
 
 // What a record adds to the layer of a pair: nothing where it is of another.
@@ -55,15 +57,16 @@ fn put_own(
     pair: u32,
     head: Head,
     reply: [u8; 8],
+    begin: Day,
 ) -> Part
     requires { ⌜ head .count ≤ 64 ⌝ }
-    requires { ⌜ at + 138 * length (ofPair pair (entryWith head (take (bytesFor (head .count)) reply) ∷ [])) ≤ length (now out) ⌝ }
-    ensures { λ r. ⌜ Puts (layerText layer joined (ofPair pair (entryWith head (take (bytesFor (head .count)) reply) ∷ [])))
-        (138 * length (ofPair pair (entryWith head (take (bytesFor (head .count)) reply) ∷ []))) (now (out .entry)) at (r .end) (now (out .exit)) ⌝ }
+    requires { ⌜ at + 104 * length (ofPair pair (entryWith head (take (bytesFor (head .count)) reply) ∷ [])) ≤ length (now out) ⌝ }
+    ensures { λ r. ⌜ Puts (layerText begin layer joined (ofPair pair (entryWith head (take (bytesFor (head .count)) reply) ∷ [])))
+        (104 * length (ofPair pair (entryWith head (take (bytesFor (head .count)) reply) ∷ []))) (now (out .entry)) at (r .end) (now (out .exit)) ⌝ }
     ensures { λ r. ⌜ r .joined ≡ joinedAfter layer joined (ofPair pair (entryWith head (take (bytesFor (head .count)) reply) ∷ [])) ⌝ }
 {
     if pair_of(head) == pair {
-        return put_record(out, at, layer, joined, head, reply);
+        return put_record(out, at, layer, joined, head, reply, begin);
     }
     Part { end: at, joined }
 }
@@ -77,19 +80,20 @@ fn put_slot(
     pair: u32,
     layer: u8,
     joined: bool,
+    begin: Day,
 ) -> Part
     requires { ⌜ sizeAllowed (now sheet) ≡ true ⌝ }
     requires { ⌜ slot < slots (now sheet) ⌝ }
-    requires { ⌜ at + 138 * length (ofPair pair (recordIn (slotOf (slotAt (now sheet) slot)))) ≤ length (now out) ⌝ }
-    ensures { λ r. ⌜ Puts (layerText layer joined (ofPair pair (recordIn (slotOf (slotAt (now (sheet .entry)) slot)))))
-        (138 * length (ofPair pair (recordIn (slotOf (slotAt (now (sheet .entry)) slot))))) (now (out .entry)) at (r .end) (now (out .exit)) ⌝ }
+    requires { ⌜ at + 104 * length (ofPair pair (recordIn (slotOf (slotAt (now sheet) slot)))) ≤ length (now out) ⌝ }
+    ensures { λ r. ⌜ Puts (layerText begin layer joined (ofPair pair (recordIn (slotOf (slotAt (now (sheet .entry)) slot)))))
+        (104 * length (ofPair pair (recordIn (slotOf (slotAt (now (sheet .entry)) slot))))) (now (out .entry)) at (r .end) (now (out .exit)) ⌝ }
     ensures { λ r. ⌜ r .joined ≡ joinedAfter layer joined (ofPair pair (recordIn (slotOf (slotAt (now (sheet .entry)) slot)))) ⌝ }
 {
     let looked = look(sheet, slot);
     let found = looked.found;
     let reply = looked.reply;
     match found {
-        Found::Record(head) => put_own(out, at, layer, joined, pair, head, reply),
+        Found::Record(head) => put_own(out, at, layer, joined, pair, head, reply, begin),
         Found::Blank => Part { end: at, joined },
         Found::Spoiled => Part { end: at, joined },
         Found::Foreign => Part { end: at, joined },
@@ -105,18 +109,19 @@ pub fn put_layer(
     many: usize,
     pair: u32,
     layer: u8,
+    begin: Day,
 ) -> usize
     requires { ⌜ sizeAllowed (now sheet) ≡ true ⌝ }
     requires { ⌜ many ≡ slots (now sheet) ⌝ }
-    requires { ⌜ at + 138 * length (ofPair pair (listOf (now sheet))) ≤ length (now out) ⌝ }
-    ensures { λ r. ⌜ Puts (layerText layer false (ofPair pair (listOf (now (sheet .entry)))))
-        (138 * length (ofPair pair (listOf (now (sheet .entry))))) (now (out .entry)) at r (now (out .exit)) ⌝ }
+    requires { ⌜ at + 104 * length (ofPair pair (listOf (now sheet))) ≤ length (now out) ⌝ }
+    ensures { λ r. ⌜ Puts (layerText begin layer false (ofPair pair (listOf (now (sheet .entry)))))
+        (104 * length (ofPair pair (listOf (now (sheet .entry))))) (now (out .entry)) at r (now (out .exit)) ⌝ }
 {
     let mut end = at;
     let mut joined = false;
     let mut k = 0;
     while k < many {
-        let part = put_slot(out, end, sheet, k, pair, layer, joined);
+        let part = put_slot(out, end, sheet, k, pair, layer, joined, begin);
         end = part.end;
         joined = part.joined;
         k += 1;

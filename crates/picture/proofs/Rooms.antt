@@ -62,14 +62,14 @@ counted-few [] ks r = omega (arith, counted-none ks)
 counted-few (e ∷ l) ks r = omega (arith, counted-more e l ks, one-hit (pairIn e) ks r, counted-few l ks r)
 
 -- the room of the lines of some pairs
-room-is : (l : List Entry) (ks : List ℕ) → roomOf l (map (lineFor l) ks) ≡ 4600 * length ks + 828 * counted l ks
+room-is : (l : List Entry) (ks : List ℕ) → roomOf l (map (lineFor l) ks) ≡ 4600 * length ks + 624 * counted l ks
 unfolding roomOf counted
 room-is l [] = refl
 room-is l (k ∷ ks) =
     let own : length (ofPair (pairOf (lineFor l k)) l) ≡ length (ofPair k l) = ap (λ (j : ℕ). length (ofPair j l)) (pair-line l k) in
     omega (arith, room-is l ks)
 
-pub room-few : (l : List Entry) (ks : List ℕ) → Rises itself ks → length ks ≤ 30 → roomOf l (map (lineFor l) ks) ≤ 138000 + 828 * length l
+pub room-few : (l : List Entry) (ks : List ℕ) → Rises itself ks → length ks ≤ 30 → roomOf l (map (lineFor l) ks) ≤ 138000 + 624 * length l
 room-few l ks r few = omega (arith, room-is l ks, counted-few l ks r)
 
 -- the records of a pair that was told, and those of its line

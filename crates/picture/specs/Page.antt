@@ -14,7 +14,10 @@ use Rattle.summary.specs.Line.{noLevel, pairOf}
 use Rattle.summary.specs.Worked.{ofPair, lineFor, keptPairs, inOrder, outside}
 use Rattle.listing.specs.Text.{ascii}
 use Rattle.forms.specs.Form.{fill, choice}
-use Rattle.forms.specs.Words.{momentText, levelText, degreesText, modeText, typeText, faultText}
+use Rattle.calendar.specs.declared.counting.Day.{Day}
+use Rattle.calendar.specs.Days.{daysFrom}
+use Rattle.forms.specs.Days.{yearText, monthDayText, momentText}
+use Rattle.forms.specs.Words.{levelText, degreesText, modeText, typeText, faultText}
 use Rattle.layers.specs.declared.gauge.Gauged.{Gauged}
 use Rattle.layers.specs.Drawing.{layerText}
 use Rattle.layers.specs.Gauged.{gaugedOf}
@@ -43,10 +46,10 @@ scalesText =
 
 abbrev pub shapesText : List ℕ
 shapesText =
-    ascii ".l0{height:9em;stroke:#04a;stroke-width:2;stroke-linecap:round}.l1{height:4.5em;stroke:#333;stroke-width:1.5;stroke-dasharray:4 3}\n"
+    ascii ".l0{height:9em;stroke:#04a;stroke-width:2;stroke-linecap:round}.l1{height:4.5em;stroke:#333;stroke-width:2;stroke-dasharray:3 5;stroke-linecap:round}\n"
     ++ ascii ".l2{height:1em;stroke:#b00;stroke-width:3}.l3{height:1em;stroke:#000;stroke-width:8;stroke-linecap:round}.l4{height:1em;stroke:#000;stroke-width:7;stroke-linecap:square}\n"
     ++ ascii "table{border-collapse:collapse;margin-top:.4em;font-size:.9em}th{text-align:left;vertical-align:top;font-weight:normal;color:#444;padding-right:1em}\n"
-    ++ ascii "details{font-size:.85em}@media print{main{display:block}section{margin-bottom:1em}.row svg{max-width:36em}.axis{max-width:48em}}</style></head>\n"
+    ++ ascii "details{font-size:.85em}@media print{body{font-size:10px;max-width:none;margin:0;padding:0}main{display:block;columns:2;column-gap:1em}section{margin:0 0 1em}}</style></head>\n"
 
 abbrev pub styleText : List ℕ → List ℕ
 styleText name = openingText name ++ rulesText ++ scalesText ++ shapesText
@@ -57,28 +60,29 @@ legendText =
     ascii "<p class='key'><svg class='l0' viewBox='0 0 4 2' role='img'><title>level</title><desc>a line</desc><path d='M0,1h4'/></svg> level, broken where a faulty reply lies between; \n"
     ++ ascii "<svg class='l1' viewBox='0 0 4 2' role='img'><title>temperature</title><desc>a dashed line</desc><path d='M0,1h4'/></svg> temperature; \n"
     ++ ascii "<svg class='l2' viewBox='0 0 4 2' role='img'><title>faulty reply</title><desc>a bar</desc><path d='M2,0v2'/></svg> faulty reply; \n"
-    ++ ascii "<svg class='l3' viewBox='0 0 4 2' role='img'><title>alarm 1</title><desc>a round dot</desc><path d='M2,1h0'/></svg> alarm 1; \n"
-    ++ ascii "<svg class='l4' viewBox='0 0 4 2' role='img'><title>alarm 0</title><desc>a square dot</desc><path d='M2,1h0'/></svg> alarm 0</p>\n"
+    ++ ascii "<svg class='l3' viewBox='0 0 4 2' role='img'><title>alarm 1</title><desc>a round dot</desc><path d='M2,1h.1'/></svg> alarm 1; \n"
+    ++ ascii "<svg class='l4' viewBox='0 0 4 2' role='img'><title>alarm 0</title><desc>a square dot</desc><path d='M2,1h.1'/></svg> alarm 0</p>\n"
 
 -- From when to when, in words.
-unfoldable pub whenText : Tally → List ℕ
-whenText t = pick (eqb (t .records) 0) (ascii "no record") (momentText (t .first) ++ ascii " to " ++ momentText (t .last))
+unfoldable pub whenText : Day → Tally → List ℕ
+whenText begin t =
+    pick (eqb (t .records) 0) (ascii "no record") (momentText begin (t .first) ++ ascii " to " ++ momentText begin (t .last))
 
 -- Records of pairs that are on no line of the summary.
 unfoldable pub othersText : ℕ → List ℕ
 othersText n =
     pick (eqb n 0) [] (fill (ascii "<p>~ records are of further addresses and settings: the first 30 have a picture, and these have none.</p>\n") (n ∷ []))
 
--- The beginning of what is shown: the card's name, what its slots hold, when that was, and a note of the caller's.
-unfoldable pub countsText : List ℕ → Tally → List ℕ
-countsText name t =
+-- The beginning of what is shown: the card's name, what its slots hold, and when that was.
+unfoldable pub countsText : List ℕ → Day → Tally → List ℕ
+countsText name begin t =
     ascii "<body><h1>" ++ name
     ++ fill (ascii "</h1><p>~ slots: ~ records, ~ spoiled, ~ foreign</p>\n<p>") (t .slots ∷ t .records ∷ t .spoiled ∷ t .foreign ∷ [])
-    ++ whenText t
+    ++ whenText begin t
 
-unfoldable pub topText : List ℕ → List ℕ → Tally → ℕ → Axis → List ℕ
-topText name note t others x =
-    countsText name t ++ note ++ ascii "</p>\n" ++ othersText others ++ legendText ++ fill (ascii "<main style='--s:~;--d:~'>\n") (x .step ∷ x .days ∷ [])
+unfoldable pub topText : List ℕ → Tally → ℕ → Axis → List ℕ
+topText name t others x =
+    countsText name (x .begin) t ++ ascii "</p>\n" ++ othersText others ++ legendText ++ fill (ascii "<main style='--s:~;--d:~'>\n") (x .step ∷ x .days ∷ [])
 
 -- A number of a layer's scale in people's form, and what the layer is called.
 unfoldable pub valueText : ℕ → ℕ → ℕ → List ℕ
@@ -101,9 +105,9 @@ beginText layer address from top span height =
     (choice layer (ascii "level</title><desc>a point for each good reply, at its minute and level, joined where no faulty reply lies between</desc><g transform='scale(1,-1)'><path d='|temperature</title><desc>a point for each good reply that has a temperature, joined where no other reply lies between</desc><g transform='scale(1,-1)'><path d='|faulty replies</title><desc>a bar for each, at its minute</desc><g>|alarm 1</title><desc>a round dot for each good reply that has it</desc><g>|alarm 0</title><desc>a square dot for each good reply that has it</desc><g>"))
     []
 
-unfoldable pub frameText : List Entry → ℕ → ℕ → ℕ → ℕ → ℕ → ℕ → ℕ → List ℕ
-frameText l pair layer address from top span height =
-    beginText layer address from top span height ++ layerText layer false (ofPair pair l)
+unfoldable pub frameText : Day → List Entry → ℕ → ℕ → ℕ → ℕ → ℕ → ℕ → ℕ → List ℕ
+frameText begin l pair layer address from top span height =
+    beginText layer address from top span height ++ layerText begin layer false (ofPair pair l)
     ++ fill (choice layer (ascii "'/></g></svg></div>\n|'/></g></svg></div>\n|</g></svg></div>\n|</g></svg></div>\n|</g></svg></div>\n")) []
 
 -- The rows of a section, each a scale and a frame. That of the levels goes from one step below the lowest to one above the highest, that of the
@@ -114,7 +118,7 @@ levelRow l a x =
     (eqb (x .good) 0)
     (ascii "<p>No reply was good, so no level is drawn.</p>\n")
     (
-    scaleText 0 (x .settings) (x .highest) (x .lowest) ++ frameText l (pairOf x) 0 (x .address) (a .from) (x .highest + 1) (a .span) (x .highest - x .lowest + 2)
+    scaleText 0 (x .settings) (x .highest) (x .lowest) ++ frameText (a .begin) l (pairOf x) 0 (x .address) (a .from) (x .highest + 1) (a .span) (x .highest - x .lowest + 2)
     )
 
 unfoldable pub heatRow : List Entry → Axis → Line → Gauged → List ℕ
@@ -123,19 +127,28 @@ heatRow l a x g =
     (ltb (g .warm) (g .cold))
     []
     (
-    scaleText 1 (x .settings) (g .warm) (g .cold) ++ frameText l (pairOf x) 1 (x .address) (a .from) (g .warm + 10) (a .span) (g .warm - g .cold + 20)
+    scaleText 1 (x .settings) (g .warm) (g .cold) ++ frameText (a .begin) l (pairOf x) 1 (x .address) (a .from) (g .warm + 10) (a .span) (g .warm - g .cold + 20)
     )
 
 unfoldable pub markRow : List Entry → Axis → Line → ℕ → List ℕ
-markRow l a x layer = scaleText layer 0 0 0 ++ frameText l (pairOf x) layer (x .address) (a .from) 0 (a .span) 1
+markRow l a x layer = scaleText layer 0 0 0 ++ frameText (a .begin) l (pairOf x) layer (x .address) (a .from) 0 (a .span) 1
 
--- The days under them.
-abbrev pub tickText : Axis → ℕ → List ℕ
-tickText a i = pick (ltb i (a .shown)) (fill (ascii "<span>~</span>") (getD (a .ticks) i 0 ∷ [])) []
+-- The days under them: dates where the day of minute 0 is known, which may be broken behind the year where there is little room.
+abbrev pub dateOnAxis : Day → List ℕ
+dateOnAxis d = yearText (d .year) ++ ascii "-<wbr/>" ++ monthDayText d
+
+unfoldable pub dayOnAxis : Day → ℕ → List ℕ
+dayOnAxis begin n = pick (eqb (begin .day) 0) (fill (ascii "~") (n ∷ [])) (dateOnAxis (daysFrom begin n))
+
+unfoldable pub tickText : Day → ℕ → ℕ → ℕ → List ℕ
+tickText begin i shown day = pick (ltb i shown) (ascii "<span>" ++ dayOnAxis begin day ++ ascii "</span>") []
+
+abbrev pub tickOf : Axis → ℕ → List ℕ
+tickOf a i = tickText (a .begin) i (a .shown) (getD (a .ticks) i 0)
 
 unfoldable pub daysText : Axis → List ℕ
 daysText a =
-    ascii "<div class='row'><div class='y'><b>day</b></div><div class='axis'>" ++ tickText a 0 ++ tickText a 1 ++ tickText a 2 ++ tickText a 3 ++ tickText a 4
+    ascii "<div class='row'><div class='y'><b>day</b></div><div class='axis'>" ++ tickOf a 0 ++ tickOf a 1 ++ tickOf a 2 ++ tickOf a 3 ++ tickOf a 4
     ++ ascii "</div></div>\n"
 
 unfoldable pub rowsText : List Entry → Axis → Line → Gauged → List ℕ
@@ -152,8 +165,9 @@ headingText x =
 unfoldable pub boundText : ℕ → ℕ → List ℕ
 boundText settings n = pick (eqb n noLevel) (ascii "none") (levelText settings n)
 
-unfoldable pub lastText : ℕ → Gauged → List ℕ
-lastText settings g = pick (eqb (g .last) noLevel) (ascii "none") (levelText settings (g .last) ++ ascii ", " ++ momentText (g .when))
+unfoldable pub lastText : Day → ℕ → Gauged → List ℕ
+lastText begin settings g =
+    pick (eqb (g .last) noLevel) (ascii "none") (levelText settings (g .last) ++ ascii ", " ++ momentText begin (g .when))
 
 unfoldable pub heatText : Gauged → List ℕ
 heatText g = pick (ltb (g .warm) (g .cold)) (ascii "none") (degreesText (g .cold) ++ ascii " to " ++ degreesText (g .warm))
@@ -168,16 +182,16 @@ unfoldable pub kindsText : List ℕ → ℕ → ℕ → List ℕ
 kindsText counts k zero = []
 kindsText counts k (suc n) = kindText (getD counts k 0) k ++ kindsText counts (suc k) n
 
-unfoldable pub levelsText : Line → Gauged → List ℕ
-levelsText x g =
+unfoldable pub levelsText : Day → Line → Gauged → List ℕ
+levelsText begin x g =
     ascii "<table><tr><th>lowest</th><td>" ++ boundText (x .settings) (x .lowest) ++ ascii "</td></tr><tr><th>highest</th><td>"
     ++ boundText (x .settings) (x .highest)
     ++ ascii "</td></tr><tr><th>last</th><td>"
-    ++ lastText (x .settings) g
+    ++ lastText begin (x .settings) g
 
-unfoldable pub figuresText : Line → Gauged → List ℕ
-figuresText x g =
-    levelsText x g ++ ascii "</td></tr><tr><th>temperature</th><td>" ++ heatText g ++ offText 0 (getD (g .counts) 16 0) ++ offText 1 (getD (g .counts) 17 0)
+unfoldable pub figuresText : Day → Line → Gauged → List ℕ
+figuresText begin x g =
+    levelsText begin x g ++ ascii "</td></tr><tr><th>temperature</th><td>" ++ heatText g ++ offText 0 (getD (g .counts) 16 0) ++ offText 1 (getD (g .counts) 17 0)
     ++ fill (ascii "</td></tr><tr><th>replies</th><td>~ good, ~ faulty") (x .good ∷ x .faulty ∷ [])
     ++ kindsText (g .counts) 1 15
     ++ ascii "</td></tr></table>"
@@ -185,9 +199,9 @@ figuresText x g =
 -- The section of a pair: heading, rows, figures, and its faulty replies one by one in words.
 unfoldable pub sectionText : List Entry → Axis → Line → List ℕ
 sectionText l a x =
-    headingText x ++ rowsText l a x (gaugedOf (ofPair (pairOf x) l)) ++ figuresText x (gaugedOf (ofPair (pairOf x) l))
+    headingText x ++ rowsText l a x (gaugedOf (ofPair (pairOf x) l)) ++ figuresText (a .begin) x (gaugedOf (ofPair (pairOf x) l))
     ++ ascii "<details><summary>faulty replies one by one</summary><ul>"
-    ++ layerText 5 false (ofPair (pairOf x) l)
+    ++ layerText (a .begin) 5 false (ofPair (pairOf x) l)
     ++ ascii "</ul></details></section>\n"
 
 unfoldable pub sectionsText : List Entry → Axis → List Line → List ℕ
@@ -198,9 +212,9 @@ sectionsText l a (x ∷ xs) = sectionText l a x ++ sectionsText l a xs
 abbrev pub linesFor : List Entry → List Line
 linesFor l = map (lineFor l) (inOrder (keptPairs l))
 
-unfoldable pub pageOf : List ℕ → List ℕ → List ℕ → List ℕ
-pageOf s name note =
+unfoldable pub pageOf : List ℕ → List ℕ → Day → List ℕ
+pageOf s name begin =
     let l = listOf s in
     let t = tallyOf s in
-    let a = axisOf (t .first) (t .last) in
-    styleText name ++ topText name note t (outside (keptPairs l) l) a ++ sectionsText l a (linesFor l) ++ ascii "</main></body></html>\n"
+    let a = axisOf begin (t .first) (t .last) in
+    styleText name ++ topText name t (outside (keptPairs l) l) a ++ sectionsText l a (linesFor l) ++ ascii "</main></body></html>\n"

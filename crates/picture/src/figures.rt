@@ -1,10 +1,11 @@
 // The figures of a pair in a table: levels, temperatures, and how many replies were of each kind.
+use calendar::Day;
+use forms::days::put_moment;
 use forms::form::put_choice;
 use forms::form::put_form;
 use forms::words::put_degrees;
 use forms::words::put_fault;
 use forms::words::put_level;
-use forms::words::put_moment;
 use layers::gauge::Gauged;
 use listing::text::put_word;
 use summary::Line;
@@ -26,16 +27,16 @@ fn put_bound(out: &mut [u8], at: usize, settings: u16, n: u16) -> usize
     put_level(out, at, settings, n)
 }
 
-fn put_last(out: &mut [u8], at: usize, settings: u16, g: Gauged) -> usize
-    requires { ⌜ at + 102 ≤ length (now out) ⌝ }
-    ensures { λ r. ⌜ Puts (lastText settings g) 102 (now (out .entry)) at r (now (out .exit)) ⌝ }
+fn put_last(out: &mut [u8], at: usize, settings: u16, g: Gauged, begin: Day) -> usize
+    requires { ⌜ at + 68 ≤ length (now out) ⌝ }
+    ensures { λ r. ⌜ Puts (lastText begin settings g) 68 (now (out .entry)) at r (now (out .exit)) ⌝ }
 {
     if g.last == 0xffff {
         return put_word(out, at, b"none");
     }
     let level = put_level(out, at, settings, g.last);
     let gap = put_word(out, level, b", ");
-    put_moment(out, gap, g.when)
+    put_moment(out, gap, begin, g.when)
 }
 
 fn put_heat(out: &mut [u8], at: usize, g: Gauged) -> usize
@@ -107,25 +108,25 @@ fn put_kinds(out: &mut [u8], at: usize, counts: [u32; 19]) -> usize
     end
 }
 
-fn put_levels(out: &mut [u8], at: usize, x: Line, g: Gauged) -> usize
+fn put_levels(out: &mut [u8], at: usize, x: Line, g: Gauged, begin: Day) -> usize
     requires { ⌜ at + 290 ≤ length (now out) ⌝ }
-    ensures { λ r. ⌜ Puts (levelsText x g) 290 (now (out .entry)) at r (now (out .exit)) ⌝ }
+    ensures { λ r. ⌜ Puts (levelsText begin x g) 290 (now (out .entry)) at r (now (out .exit)) ⌝ }
 {
     let low = put_word(out, at, b"<table><tr><th>lowest</th><td>");
     let lowest = put_bound(out, low, x.settings, x.lowest);
     let high = put_word(out, lowest, b"</td></tr><tr><th>highest</th><td>");
     let highest = put_bound(out, high, x.settings, x.highest);
     let late = put_word(out, highest, b"</td></tr><tr><th>last</th><td>");
-    put_last(out, late, x.settings, g)
+    put_last(out, late, x.settings, g, begin)
 }
 
-pub(crate) fn put_figures(out: &mut [u8], at: usize, x: Line, g: Gauged) -> usize
+pub(crate) fn put_figures(out: &mut [u8], at: usize, x: Line, g: Gauged, begin: Day) -> usize
     requires { ⌜ at + 1230 ≤ length (now out) ⌝ }
-    ensures { λ r. ⌜ Puts (figuresText x g) 1230 (now (out .entry)) at r (now (out .exit)) ⌝ }
+    ensures { λ r. ⌜ Puts (figuresText begin x g) 1230 (now (out .entry)) at r (now (out .exit)) ⌝ }
 {
     let counts = g.counts;
     let replies = [x.good, x.faulty];
-    let levels = put_levels(out, at, x, g);
+    let levels = put_levels(out, at, x, g, begin);
     let next = put_word(out, levels, b"</td></tr><tr><th>temperature</th><td>");
     let heat = put_heat(out, next, g);
     let above = put_off(out, heat, 0, counts[16]);

@@ -5,6 +5,7 @@ mod section;
 mod top;
 mod whole;
 
+use calendar::Day;
 use frame::Written;
 use sheet::view::Counted;
 use sheet::view::count_slots;
@@ -14,13 +15,13 @@ ghost use Prim.Native.Nat.{_+_, _*_, _≤_};
 ghost use lib.Dec.{ltb};
 ghost use Rattle.picture.specs.Calls.{WritesPicture};
 
-// Whether an output is too short for every page of so many slots, with a name and a note of these lengths: taken off it one after another, since no sum of
-// lengths need fit a number.
-fn is_short(have: usize, slots: usize, name: usize, note: usize) -> bool
+// Whether an output is too short for every page of so many slots, with a name of this length: taken off it one after another, since no sum of lengths need
+// fit a number.
+fn is_short(have: usize, slots: usize, name: usize) -> bool
     requires { ⌜ slots ≤ 2048 ⌝ }
-    ensures { λ r. ⌜ r ≡ ltb have (828 * slots + 145000 + 2 * name + note) ⌝ }
+    ensures { λ r. ⌜ r ≡ ltb have (624 * slots + 145000 + 2 * name) ⌝ }
 {
-    let fixed = 828 * slots + 145_000;
+    let fixed = 624 * slots + 145_000;
     if have < fixed {
         return true;
     }
@@ -30,24 +31,21 @@ fn is_short(have: usize, slots: usize, name: usize, note: usize) -> bool
     if have - fixed - name < name {
         return true;
     }
-    if have - fixed - name - name < note {
-        return true;
-    }
     false
 }
 
-// The page of a sheet, with the card's name and a note after the time of its records, both in the page's own writing. Refuses by 12 and 15: an output of 828
-// bytes for each slot, 145,000 more, twice the name and the note is long enough for every sheet.
-pub fn picture(sheet: &[u8], name: &[u8], note: &[u8], out: &mut [u8]) -> Written
-    ensures { λ r. ⌜ WritesPicture (now (sheet .entry)) (now (name .entry)) (now (note .entry)) (now (out .entry)) r (now (out .exit)) ⌝ }
+// The page of a sheet, with the card's name in the page's own writing, and dates where the day of minute 0 is given. Refuses by 12 and 15: an output of 624
+// bytes for each slot, 145,000 more and twice the name is long enough for every sheet.
+pub fn picture(sheet: &[u8], name: &[u8], begin: Day, out: &mut [u8]) -> Written
+    ensures { λ r. ⌜ WritesPicture (now (sheet .entry)) (now (name .entry)) begin (now (out .entry)) r (now (out .exit)) ⌝ }
 {
     let counted = count_slots(sheet);
     match counted {
         Counted::Slots(slots) => {
-            if is_short(out.len(), slots, name.len(), note.len()) {
+            if is_short(out.len(), slots, name.len()) {
                 return Written::Refused(15);
             }
-            Written::Bytes(put_page(out, sheet, slots, name, note))
+            Written::Bytes(put_page(out, sheet, slots, name, begin))
         }
         Counted::Refused(n) => Written::Refused(n),
     }

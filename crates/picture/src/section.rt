@@ -2,6 +2,7 @@
 use crate::axis::Axis;
 use crate::axis::put_days;
 use crate::figures::put_figures;
+use calendar::Day;
 use forms::form::put_choice;
 use forms::form::put_form;
 use forms::words::put_degrees;
@@ -110,16 +111,17 @@ fn put_frame(
     top: u32,
     span: u32,
     height: u32,
+    begin: Day,
 ) -> usize
     requires { ⌜ sizeAllowed (now sheet) ≡ true ⌝ }
     requires { ⌜ many ≡ slots (now sheet) ⌝ }
-    requires { ⌜ at + 345 + 138 * length (ofPair pair (listOf (now sheet))) ≤ length (now out) ⌝ }
-    ensures { λ r. ⌜ Puts (frameText (listOf (now (sheet .entry))) pair layer address from top span height)
-        (345 + 138 * length (ofPair pair (listOf (now (sheet .entry))))) (now (out .entry)) at r (now (out .exit)) ⌝ }
+    requires { ⌜ at + 345 + 104 * length (ofPair pair (listOf (now sheet))) ≤ length (now out) ⌝ }
+    ensures { λ r. ⌜ Puts (frameText begin (listOf (now (sheet .entry))) pair layer address from top span height)
+        (345 + 104 * length (ofPair pair (listOf (now (sheet .entry))))) (now (out .entry)) at r (now (out .exit)) ⌝ }
 {
     let none: [u32; 0] = [];
     let begun = put_begin(out, at, layer, address, from, top, span, height);
-    let drawn = put_layer(out, begun, sheet, many, pair, layer);
+    let drawn = put_layer(out, begun, sheet, many, pair, layer, begin);
     put_choice(
         out,
         drawn,
@@ -144,9 +146,9 @@ fn height(low: u16, high: u16, more: u32) -> u32
 fn put_level_row(out: &mut [u8], at: usize, sheet: &[u8], many: usize, a: Axis, x: Line) -> usize
     requires { ⌜ sizeAllowed (now sheet) ≡ true ⌝ }
     requires { ⌜ many ≡ slots (now sheet) ⌝ }
-    requires { ⌜ at + 515 + 138 * length (ofPair (pairOf x) (listOf (now sheet))) ≤ length (now out) ⌝ }
+    requires { ⌜ at + 515 + 104 * length (ofPair (pairOf x) (listOf (now sheet))) ≤ length (now out) ⌝ }
     ensures { λ r. ⌜ Puts (levelRow (listOf (now (sheet .entry))) a x)
-        (515 + 138 * length (ofPair (pairOf x) (listOf (now (sheet .entry))))) (now (out .entry)) at r (now (out .exit)) ⌝ }
+        (515 + 104 * length (ofPair (pairOf x) (listOf (now (sheet .entry))))) (now (out .entry)) at r (now (out .exit)) ⌝ }
 {
     if x.good == 0 {
         return put_word(
@@ -155,6 +157,7 @@ fn put_level_row(out: &mut [u8], at: usize, sheet: &[u8], many: usize, a: Axis, 
             b"<p>No reply was good, so no level is drawn.</p>\n",
         );
     }
+    let begin = a.begin;
     let pair = pair_of(x);
     let tall = height(x.lowest, x.highest, 2);
     let top = x.highest as u32 + 1;
@@ -171,6 +174,7 @@ fn put_level_row(out: &mut [u8], at: usize, sheet: &[u8], many: usize, a: Axis, 
         top,
         a.span,
         tall,
+        begin,
     )
 }
 
@@ -186,13 +190,14 @@ fn put_heat_row(
 ) -> usize
     requires { ⌜ sizeAllowed (now sheet) ≡ true ⌝ }
     requires { ⌜ many ≡ slots (now sheet) ⌝ }
-    requires { ⌜ at + 515 + 138 * length (ofPair (pairOf x) (listOf (now sheet))) ≤ length (now out) ⌝ }
+    requires { ⌜ at + 515 + 104 * length (ofPair (pairOf x) (listOf (now sheet))) ≤ length (now out) ⌝ }
     ensures { λ r. ⌜ Puts (heatRow (listOf (now (sheet .entry))) a x g)
-        (515 + 138 * length (ofPair (pairOf x) (listOf (now (sheet .entry))))) (now (out .entry)) at r (now (out .exit)) ⌝ }
+        (515 + 104 * length (ofPair (pairOf x) (listOf (now (sheet .entry))))) (now (out .entry)) at r (now (out .exit)) ⌝ }
 {
     if g.warm < g.cold {
         return at;
     }
+    let begin = a.begin;
     let pair = pair_of(x);
     let tall = height(g.cold, g.warm, 20);
     let top = g.warm as u32 + 10;
@@ -209,6 +214,7 @@ fn put_heat_row(
         top,
         a.span,
         tall,
+        begin,
     )
 }
 
@@ -224,10 +230,11 @@ fn put_mark_row(
 ) -> usize
     requires { ⌜ sizeAllowed (now sheet) ≡ true ⌝ }
     requires { ⌜ many ≡ slots (now sheet) ⌝ }
-    requires { ⌜ at + 515 + 138 * length (ofPair (pairOf x) (listOf (now sheet))) ≤ length (now out) ⌝ }
+    requires { ⌜ at + 515 + 104 * length (ofPair (pairOf x) (listOf (now sheet))) ≤ length (now out) ⌝ }
     ensures { λ r. ⌜ Puts (markRow (listOf (now (sheet .entry))) a x layer)
-        (515 + 138 * length (ofPair (pairOf x) (listOf (now (sheet .entry))))) (now (out .entry)) at r (now (out .exit)) ⌝ }
+        (515 + 104 * length (ofPair (pairOf x) (listOf (now (sheet .entry))))) (now (out .entry)) at r (now (out .exit)) ⌝ }
 {
+    let begin = a.begin;
     let pair = pair_of(x);
     let scale = put_scale(out, at, layer, 0, 0, 0);
     put_frame(
@@ -242,6 +249,7 @@ fn put_mark_row(
         0,
         a.span,
         1,
+        begin,
     )
 }
 
@@ -257,9 +265,9 @@ fn put_rows(
 ) -> usize
     requires { ⌜ sizeAllowed (now sheet) ≡ true ⌝ }
     requires { ⌜ many ≡ slots (now sheet) ⌝ }
-    requires { ⌜ at + 2800 + 690 * length (ofPair (pairOf x) (listOf (now sheet))) ≤ length (now out) ⌝ }
+    requires { ⌜ at + 2900 + 520 * length (ofPair (pairOf x) (listOf (now sheet))) ≤ length (now out) ⌝ }
     ensures { λ r. ⌜ Puts (rowsText (listOf (now (sheet .entry))) a x g)
-        (2800 + 690 * length (ofPair (pairOf x) (listOf (now (sheet .entry))))) (now (out .entry)) at r (now (out .exit)) ⌝ }
+        (2900 + 520 * length (ofPair (pairOf x) (listOf (now (sheet .entry))))) (now (out .entry)) at r (now (out .exit)) ⌝ }
 {
     let level = put_level_row(out, at, sheet, many, a, x);
     let heat = put_heat_row(out, level, sheet, many, a, x, g);
@@ -290,20 +298,21 @@ pub(crate) fn put_section(
 ) -> usize
     requires { ⌜ sizeAllowed (now sheet) ≡ true ⌝ }
     requires { ⌜ many ≡ slots (now sheet) ⌝ }
-    requires { ⌜ at + 4600 + 828 * length (ofPair (pairOf x) (listOf (now sheet))) ≤ length (now out) ⌝ }
+    requires { ⌜ at + 4600 + 624 * length (ofPair (pairOf x) (listOf (now sheet))) ≤ length (now out) ⌝ }
     ensures { λ r. ⌜ Puts (sectionText (listOf (now (sheet .entry))) a x)
-        (4600 + 828 * length (ofPair (pairOf x) (listOf (now (sheet .entry))))) (now (out .entry)) at r (now (out .exit)) ⌝ }
+        (4600 + 624 * length (ofPair (pairOf x) (listOf (now (sheet .entry))))) (now (out .entry)) at r (now (out .exit)) ⌝ }
 {
+    let begin = a.begin;
     let pair = pair_of(x);
     let g = gauge(sheet, many, pair);
     let heading = put_heading(out, at, x);
     let rows = put_rows(out, heading, sheet, many, a, x, g);
-    let figures = put_figures(out, rows, x, g);
+    let figures = put_figures(out, rows, x, g, begin);
     let begun = put_word(
         out,
         figures,
         b"<details><summary>faulty replies one by one</summary><ul>",
     );
-    let faults = put_layer(out, begun, sheet, many, pair, 5);
+    let faults = put_layer(out, begun, sheet, many, pair, 5, begin);
     put_word(out, faults, b"</ul></details></section>\n")
 }

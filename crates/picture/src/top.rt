@@ -1,8 +1,9 @@
 // What stands above the sections.
 use crate::axis::Axis;
+use calendar::Day;
 use cards::Tally;
+use forms::days::put_moment;
 use forms::form::put_form;
-use forms::words::put_moment;
 use listing::text::put_word;
 ghost use Prim.Native.Nat.{_+_, _≤_};
 ghost use lib.ListN.{length};
@@ -81,13 +82,13 @@ fn put_scales(out: &mut [u8], at: usize) -> usize
 }
 
 fn put_shapes(out: &mut [u8], at: usize) -> usize
-    requires { ⌜ at + 594 ≤ length (now out) ⌝ }
-    ensures { λ r. ⌜ Puts shapesText 594 (now (out .entry)) at r (now (out .exit)) ⌝ }
+    requires { ⌜ at + 644 ≤ length (now out) ⌝ }
+    ensures { λ r. ⌜ Puts shapesText 644 (now (out .entry)) at r (now (out .exit)) ⌝ }
 {
     let a = put_word(
         out,
         at,
-        b".l0{height:9em;stroke:#04a;stroke-width:2;stroke-linecap:round}.l1{height:4.5em;stroke:#333;stroke-width:1.5;stroke-dasharray:4 3}\n",
+        b".l0{height:9em;stroke:#04a;stroke-width:2;stroke-linecap:round}.l1{height:4.5em;stroke:#333;stroke-width:2;stroke-dasharray:3 5;stroke-linecap:round}\n",
     );
     let b = put_word(
         out,
@@ -102,14 +103,14 @@ fn put_shapes(out: &mut [u8], at: usize) -> usize
     put_word(
         out,
         c,
-        b"details{font-size:.85em}@media print{main{display:block}section{margin-bottom:1em}.row svg{max-width:36em}.axis{max-width:48em}}</style></head>\n",
+        b"details{font-size:.85em}@media print{body{font-size:10px;max-width:none;margin:0;padding:0}main{display:block;columns:2;column-gap:1em}section{margin:0 0 1em}}</style></head>\n",
     )
 }
 
 // How the page looks, on a screen and on paper.
 pub(crate) fn put_style(out: &mut [u8], at: usize, name: &[u8]) -> usize
-    requires { ⌜ at + 1959 + length (now name) ≤ length (now out) ⌝ }
-    ensures { λ r. ⌜ Puts (styleText (now (name .entry))) (1959 + length (now (name .entry))) (now (out .entry)) at r (now (out .exit)) ⌝ }
+    requires { ⌜ at + 2009 + length (now name) ≤ length (now out) ⌝ }
+    ensures { λ r. ⌜ Puts (styleText (now (name .entry))) (2009 + length (now (name .entry))) (now (out .entry)) at r (now (out .exit)) ⌝ }
 {
     let opening = put_opening(out, at, name);
     let rules = put_rules(out, opening);
@@ -119,8 +120,8 @@ pub(crate) fn put_style(out: &mut [u8], at: usize, name: &[u8]) -> usize
 
 // What the lines and marks mean.
 fn put_legend(out: &mut [u8], at: usize) -> usize
-    requires { ⌜ at + 695 ≤ length (now out) ⌝ }
-    ensures { λ r. ⌜ Puts legendText 695 (now (out .entry)) at r (now (out .exit)) ⌝ }
+    requires { ⌜ at + 697 ≤ length (now out) ⌝ }
+    ensures { λ r. ⌜ Puts legendText 697 (now (out .entry)) at r (now (out .exit)) ⌝ }
 {
     let a = put_word(
         out,
@@ -140,25 +141,25 @@ fn put_legend(out: &mut [u8], at: usize) -> usize
     let d = put_word(
         out,
         c,
-        b"<svg class='l3' viewBox='0 0 4 2' role='img'><title>alarm 1</title><desc>a round dot</desc><path d='M2,1h0'/></svg> alarm 1; \n",
+        b"<svg class='l3' viewBox='0 0 4 2' role='img'><title>alarm 1</title><desc>a round dot</desc><path d='M2,1h.1'/></svg> alarm 1; \n",
     );
     put_word(
         out,
         d,
-        b"<svg class='l4' viewBox='0 0 4 2' role='img'><title>alarm 0</title><desc>a square dot</desc><path d='M2,1h0'/></svg> alarm 0</p>\n",
+        b"<svg class='l4' viewBox='0 0 4 2' role='img'><title>alarm 0</title><desc>a square dot</desc><path d='M2,1h.1'/></svg> alarm 0</p>\n",
     )
 }
 
-fn put_when(out: &mut [u8], at: usize, t: Tally) -> usize
-    requires { ⌜ at + 118 ≤ length (now out) ⌝ }
-    ensures { λ r. ⌜ Puts (whenText t) 118 (now (out .entry)) at r (now (out .exit)) ⌝ }
+fn put_when(out: &mut [u8], at: usize, begin: Day, t: Tally) -> usize
+    requires { ⌜ at + 50 ≤ length (now out) ⌝ }
+    ensures { λ r. ⌜ Puts (whenText begin t) 50 (now (out .entry)) at r (now (out .exit)) ⌝ }
 {
     if t.records == 0 {
         return put_word(out, at, b"no record");
     }
-    let from = put_moment(out, at, t.first);
+    let from = put_moment(out, at, begin, t.first);
     let gap = put_word(out, from, b" to ");
-    put_moment(out, gap, t.last)
+    put_moment(out, gap, begin, t.last)
 }
 
 fn put_others(out: &mut [u8], at: usize, n: u32) -> usize
@@ -176,13 +177,13 @@ fn put_others(out: &mut [u8], at: usize, n: u32) -> usize
     )
 }
 
-fn put_counts(out: &mut [u8], at: usize, name: &[u8], t: Tally) -> usize
+fn put_counts(out: &mut [u8], at: usize, name: &[u8], begin: Day, t: Tally) -> usize
     requires { ⌜ t .slots ≤ 65536 ⌝ }
     requires { ⌜ t .records ≤ 65536 ⌝ }
     requires { ⌜ t .spoiled ≤ 65536 ⌝ }
     requires { ⌜ t .foreign ≤ 65536 ⌝ }
     requires { ⌜ at + 220 + length (now name) ≤ length (now out) ⌝ }
-    ensures { λ r. ⌜ Puts (countsText (now (name .entry)) t) (220 + length (now (name .entry))) (now (out .entry)) at r (now (out .exit)) ⌝ }
+    ensures { λ r. ⌜ Puts (countsText (now (name .entry)) begin t) (220 + length (now (name .entry))) (now (out .entry)) at r (now (out .exit)) ⌝ }
 {
     let counts = [
         t.slots as u32,
@@ -198,14 +199,13 @@ fn put_counts(out: &mut [u8], at: usize, name: &[u8], t: Tally) -> usize
         b"</h1><p>~ slots: ~ records, ~ spoiled, ~ foreign</p>\n<p>",
         &counts,
     );
-    put_when(out, held, t)
+    put_when(out, held, begin, t)
 }
 
 pub(crate) fn put_top(
     out: &mut [u8],
     at: usize,
     name: &[u8],
-    note: &[u8],
     t: Tally,
     others: u32,
     x: Axis,
@@ -214,14 +214,14 @@ pub(crate) fn put_top(
     requires { ⌜ t .records ≤ 65536 ⌝ }
     requires { ⌜ t .spoiled ≤ 65536 ⌝ }
     requires { ⌜ t .foreign ≤ 65536 ⌝ }
-    requires { ⌜ at + 1200 + length (now name) + length (now note) ≤ length (now out) ⌝ }
-    ensures { λ r. ⌜ Puts (topText (now (name .entry)) (now (note .entry)) t others x) (1200 + length (now (name .entry)) + length (now (note .entry)))
+    requires { ⌜ at + 1200 + length (now name) ≤ length (now out) ⌝ }
+    ensures { λ r. ⌜ Puts (topText (now (name .entry)) t others x) (1200 + length (now (name .entry)))
         (now (out .entry)) at r (now (out .exit)) ⌝ }
 {
+    let begin = x.begin;
     let weeks = [x.step, x.days];
-    let counts = put_counts(out, at, name, t);
-    let noted = put_word(out, counts, note);
-    let over = put_word(out, noted, b"</p>\n");
+    let counts = put_counts(out, at, name, begin, t);
+    let over = put_word(out, counts, b"</p>\n");
     let left = put_others(out, over, others);
     let legend = put_legend(out, left);
     put_form(out, legend, b"<main style='--s:~;--d:~'>\n", &weeks)

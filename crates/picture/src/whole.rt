@@ -4,6 +4,7 @@ use crate::axis::axis_of;
 use crate::section::put_section;
 use crate::top::put_style;
 use crate::top::put_top;
+use calendar::Day;
 use listing::text::put_word;
 use summary::Line;
 ghost use mathlib.Core.Path.{_≡_};
@@ -43,20 +44,20 @@ fn put_sections(
     end
 }
 
-pub(crate) fn put_page(out: &mut [u8], sheet: &[u8], many: usize, name: &[u8], note: &[u8]) -> usize
+pub(crate) fn put_page(out: &mut [u8], sheet: &[u8], many: usize, name: &[u8], begin: Day) -> usize
     requires { ⌜ sizeAllowed (now sheet) ≡ true ⌝ }
     requires { ⌜ many ≡ slots (now sheet) ⌝ }
-    requires { ⌜ 828 * many + 145000 + 2 * length (now name) + length (now note) ≤ length (now out) ⌝ }
-    ensures { λ r. ⌜ Puts (pageOf (now (sheet .entry)) (now (name .entry)) (now (note .entry)))
-        (828 * many + 145000 + 2 * length (now (name .entry)) + length (now (note .entry))) (now (out .entry)) 0 r (now (out .exit)) ⌝ }
+    requires { ⌜ 624 * many + 145000 + 2 * length (now name) ≤ length (now out) ⌝ }
+    ensures { λ r. ⌜ Puts (pageOf (now (sheet .entry)) (now (name .entry)) begin)
+        (624 * many + 145000 + 2 * length (now (name .entry))) (now (out .entry)) 0 r (now (out .exit)) ⌝ }
 {
     let made = summary::sisal_summary_of(sheet);
     let page = made.summary;
     let lines = page.lines;
     let tally = cards::count(sheet);
-    let axis = axis_of(tally.first, tally.last);
+    let axis = axis_of(begin, tally.first, tally.last);
     let style = put_style(out, 0, name);
-    let top = put_top(out, style, name, note, tally, page.others, axis);
+    let top = put_top(out, style, name, tally, page.others, axis);
     let sections = put_sections(out, top, sheet, many, axis, lines, page.count as usize);
     put_word(out, sections, b"</main></body></html>\n")
 }

@@ -2,9 +2,9 @@
 // the day of minute 0, as 2026-11-01, where there is one. The page goes to standard output; the library makes it. A program has no exit status here, so
 // its last line tells it: "status 0" after the page, "status 1" where the input is no card, "status 2" where an argument is no day, or there is no name.
 // Standard error has said why then.
-mod days;
 mod names;
 
+use calendar::Day;
 use frame::Written;
 use libc::STDERR_FILENO;
 use libc::STDIN_FILENO;
@@ -13,10 +13,10 @@ ghost use Prim.Native.Nat.{_≤_};
 ghost use lib.ListN.{length};
 
 // Puts the page of a sheet into an output, and answers how many bytes it has; none where the page is refused.
-fn put_page(sheet: &[u8], name: &[u8], note: &[u8], out: &mut [u8]) -> usize
+fn put_page(sheet: &[u8], name: &[u8], begin: Day, out: &mut [u8]) -> usize
     ensures { λ r. ⌜ r ≤ length (now (out .exit)) ⌝ }
 {
-    let answer = picture::picture(sheet, name, note, out);
+    let answer = picture::picture(sheet, name, begin, out);
     match answer {
         Written::Bytes(size) => size,
         Written::Refused(_) => 0,
@@ -24,14 +24,14 @@ fn put_page(sheet: &[u8], name: &[u8], note: &[u8], out: &mut [u8]) -> usize
 }
 
 // The output is long enough for the page of the largest sheet with the longest name, so nothing is refused, and it is written at once.
-fn print_page(sheet: &[u8], name: &[u8], note: &[u8]) {
-    let mut out = [0u8; 1_860_000];
-    let size = put_page(sheet, name, note, &mut out);
+fn print_page(sheet: &[u8], name: &[u8], begin: Day) {
+    let mut out = [0u8; 1_432_000];
+    let size = put_page(sheet, name, begin, &mut out);
     io::write_all(STDOUT_FILENO, &out[..size]);
 }
 
 // Prints the page of the card on standard input, and answers the status.
-fn show(name: &[u8], note: &[u8]) -> u8 {
+fn show(name: &[u8], begin: Day) -> u8 {
     let mut bytes = [0u8; 65537];
     let input = cards::read_card(STDIN_FILENO, &mut bytes);
     let size = input.size;
@@ -39,28 +39,27 @@ fn show(name: &[u8], note: &[u8]) -> u8 {
     if !cards::is_card(b"standard input", input, tally) {
         return 1;
     }
-    print_page(&bytes[..size], name, note);
+    print_page(&bytes[..size], name, begin);
     0
 }
 
-// The same with the day of minute 0 noted on the page.
+// The same with dates, where the text of an argument is a day.
 fn show_dated(name: &[u8], text: &[u8]) -> u8 {
-    if !days::is_day(text) {
+    let begin = calendar::day_in(text);
+    if begin.day == 0 {
         io::write_all(
             STDERR_FILENO,
             b"that is no day of the calendar; one is written 2026-11-01\n",
         );
         return 2;
     }
-    let mut note = [0u8; 64];
-    let size = days::put_note(text, &mut note);
-    show(name, &note[..size])
+    show(name, begin)
 }
 
 // The same with the day of the second argument, where there is one.
 fn show_by_day(name: &[u8]) -> u8 {
     if os::arg_count() < 3 {
-        return show(name, b"");
+        return show(name, calendar::no_day());
     }
     let mut text = [0u8; 16];
     let long = os::arg(2, &mut text);

@@ -16,28 +16,19 @@ add-fixed : tie.Need-add-fixed
 add-fixed c = search needs
 
 returns : tie.Need-returns
-returns c = sym (lt-ltb (c .before .args .have) (828 * c .before .args .slots + 145000 + 2 * c .before .args .name + c .before .args .note) (omega (arith, c .if1 .taken)))
+returns c = sym (lt-ltb (c .before .args .have) (624 * c .before .args .slots + 145000 + 2 * c .before .args .name) (omega (arith, c .if1 .taken)))
 
 returns-2 : tie.Need-returns-2
-returns-2 c = sym (lt-ltb (c .before .before .args .have) (828 * c .before .before .args .slots + 145000 + 2 * c .before .before .args .name + c .before .before .args .note) (omega (arith, c .before .if1 .left, c .if2 .taken)))
+returns-2 c = sym (lt-ltb (c .before .before .args .have) (624 * c .before .before .args .slots + 145000 + 2 * c .before .before .args .name) (omega (arith, c .before .if1 .left, c .if2 .taken)))
 
 sub-if3 : tie.Need-sub-if3
 sub-if3 c = search needs
 
 returns-3 : tie.Need-returns-3
-returns-3 c = sym (lt-ltb (c .before .before .before .args .have) (828 * c .before .before .before .args .slots + 145000 + 2 * c .before .before .before .args .name + c .before .before .before .args .note) (omega (arith, c .before .before .if1 .left, c .before .if2 .left, c .if3 .taken)))
-
-sub-if4 : tie.Need-sub-if4
-sub-if4 c = search needs
-
-sub-if4-2 : tie.Need-sub-if4-2
-sub-if4-2 c = search needs
+returns-3 c = sym (lt-ltb (c .before .before .before .args .have) (624 * c .before .before .before .args .slots + 145000 + 2 * c .before .before .before .args .name) (omega (arith, c .before .before .if1 .left, c .before .if2 .left, c .if3 .taken)))
 
 returns-4 : tie.Need-returns-4
-returns-4 c = sym (lt-ltb (c .before .before .before .before .args .have) (828 * c .before .before .before .before .args .slots + 145000 + 2 * c .before .before .before .before .args .name + c .before .before .before .before .args .note) (omega (arith, c .before .before .before .if1 .left, c .before .before .if2 .left, c .before .if3 .left, c .if4 .taken)))
-
-returns-5 : tie.Need-returns-5
-returns-5 c = sym (le-ltb (c .before .before .before .before .args .have) (828 * c .before .before .before .before .args .slots + 145000 + 2 * c .before .before .before .before .args .name + c .before .before .before .before .args .note) (omega (arith, c .before .before .before .if1 .left, c .before .before .if2 .left, c .before .if3 .left, c .if4 .left)))
+returns-4 c = sym (le-ltb (c .before .before .before .args .have) (624 * c .before .before .before .args .slots + 145000 + 2 * c .before .before .before .args .name) (omega (arith, c .before .before .if1 .left, c .before .if2 .left, c .if3 .left)))
 
 pub is-short-spec : {M : Type 1} → statement M
 is-short-spec =
@@ -49,7 +40,4 @@ is-short-spec =
     returns-2
     sub-if3
     returns-3
-    sub-if4
-    sub-if4-2
-    returns-4
-    returns-5)
+    returns-4)

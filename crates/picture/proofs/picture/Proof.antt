@@ -21,7 +21,7 @@ enum-known-counted c = search needs
 
 is-short-requires : tie.Need-is-short-requires
 is-short-requires c κs =
-    let start = c .before .before .before .before .before .before .before .before in
+    let start = c .before .before .before .before .before .before .before in
     let s = start .args .sheet .now in
     let n = c .before .counted .given .0 .0 in
     let counts = c .before .before .before .count-slots .ensures in
@@ -30,17 +30,17 @@ is-short-requires c κs =
 
 returns : tie.Need-returns
 returns c =
-    let start = c .before .before .before .before .before .before .before .before .before .before in
+    let start = c .before .before .before .before .before .before .before .before .before in
     let s = start .args .sheet .now in
     let n = c .before .before .before .counted .given .0 .0 in
     let counts = c .before .before .before .before .before .count-slots .ensures in
     let size = told-slots s _ n counts (c .before .before .before .counted .given .1) in
-    let short : length (start .args .out .now) < 828 * n + 145000 + 2 * length (start .args .name .now) + length (start .args .note .now) = ltb-true _ _ (sym (c .before .is-short .ensures) ∙ c .if1 .taken) in
+    let short : length (start .args .out .now) < 624 * n + 145000 + 2 * length (start .args .name .now) = ltb-true _ _ (sym (c .before .is-short .ensures) ∙ c .if1 .taken) in
     refused-15 _ _ (start .args .out .now) _ (size .0) (omega (arith, size .1, short))
 
 put-page-requires : tie.Need-put-page-requires
 put-page-requires c κs =
-    let start = c .before .before .before .before .before .before .before .before .before .before .before in
+    let start = c .before .before .before .before .before .before .before .before .before .before in
     let s = start .args .sheet .now in
     let n = c .before .before .before .before .counted .given .0 .0 in
     let counts = c .before .before .before .before .before .before .count-slots .ensures in
@@ -55,18 +55,18 @@ same-length c = search needs
 
 returns-2 : tie.Need-returns-2
 returns-2 c =
-    let start = c .before .before .before .before .before .before .before .before .before .before .before .before .before .before in
+    let start = c .before .before .before .before .before .before .before .before .before .before .before .before .before in
     let s = start .args .sheet .now in
     let n = c .before .before .before .before .before .before .before .counted .given .0 .0 in
     let counts = c .before .before .before .before .before .before .before .before .before .count-slots .ensures in
     let size = told-slots s _ n counts (c .before .before .before .before .before .before .before .counted .given .1) in
-    let enough : 828 * n + 145000 + 2 * length (start .args .name .now) + length (start .args .note .now) ≤ length (start .args .out .now) = ltb-false _ _ (sym (c .before .before .before .before .before .is-short .ensures) ∙ c .before .before .before .before .if1 .left) in
+    let enough : 624 * n + 145000 + 2 * length (start .args .name .now) ≤ length (start .args .out .now) = ltb-false _ _ (sym (c .before .before .before .before .before .is-short .ensures) ∙ c .before .before .before .before .if1 .left) in
     let text = c .before .before .put-page .ensures in
     written _ _ _ (start .args .out .now) _ _ _ (size .0) (omega (arith, size .1, enough)) (omega (arith, text .within, enough)) text
 
 returns-3 : tie.Need-returns-3
 returns-3 c =
-    let start = c .before .before .before .before .before .before .before .before in
+    let start = c .before .before .before .before .before .before .before in
     let size = told-refused (start .args .sheet .now) _ (c .before .counted2 .given .0 .0) (c .before .before .before .count-slots .ensures) (c .before .counted2 .given .1) in
     rw (size .1) (refused-12 _ _ (start .args .out .now) _ (size .0))
 

@@ -9,4 +9,4 @@ use Rattle.summary.specs.Worked.{ofPair}
 
 unfoldable pub roomOf : List Entry → List Line → ℕ
 roomOf l [] = 0
-roomOf l (x ∷ xs) = 4600 + 828 * length (ofPair (pairOf x) l) + roomOf l xs
+roomOf l (x ∷ xs) = 4600 + 624 * length (ofPair (pairOf x) l) + roomOf l xs

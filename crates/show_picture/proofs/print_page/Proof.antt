@@ -9,7 +9,7 @@ use Rattle.show_picture.proofs.print_page.Statement.{statement}
 use Rattle.show_picture.proofs.print_page.Tie as tie
 
 slice-aggregate-put-page : tie.Need-slice-aggregate-put-page
-slice-aggregate-put-page c = sym (length-replicate {0} {A = ℕ} 1860000 0)
+slice-aggregate-put-page c = sym (length-replicate {0} {A = ℕ} 1432000 0)
 
 put-page-requires : tie.Need-put-page-requires
 put-page-requires c κs = tt

@@ -17,7 +17,7 @@ same-length c = search needs
 returns : tie.Need-returns
 returns c =
     let a = c .before .before .before .before .before .before .args in
-    text-is (as-mark (a .layer) (a .minute) (a .n) (a .place) (c .before .before .before .before .if1 .taken)) (c .before .before .put-said .ensures)
+    text-is (as-mark (a .begin) (a .layer) (a .minute) (a .n) (a .place) (c .before .before .before .before .if1 .taken)) (c .before .before .put-said .ensures)
 
 put-said-requires-2 : tie.Need-put-said-requires-2
 put-said-requires-2 c κs = search needs
@@ -28,12 +28,12 @@ same-length-2 c = search needs
 returns-2 : tie.Need-returns-2
 returns-2 c =
     let a = c .before .before .before .before .before .before .before .args in
-    text-is (as-words (a .layer) (a .minute) (a .n) (a .place) (c .before .before .before .before .before .if1 .left) (c .before .before .before .before .if2 .taken)) (c .before .before .put-said2 .ensures)
+    text-is (as-words (a .begin) (a .layer) (a .minute) (a .n) (a .place) (c .before .before .before .before .before .if1 .left) (c .before .before .before .before .if2 .taken)) (c .before .before .put-said2 .ensures)
 
 returns-3 : tie.Need-returns-3
 returns-3 c =
     let a = c .before .before .before .args in
-    nothing-put (as-nothing (a .layer) (a .minute) (a .n) (a .place) (c .before .if1 .left) (c .if2 .left))
+    nothing-put (as-nothing (a .begin) (a .layer) (a .minute) (a .n) (a .place) (c .before .if1 .left) (c .if2 .left))
 
 pub put-faulty-spec : {M : Type 1} → statement M
 put-faulty-spec =

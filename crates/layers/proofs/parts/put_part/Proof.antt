@@ -9,6 +9,7 @@ use lib.Dec.{ltb}
 use Rattle.frame.specs.declared.Reply.{Reply}
 use Rattle.frame.specs.Pick.{pick}
 use Rattle.listing.proofs.Putting.{text-is, at-most}
+use Rattle.calendar.specs.declared.counting.Day.{Day}
 use Rattle.layers.specs.declared.parts.Value.{Value}
 use Rattle.layers.specs.Drawing.{valueIn, pointText, markText}
 use borrow.Author.Needs.{needs}
@@ -16,11 +17,11 @@ use Rattle.layers.proofs.parts.put_part.Statement.{statement}
 use Rattle.layers.proofs.parts.put_part.Tie as tie
 
 -- on the two lines, and on the other layers
-module _ (layer : ℕ) (joined : Bool) (minute : ℕ) (reply : Reply) where
-  on-line : (v : Value) → v ≡ valueIn layer reply → layer < 2 → pointText joined minute v ≡ pick (ltb layer 2) (pointText joined minute (valueIn layer reply)) (markText layer minute reply)
+module _ (begin : Day) (layer : ℕ) (joined : Bool) (minute : ℕ) (reply : Reply) where
+  on-line : (v : Value) → v ≡ valueIn layer reply → layer < 2 → pointText joined minute v ≡ pick (ltb layer 2) (pointText joined minute (valueIn layer reply)) (markText begin layer minute reply)
   on-line v e h = simp (lt-ltb layer 2 h) (ap (pointText joined minute) e)
 
-  off-line : 2 ≤ layer → markText layer minute reply ≡ pick (ltb layer 2) (pointText joined minute (valueIn layer reply)) (markText layer minute reply)
+  off-line : 2 ≤ layer → markText begin layer minute reply ≡ pick (ltb layer 2) (pointText joined minute (valueIn layer reply)) (markText begin layer minute reply)
   off-line h = simp (le-ltb layer 2 h)
 
 module _ (layer : ℕ) (reply : Reply) where
@@ -44,7 +45,7 @@ returns c =
     let a = c .before .before .before .before .before .before .before .args in
     let v = c .before .before .before .before .value-in in
     let h = c .before .before .before .before .before .if1 .taken in
-    (at-most (omega arith) (text-is (on-line (a .layer) (a .joined) (a .minute) (a .reply) (v .result) (v .ensures) h) (c .before .before .put-point .ensures)), on-line-there (a .layer) (a .reply) (v .result) (v .ensures) h)
+    (at-most (omega arith) (text-is (on-line (a .begin) (a .layer) (a .joined) (a .minute) (a .reply) (v .result) (v .ensures) h) (c .before .before .put-point .ensures)), on-line-there (a .layer) (a .reply) (v .result) (v .ensures) h)
 
 put-mark-requires : tie.Need-put-mark-requires
 put-mark-requires c κs = search needs
@@ -56,7 +57,7 @@ returns-2 : tie.Need-returns-2
 returns-2 c =
     let a = c .before .before .before .before .before .before .args in
     let h = c .before .before .before .before .if1 .left in
-    (text-is (off-line (a .layer) (a .joined) (a .minute) (a .reply) h) (c .before .before .put-mark .ensures), off-line-there (a .layer) (a .reply) h)
+    (text-is (off-line (a .begin) (a .layer) (a .joined) (a .minute) (a .reply) h) (c .before .before .put-mark .ensures), off-line-there (a .layer) (a .reply) h)
 
 pub put-part-spec : {M : Type 1} → statement M
 put-part-spec =

@@ -11,31 +11,32 @@ use Rattle.sheet.specs.Slots.{slots, slotAt, slotOf, recordIn, listUpTo}
 use Rattle.summary.specs.Worked.{ofPair}
 use Rattle.listing.specs.inside.Puts.{Puts}
 use Rattle.listing.proofs.Putting.{then, text-is, at-most, nothing-put}
+use Rattle.calendar.specs.declared.counting.Day.{Day}
 use Rattle.layers.specs.Drawing.{layerText}
 use Rattle.layers.specs.inside.Layers.{joinedAfter}
 use Rattle.layers.proofs.Drawn.{layer-append, joined-append, layer-none, joined-none, of-none, pair-more, count-more, count-grows}
 use Rattle.layers.proofs.pass.put_layer.Statement.{statement}
 use Rattle.layers.proofs.pass.put_layer.Tie as tie
 
-record Layered (out₀ : List ℕ) (at : ℕ) (sheet : List ℕ) (many pair layer : ℕ) (out : List ℕ) (end : ℕ) (joined : Bool) (k : ℕ) : Type 0 where
+record Layered (out₀ : List ℕ) (at : ℕ) (sheet : List ℕ) (many pair layer : ℕ) (begin : Day) (out : List ℕ) (end : ℕ) (joined : Bool) (k : ℕ) : Type 0 where
   so-far : k ≤ many
   kept : length out ≡ length out₀
-  parts : Puts (layerText layer false (ofPair pair (listUpTo sheet k))) (138 * length (ofPair pair (listUpTo sheet k))) out₀ at end out
+  parts : Puts (layerText begin layer false (ofPair pair (listUpTo sheet k))) (104 * length (ofPair pair (listUpTo sheet k))) out₀ at end out
   goes-on : joined ≡ joinedAfter layer false (ofPair pair (listUpTo sheet k))
 
 abbrev Inv-loop : tie.InvT-loop
-Inv-loop out₀ at sheet many pair layer end₀ joined₀ k₀ out end joined k = Layered out₀ at sheet many pair layer out end joined k
+Inv-loop out₀ at sheet many pair layer begin end₀ joined₀ k₀ out end joined k = Layered out₀ at sheet many pair layer begin out end joined k
 
 abbrev μ-loop : tie.MeasureT-loop
-μ-loop out₀ at sheet many pair layer end₀ joined₀ k₀ out end joined k = many - k
+μ-loop out₀ at sheet many pair layer begin end₀ joined₀ k₀ out end joined k = many - k
 
 none : (s : List ℕ) (pair : ℕ) → ofPair pair (listUpTo s 0) ≡ []
 unfolding listUpTo
 none s pair = of-none pair
 
-more : (layer pair : ℕ) (s : List ℕ) (k : ℕ) → layerText layer false (ofPair pair (listUpTo s k)) ++ layerText layer (joinedAfter layer false (ofPair pair (listUpTo s k))) (ofPair pair (recordIn (slotOf (slotAt s k)))) ≡ layerText layer false (ofPair pair (listUpTo s (k + 1)))
-more layer pair s k =
-    sym (ap (layerText layer false) (pair-more pair s k) ∙ layer-append layer false (ofPair pair (listUpTo s k)) (ofPair pair (recordIn (slotOf (slotAt s k)))))
+more : (begin : Day) (layer pair : ℕ) (s : List ℕ) (k : ℕ) → layerText begin layer false (ofPair pair (listUpTo s k)) ++ layerText begin layer (joinedAfter layer false (ofPair pair (listUpTo s k))) (ofPair pair (recordIn (slotOf (slotAt s k)))) ≡ layerText begin layer false (ofPair pair (listUpTo s (k + 1)))
+more begin layer pair s k =
+    sym (ap (layerText begin layer false) (pair-more pair s k) ∙ layer-append begin layer false (ofPair pair (listUpTo s k)) (ofPair pair (recordIn (slotOf (slotAt s k)))))
 
 more-joined : (layer pair : ℕ) (s : List ℕ) (k : ℕ) → joinedAfter layer (joinedAfter layer false (ofPair pair (listUpTo s k))) (ofPair pair (recordIn (slotOf (slotAt s k)))) ≡ joinedAfter layer false (ofPair pair (listUpTo s (k + 1)))
 more-joined layer pair s k =
@@ -47,7 +48,7 @@ loop-holds c =
     record {
       so-far = omega arith;
       kept = refl;
-      parts = nothing-put (sym (ap (layerText (a .layer) false) (none (a .sheet .now) (a .pair)) ∙ layer-none (a .layer) false));
+      parts = nothing-put (sym (ap (layerText (a .begin) (a .layer) false) (none (a .sheet .now) (a .pair)) ∙ layer-none (a .begin) (a .layer) false));
       goes-on = sym (ap (joinedAfter (a .layer) false) (none (a .sheet .now) (a .pair)) ∙ joined-none (a .layer) false);
     }
 
@@ -78,7 +79,7 @@ loop-again c =
     record {
       so-far = omega arith;
       kept = put .kept .0 ∙ l .inv .kept;
-      parts = at-most (omega (arith, count-more (a .pair) s (l .k))) (text-is (more (a .layer) (a .pair) s (l .k)) (then (l .inv .parts) (text-is (ap (λ (j : Bool). layerText (a .layer) j one) (l .inv .goes-on)) (put .ensures .0))));
+      parts = at-most (omega (arith, count-more (a .pair) s (l .k))) (text-is (more (a .begin) (a .layer) (a .pair) s (l .k)) (then (l .inv .parts) (text-is (ap (λ (j : Bool). layerText (a .begin) (a .layer) j one) (l .inv .goes-on)) (put .ensures .0))));
       goes-on = put .ensures .1 ∙ ap (λ (j : Bool). joinedAfter (a .layer) j one) (l .inv .goes-on) ∙ more-joined (a .layer) (a .pair) s (l .k);
     }
 

@@ -42,13 +42,13 @@ returns c =
     let p = c .before .before .before .before .before in
     let a = start p .args in
     let put = c .before .before .put-record .ensures in
-    adds-one (a .pair) (a .layer) (a .joined) (e p) _ _ _ _ _ (sym (pair-is p) ∙ c .before .before .before .before .if1 .taken) (put .0) (put .1)
+    adds-one (a .begin) (a .pair) (a .layer) (a .joined) (e p) _ _ _ _ _ (sym (pair-is p) ∙ c .before .before .before .before .if1 .taken) (put .0) (put .1)
 
 returns-2 : tie.Need-returns-2
 returns-2 c =
     let p = c .before in
     let a = start p .args in
-    adds-none (a .pair) (a .layer) (a .joined) (e p ∷ []) _ _ (of-other (a .pair) (e p) (λ q. c .if1 .left (pair-is p ∙ q)))
+    adds-none (a .begin) (a .pair) (a .layer) (a .joined) (e p ∷ []) _ _ (of-other (a .pair) (e p) (λ q. c .if1 .left (pair-is p ∙ q)))
 
 pub put-own-spec : {M : Type 1} → statement M
 put-own-spec = tie.close (tie.spec pair-of-requires put-record-requires same-length returns returns-2)

@@ -42,7 +42,7 @@ returns c =
     let a = c .before .before .before .before .before .before .before .before .args in
     let put = c .before .before .put-part .ensures in
     let read = c .before .before .before .before .read-reply .ensures .answers in
-    (text-is (ap (λ (r : Reply). pick (ltb (a .layer) 2) (pointText (a .joined) (a .head .minute) (valueIn (a .layer) r)) (markText (a .layer) (a .head .minute) r)) read) (put .0), put .1 ∙ ap (λ (r : Reply). pick (ltb (a .layer) 2) (valueIn (a .layer) r .there) false) read)
+    (text-is (ap (λ (r : Reply). pick (ltb (a .layer) 2) (pointText (a .joined) (a .head .minute) (valueIn (a .layer) r)) (markText (a .begin) (a .layer) (a .head .minute) r)) read) (put .0), put .1 ∙ ap (λ (r : Reply). pick (ltb (a .layer) 2) (valueIn (a .layer) r .there) false) read)
 
 pub put-record-spec : {M : Type 1} → statement M
 put-record-spec =

@@ -73,27 +73,27 @@ returns c =
     let put = c .before .before in
     let case = put .before .before .before in
     let l = case .before .before .before in
-    adds-same (start l .args .pair) (start l .args .layer) (start l .args .joined) (recordTold (Record (case .found .given .0 .0)) (l .look .result .reply)) _ _ _ _ _ _ (held l (Record (case .found .given .0 .0)) (case .found .given .1)) (put .put-own .ensures)
+    adds-same (start l .args .begin) (start l .args .pair) (start l .args .layer) (start l .args .joined) (recordTold (Record (case .found .given .0 .0)) (l .look .result .reply)) _ _ _ _ _ _ (held l (Record (case .found .given .0 .0)) (case .found .given .1)) (put .put-own .ensures)
 
 returns-2 : tie.Need-returns-2
 returns-2 c =
     let l = c .before .before .before in
-    adds-none (start l .args .pair) (start l .args .layer) (start l .args .joined) _ _ _ (none l Blank (c .enum-told .given .1) refl)
+    adds-none (start l .args .begin) (start l .args .pair) (start l .args .layer) (start l .args .joined) _ _ _ (none l Blank (c .enum-told .given .1) refl)
 
 returns-3 : tie.Need-returns-3
 returns-3 c =
     let l = c .before .before .before in
-    adds-none (start l .args .pair) (start l .args .layer) (start l .args .joined) _ _ _ (none l Spoiled (c .enum-told2 .given .1) refl)
+    adds-none (start l .args .begin) (start l .args .pair) (start l .args .layer) (start l .args .joined) _ _ _ (none l Spoiled (c .enum-told2 .given .1) refl)
 
 returns-4 : tie.Need-returns-4
 returns-4 c =
     let l = c .before .before .before in
-    adds-none (start l .args .pair) (start l .args .layer) (start l .args .joined) _ _ _ (none l Foreign (c .enum-told3 .given .1) refl)
+    adds-none (start l .args .begin) (start l .args .pair) (start l .args .layer) (start l .args .joined) _ _ _ (none l Foreign (c .enum-told3 .given .1) refl)
 
 returns-5 : tie.Need-returns-5
 returns-5 c =
     let l = c .before .before .before in
-    adds-none (start l .args .pair) (start l .args .layer) (start l .args .joined) _ _ _ (none l (Refused (c .enum-told4 .given .0 .0)) (c .enum-told4 .given .1) refl)
+    adds-none (start l .args .begin) (start l .args .pair) (start l .args .layer) (start l .args .joined) _ _ _ (none l (Refused (c .enum-told4 .given .0 .0)) (c .enum-told4 .given .1) refl)
 
 pub put-slot-spec : {M : Type 1} → statement M
 put-slot-spec =

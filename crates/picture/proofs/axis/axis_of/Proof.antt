@@ -6,6 +6,7 @@ use native.Mathlib.Omega.{arith}
 use Rattle.listing.proofs.Putting.{then, text-is, at-most, nothing-put}
 use Prim.Native.Nat.{_/_, min}
 use native.Mathlib.Nat.{div-lt-iff-lt-mul}
+use Rattle.calendar.specs.declared.counting.Day.{Day}
 use Rattle.picture.specs.declared.axis.Axis.{Axis}
 use Rattle.picture.specs.Axis.{axisOf, daysIn}
 use borrow.Author.Needs.{needs}
@@ -16,12 +17,13 @@ use Rattle.picture.proofs.axis.axis_of.Tie as tie
 few-ticks : (d step : ℕ) → 0 < step → d ≤ 2982617 → d / step < 2982618
 few-ticks d step h k = div-lt-iff-lt-mul h .1 (omega arith)
 
-axis-is : (first last days wide : ℕ) → days ≡ daysIn first last → wide ≡ min (1440 * days) 4294967295 → _≡_ {A = Axis} (record { from = first / 1440 * 1440; span = wide; days = days; step = (days + 4) / 5; ticks = first / 1440 ∷ (first / 1440 + (days + 4) / 5) ∷ (first / 1440 + 2 * ((days + 4) / 5)) ∷ (first / 1440 + 3 * ((days + 4) / 5)) ∷ (first / 1440 + 4 * ((days + 4) / 5)) ∷ []; shown = (days - 1) / ((days + 4) / 5) + 1 }) (axisOf first last)
+axis-is : (begin : Day) (first last days wide : ℕ) → days ≡ daysIn first last → wide ≡ min (1440 * days) 4294967295 → _≡_ {A = Axis} (record { begin = begin; from = first / 1440 * 1440; span = wide; days = days; step = (days + 4) / 5; ticks = first / 1440 ∷ (first / 1440 + (days + 4) / 5) ∷ (first / 1440 + 2 * ((days + 4) / 5)) ∷ (first / 1440 + 3 * ((days + 4) / 5)) ∷ (first / 1440 + 4 * ((days + 4) / 5)) ∷ []; shown = (days - 1) / ((days + 4) / 5) + 1 }) (axisOf begin first last)
 unfolding axisOf
-axis-is first last days wide d w =
+axis-is begin first last days wide d w =
     let m : wide ≡ min (1440 * daysIn first last) 4294967295 = w ∙ ap (λ (n : ℕ). min (1440 * n) 4294967295) d in
     λ i.
     record {
+      begin = begin;
       from = first / 1440 * 1440;
       span = m i;
       days = d i;
@@ -36,44 +38,44 @@ days-in-requires c κs = search needs
 add-step : tie.Need-add-step
 add-step c = omega (arith, c .days-in .ensures .0, c .days-in .ensures .1)
 
-mul-t6 : tie.Need-mul-t6
-mul-t6 c = omega (arith, c .days-in .ensures .0, c .days-in .ensures .1)
+mul-t7 : tie.Need-mul-t7
+mul-t7 c = omega (arith, c .days-in .ensures .0, c .days-in .ensures .1)
 
 minutes-in-requires : tie.Need-minutes-in-requires
 minutes-in-requires c κs = c .days-in .ensures .1
 
-add-t8 : tie.Need-add-t8
-add-t8 c = omega (arith, c .before .days-in .ensures .0, c .before .days-in .ensures .1)
+add-t9 : tie.Need-add-t9
+add-t9 c = omega (arith, c .before .days-in .ensures .0, c .before .days-in .ensures .1)
 
-mul-t9 : tie.Need-mul-t9
-mul-t9 c = omega (arith, c .before .days-in .ensures .0, c .before .days-in .ensures .1)
+mul-t10 : tie.Need-mul-t10
+mul-t10 c = omega (arith, c .before .days-in .ensures .0, c .before .days-in .ensures .1)
 
-add-t10 : tie.Need-add-t10
-add-t10 c = omega (arith, c .before .days-in .ensures .0, c .before .days-in .ensures .1)
+add-t11 : tie.Need-add-t11
+add-t11 c = omega (arith, c .before .days-in .ensures .0, c .before .days-in .ensures .1)
 
-mul-t11 : tie.Need-mul-t11
-mul-t11 c = omega (arith, c .before .days-in .ensures .0, c .before .days-in .ensures .1)
+mul-t12 : tie.Need-mul-t12
+mul-t12 c = omega (arith, c .before .days-in .ensures .0, c .before .days-in .ensures .1)
 
-add-t12 : tie.Need-add-t12
-add-t12 c = omega (arith, c .before .days-in .ensures .0, c .before .days-in .ensures .1)
+add-t13 : tie.Need-add-t13
+add-t13 c = omega (arith, c .before .days-in .ensures .0, c .before .days-in .ensures .1)
 
-mul-t13 : tie.Need-mul-t13
-mul-t13 c = omega (arith, c .before .days-in .ensures .0, c .before .days-in .ensures .1)
+mul-t14 : tie.Need-mul-t14
+mul-t14 c = omega (arith, c .before .days-in .ensures .0, c .before .days-in .ensures .1)
 
-add-t14 : tie.Need-add-t14
-add-t14 c = omega (arith, c .before .days-in .ensures .0, c .before .days-in .ensures .1)
+add-t15 : tie.Need-add-t15
+add-t15 c = omega (arith, c .before .days-in .ensures .0, c .before .days-in .ensures .1)
 
-sub-t16 : tie.Need-sub-t16
-sub-t16 c = omega (arith, c .before .days-in .ensures .0, c .before .days-in .ensures .1)
+sub-t17 : tie.Need-sub-t17
+sub-t17 c = omega (arith, c .before .days-in .ensures .0, c .before .days-in .ensures .1)
 
-div-t17 : tie.Need-div-t17
-div-t17 c = omega (arith, c .before .days-in .ensures .0, c .before .days-in .ensures .1)
+div-t18 : tie.Need-div-t18
+div-t18 c = omega (arith, c .before .days-in .ensures .0, c .before .days-in .ensures .1)
 
-add-t18 : tie.Need-add-t18
-add-t18 c = omega (arith, few-ticks (c .before .days-in .result - 1) ((c .before .days-in .result + 4) / 5) (omega arith) (omega (arith, c .before .days-in .ensures .1)))
+add-t19 : tie.Need-add-t19
+add-t19 c = omega (arith, few-ticks (c .before .days-in .result - 1) ((c .before .days-in .result + 4) / 5) (omega arith) (omega (arith, c .before .days-in .ensures .1)))
 
 returns : tie.Need-returns
-returns c = axis-is (c .before .before .args .first) (c .before .before .args .last) (c .before .days-in .result) (c .minutes-in .result) (c .before .days-in .ensures .0) (c .minutes-in .ensures)
+returns c = axis-is (c .before .before .args .begin) (c .before .before .args .first) (c .before .before .args .last) (c .before .days-in .result) (c .minutes-in .result) (c .before .days-in .ensures .0) (c .minutes-in .ensures)
 
 pub axis-of-spec : {M : Type 1} → statement M
 axis-of-spec =
@@ -81,16 +83,16 @@ axis-of-spec =
     (tie.spec
     days-in-requires
     add-step
-    mul-t6
+    mul-t7
     minutes-in-requires
-    add-t8
-    mul-t9
-    add-t10
-    mul-t11
-    add-t12
-    mul-t13
-    add-t14
-    sub-t16
-    div-t17
-    add-t18
+    add-t9
+    mul-t10
+    add-t11
+    mul-t12
+    add-t13
+    mul-t14
+    add-t15
+    sub-t17
+    div-t18
+    add-t19
     returns)

@@ -49,7 +49,7 @@ slice-aggregate-put-word-2 : tie.Need-slice-aggregate-put-word-2
 slice-aggregate-put-word-2 c = search needs
 
 put-word-requires-2 : tie.Need-put-word-requires-2
-put-word-requires-2 c κs = omega (arith, c .before .before .before .before .before .before .before .before .before .before .before .before .before .before .before .before .before .before .before .before .before .before .before .before .before .before .before .before .before .pre, c .before .before .before .before .before .before .before .before .before .before .before .before .before .before .before .before .before .before .before .before .before .before .before .before .put-word .ensures .ends, c .before .before .before .before .before .before .before .before .before .before .before .before .before .before .before .before .before .before .before .before .before .before .before .before .put-word .ensures .within, c .before .before .before .before .before .before .before .before .before .before .before .before .before .before .before .before .before .before .before .before .before .before .before .before .put-word .kept .0, c .before .before .before .before .before .before .before .before .before .before .before .before .before .before .before .before .before .before .before .before .put-tick .ensures .ends, c .before .before .before .before .before .before .before .before .before .before .before .before .before .before .before .before .before .before .before .before .put-tick .ensures .within, c .before .before .before .before .before .before .before .before .before .before .before .before .before .before .before .before .before .before .before .before .put-tick .kept .0, c .before .before .before .before .before .before .before .before .before .before .before .before .before .before .before .before .put-tick2 .ensures .ends, c .before .before .before .before .before .before .before .before .before .before .before .before .before .before .before .before .put-tick2 .ensures .within, c .before .before .before .before .before .before .before .before .before .before .before .before .before .before .before .before .put-tick2 .kept .0, c .before .before .before .before .before .before .before .before .before .before .before .before .put-tick3 .ensures .ends, c .before .before .before .before .before .before .before .before .before .before .before .before .put-tick3 .ensures .within, c .before .before .before .before .before .before .before .before .before .before .before .before .put-tick3 .kept .0, c .before .before .before .before .before .before .before .before .put-tick4 .ensures .ends, c .before .before .before .before .before .before .before .before .put-tick4 .ensures .within, c .before .before .before .before .before .before .before .before .put-tick4 .kept .0, c .before .before .before .before .put-tick5 .ensures .ends, c .before .before .before .before .put-tick5 .ensures .within, c .before .before .before .before .put-tick5 .kept .0)
+put-word-requires-2 c κs = omega (arith, c .before .before .before .before .before .before .before .before .before .before .before .before .before .before .before .before .before .before .before .before .before .before .before .before .before .before .before .before .before .before .pre, c .before .before .before .before .before .before .before .before .before .before .before .before .before .before .before .before .before .before .before .before .before .before .before .before .put-word .ensures .ends, c .before .before .before .before .before .before .before .before .before .before .before .before .before .before .before .before .before .before .before .before .before .before .before .before .put-word .ensures .within, c .before .before .before .before .before .before .before .before .before .before .before .before .before .before .before .before .before .before .before .before .before .before .before .before .put-word .kept .0, c .before .before .before .before .before .before .before .before .before .before .before .before .before .before .before .before .before .before .before .before .put-tick .ensures .ends, c .before .before .before .before .before .before .before .before .before .before .before .before .before .before .before .before .before .before .before .before .put-tick .ensures .within, c .before .before .before .before .before .before .before .before .before .before .before .before .before .before .before .before .before .before .before .before .put-tick .kept .0, c .before .before .before .before .before .before .before .before .before .before .before .before .before .before .before .before .put-tick2 .ensures .ends, c .before .before .before .before .before .before .before .before .before .before .before .before .before .before .before .before .put-tick2 .ensures .within, c .before .before .before .before .before .before .before .before .before .before .before .before .before .before .before .before .put-tick2 .kept .0, c .before .before .before .before .before .before .before .before .before .before .before .before .put-tick3 .ensures .ends, c .before .before .before .before .before .before .before .before .before .before .before .before .put-tick3 .ensures .within, c .before .before .before .before .before .before .before .before .before .before .before .before .put-tick3 .kept .0, c .before .before .before .before .before .before .before .before .put-tick4 .ensures .ends, c .before .before .before .before .before .before .before .before .put-tick4 .ensures .within, c .before .before .before .before .before .before .before .before .put-tick4 .kept .0, c .before .before .before .before .put-tick5 .ensures .ends, c .before .before .before .before .put-tick5 .ensures .within, c .before .before .before .before .put-tick5 .kept .0)
 
 same-length : tie.Need-same-length
 same-length c = search needs

@@ -8,19 +8,21 @@ use borrow.Author.Tests.{eq-eqb, ne-eqb, lt-ltb, le-ltb}
 use Rattle.listing.specs.Text.{ascii}
 use Rattle.layers.specs.declared.gauge.Gauged.{Gauged}
 use Rattle.summary.specs.Line.{noLevel}
-use Rattle.forms.specs.Words.{levelText, momentText}
+use Rattle.calendar.specs.declared.counting.Day.{Day}
+use Rattle.forms.specs.Days.{momentText}
+use Rattle.forms.specs.Words.{levelText}
 use Rattle.picture.specs.Page.{lastText}
 use borrow.Author.Needs.{needs}
 use Rattle.picture.proofs.figures.put_last.Statement.{statement}
 use Rattle.picture.proofs.figures.put_last.Tie as tie
 
-no-level : (settings : ℕ) (g : Gauged) → g .last ≡ noLevel → ascii "none" ≡ lastText settings g
+no-level : (begin : Day) (settings : ℕ) (g : Gauged) → g .last ≡ noLevel → ascii "none" ≡ lastText begin settings g
 unfolding lastText
-no-level settings g h = simp (eq-eqb (g .last) noLevel h)
+no-level begin settings g h = simp (eq-eqb (g .last) noLevel h)
 
-a-level : (settings : ℕ) (g : Gauged) → (g .last ≡ noLevel → ⊥) → levelText settings (g .last) ++ ascii ", " ++ momentText (g .when) ≡ lastText settings g
+a-level : (begin : Day) (settings : ℕ) (g : Gauged) → (g .last ≡ noLevel → ⊥) → levelText settings (g .last) ++ ascii ", " ++ momentText begin (g .when) ≡ lastText begin settings g
 unfolding lastText
-a-level settings g h = simp (ne-eqb (g .last) noLevel h)
+a-level begin settings g h = simp (ne-eqb (g .last) noLevel h)
 
 slice-aggregate-put-word : tie.Need-slice-aggregate-put-word
 slice-aggregate-put-word c = search needs
@@ -32,7 +34,7 @@ same-length : tie.Need-same-length
 same-length c = search needs
 
 returns : tie.Need-returns
-returns c = at-most (omega arith) (text-is (no-level (c .before .before .before .before .before .before .before .before .args .settings) (c .before .before .before .before .before .before .before .before .args .g) (c .before .before .before .before .before .if1 .taken)) (c .before .before .put-word .ensures))
+returns c = at-most (omega arith) (text-is (no-level (c .before .before .before .before .before .before .before .before .args .begin) (c .before .before .before .before .before .before .before .before .args .settings) (c .before .before .before .before .before .before .before .before .args .g) (c .before .before .before .before .before .if1 .taken)) (c .before .before .put-word .ensures))
 
 put-level-requires : tie.Need-put-level-requires
 put-level-requires c κs = search needs
@@ -50,7 +52,7 @@ same-length-2 : tie.Need-same-length-2
 same-length-2 c = search needs
 
 returns-2 : tie.Need-returns-2
-returns-2 c = at-most (omega arith) (text-is (a-level (c .before .before .before .before .before .before .before .before .before .before .before .before .before .before .before .before .args .settings) (c .before .before .before .before .before .before .before .before .before .before .before .before .before .before .before .before .args .g) (c .before .before .before .before .before .before .before .before .before .before .before .before .before .if1 .left)) (then (then (c .before .before .before .before .before .before .before .before .before .before .before .put-level .ensures) (c .before .before .before .before .before .before .put-word2 .ensures)) (c .before .before .put-moment .ensures)))
+returns-2 c = at-most (omega arith) (text-is (a-level (c .before .before .before .before .before .before .before .before .before .before .before .before .before .before .before .before .args .begin) (c .before .before .before .before .before .before .before .before .before .before .before .before .before .before .before .before .args .settings) (c .before .before .before .before .before .before .before .before .before .before .before .before .before .before .before .before .args .g) (c .before .before .before .before .before .before .before .before .before .before .before .before .before .if1 .left)) (then (then (c .before .before .before .before .before .before .before .before .before .before .before .put-level .ensures) (c .before .before .before .before .before .before .put-word2 .ensures)) (c .before .before .put-moment .ensures)))
 
 pub put-last-spec : {M : Type 1} → statement M
 put-last-spec =

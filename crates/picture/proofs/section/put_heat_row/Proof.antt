@@ -22,10 +22,10 @@ no-heat : (l : List Entry) (a : Axis) (x : Line) (g : Gauged) → g .warm < g .c
 unfolding heatRow
 no-heat l a x g h = simp (lt-ltb (g .warm) (g .cold) h)
 
-some-heat : (l : List Entry) (a : Axis) (x : Line) (g : Gauged) (pair tall : ℕ) → g .cold ≤ g .warm → pair ≡ pairOf x → tall ≡ g .warm - g .cold + 20 → scaleText 1 (x .settings) (g .warm) (g .cold) ++ frameText l pair 1 (x .address) (a .from) (g .warm + 10) (a .span) tall ≡ heatRow l a x g
+some-heat : (l : List Entry) (a : Axis) (x : Line) (g : Gauged) (pair tall : ℕ) → g .cold ≤ g .warm → pair ≡ pairOf x → tall ≡ g .warm - g .cold + 20 → scaleText 1 (x .settings) (g .warm) (g .cold) ++ frameText (a .begin) l pair 1 (x .address) (a .from) (g .warm + 10) (a .span) tall ≡ heatRow l a x g
 unfolding heatRow
 some-heat l a x g pair tall h p t =
-    (λ i. scaleText 1 (x .settings) (g .warm) (g .cold) ++ frameText l (p i) 1 (x .address) (a .from) (g .warm + 10) (a .span) (t i))
+    (λ i. scaleText 1 (x .settings) (g .warm) (g .cold) ++ frameText (a .begin) l (p i) 1 (x .address) (a .from) (g .warm + 10) (a .span) (t i))
     ∙ simp (le-ltb (g .warm) (g .cold) h)
 
 returns : tie.Need-returns
@@ -47,13 +47,13 @@ put-scale-requires : tie.Need-put-scale-requires
 put-scale-requires c κs = search needs
 
 put-frame-requires : tie.Need-put-frame-requires
-put-frame-requires c κs = (c .before .before .before .before .before .before .before .before .before .before .before .before .pre .0, (c .before .before .before .before .before .before .before .before .before .before .before .before .pre .1 .0, omega (arith, many-are (listOf (c .before .before .before .before .before .before .before .before .before .before .before .before .args .sheet .now)) (c .before .before .before .before .before .before .before .before .before .before .before .before .args .x) (c .before .before .before .before .before .before .before .pair-of .result) (c .before .before .before .before .before .before .before .pair-of .ensures), c .before .before .before .before .before .before .before .before .before .before .before .before .pre .1 .1, c .before .before .before .put-scale .ensures .ends, c .before .before .before .put-scale .ensures .within, c .before .before .before .put-scale .kept .0)))
+put-frame-requires c κs = (c .before .before .before .before .before .before .before .before .before .before .before .before .before .pre .0, (c .before .before .before .before .before .before .before .before .before .before .before .before .before .pre .1 .0, omega (arith, many-are (listOf (c .before .before .before .before .before .before .before .before .before .before .before .before .before .args .sheet .now)) (c .before .before .before .before .before .before .before .before .before .before .before .before .before .args .x) (c .before .before .before .before .before .before .before .pair-of .result) (c .before .before .before .before .before .before .before .pair-of .ensures), c .before .before .before .before .before .before .before .before .before .before .before .before .before .pre .1 .1, c .before .before .before .put-scale .ensures .ends, c .before .before .before .put-scale .ensures .within, c .before .before .before .put-scale .kept .0)))
 
 same-length : tie.Need-same-length
 same-length c = search needs
 
 returns-2 : tie.Need-returns-2
-returns-2 c = at-most (omega (arith, many-are (listOf (c .before .before .before .before .before .before .before .before .before .before .before .before .before .before .before .args .sheet .now)) (c .before .before .before .before .before .before .before .before .before .before .before .before .before .before .before .args .x) (c .before .before .before .before .before .before .before .before .before .before .pair-of .result) (c .before .before .before .before .before .before .before .before .before .before .pair-of .ensures))) (text-is (some-heat (listOf (c .before .before .before .before .before .before .before .before .before .before .before .before .before .before .before .args .sheet .now)) (c .before .before .before .before .before .before .before .before .before .before .before .before .before .before .before .args .a) (c .before .before .before .before .before .before .before .before .before .before .before .before .before .before .before .args .x) (c .before .before .before .before .before .before .before .before .before .before .before .before .before .before .before .args .g) (c .before .before .before .before .before .before .before .before .before .before .pair-of .result) (c .before .before .before .before .before .before .before .before .before .height .result) (c .before .before .before .before .before .before .before .before .before .before .before .if1 .left) (c .before .before .before .before .before .before .before .before .before .before .pair-of .ensures) (c .before .before .before .before .before .before .before .before .before .height .ensures)) (then (c .before .before .before .before .before .before .put-scale .ensures) (c .before .before .put-frame .ensures)))
+returns-2 c = at-most (omega (arith, many-are (listOf (c .before .before .before .before .before .before .before .before .before .before .before .before .before .before .before .before .args .sheet .now)) (c .before .before .before .before .before .before .before .before .before .before .before .before .before .before .before .before .args .x) (c .before .before .before .before .before .before .before .before .before .before .pair-of .result) (c .before .before .before .before .before .before .before .before .before .before .pair-of .ensures))) (text-is (some-heat (listOf (c .before .before .before .before .before .before .before .before .before .before .before .before .before .before .before .before .args .sheet .now)) (c .before .before .before .before .before .before .before .before .before .before .before .before .before .before .before .before .args .a) (c .before .before .before .before .before .before .before .before .before .before .before .before .before .before .before .before .args .x) (c .before .before .before .before .before .before .before .before .before .before .before .before .before .before .before .before .args .g) (c .before .before .before .before .before .before .before .before .before .before .pair-of .result) (c .before .before .before .before .before .before .before .before .before .height .result) (c .before .before .before .before .before .before .before .before .before .before .before .before .if1 .left) (c .before .before .before .before .before .before .before .before .before .before .pair-of .ensures) (c .before .before .before .before .before .before .before .before .before .height .ensures)) (then (c .before .before .before .before .before .before .put-scale .ensures) (c .before .before .put-frame .ensures)))
 
 pub put-heat-row-spec : {M : Type 1} → statement M
 put-heat-row-spec =

@@ -22,10 +22,10 @@ no-good : (l : List Entry) (a : Axis) (x : Line) → x .good ≡ 0 → ascii "<p
 unfolding levelRow
 no-good l a x h = simp (eq-eqb (x .good) 0 h)
 
-some-good : (l : List Entry) (a : Axis) (x : Line) (pair tall : ℕ) → (x .good ≡ 0 → ⊥) → pair ≡ pairOf x → tall ≡ x .highest - x .lowest + 2 → scaleText 0 (x .settings) (x .highest) (x .lowest) ++ frameText l pair 0 (x .address) (a .from) (x .highest + 1) (a .span) tall ≡ levelRow l a x
+some-good : (l : List Entry) (a : Axis) (x : Line) (pair tall : ℕ) → (x .good ≡ 0 → ⊥) → pair ≡ pairOf x → tall ≡ x .highest - x .lowest + 2 → scaleText 0 (x .settings) (x .highest) (x .lowest) ++ frameText (a .begin) l pair 0 (x .address) (a .from) (x .highest + 1) (a .span) tall ≡ levelRow l a x
 unfolding levelRow
 some-good l a x pair tall h p t =
-    (λ i. scaleText 0 (x .settings) (x .highest) (x .lowest) ++ frameText l (p i) 0 (x .address) (a .from) (x .highest + 1) (a .span) (t i))
+    (λ i. scaleText 0 (x .settings) (x .highest) (x .lowest) ++ frameText (a .begin) l (p i) 0 (x .address) (a .from) (x .highest + 1) (a .span) (t i))
     ∙ simp (ne-eqb (x .good) 0 h)
 
 slice-aggregate-put-word : tie.Need-slice-aggregate-put-word
@@ -56,13 +56,13 @@ put-scale-requires : tie.Need-put-scale-requires
 put-scale-requires c κs = search needs
 
 put-frame-requires : tie.Need-put-frame-requires
-put-frame-requires c κs = (c .before .before .before .before .before .before .before .before .before .before .before .before .pre .0, (c .before .before .before .before .before .before .before .before .before .before .before .before .pre .1 .0, omega (arith, many-are (listOf (c .before .before .before .before .before .before .before .before .before .before .before .before .args .sheet .now)) (c .before .before .before .before .before .before .before .before .before .before .before .before .args .x) (c .before .before .before .before .before .before .before .pair-of .result) (c .before .before .before .before .before .before .before .pair-of .ensures), c .before .before .before .before .before .before .before .before .before .before .before .before .pre .1 .1, c .before .before .before .put-scale .ensures .ends, c .before .before .before .put-scale .ensures .within, c .before .before .before .put-scale .kept .0)))
+put-frame-requires c κs = (c .before .before .before .before .before .before .before .before .before .before .before .before .before .pre .0, (c .before .before .before .before .before .before .before .before .before .before .before .before .before .pre .1 .0, omega (arith, many-are (listOf (c .before .before .before .before .before .before .before .before .before .before .before .before .before .args .sheet .now)) (c .before .before .before .before .before .before .before .before .before .before .before .before .before .args .x) (c .before .before .before .before .before .before .before .pair-of .result) (c .before .before .before .before .before .before .before .pair-of .ensures), c .before .before .before .before .before .before .before .before .before .before .before .before .before .pre .1 .1, c .before .before .before .put-scale .ensures .ends, c .before .before .before .put-scale .ensures .within, c .before .before .before .put-scale .kept .0)))
 
 same-length-2 : tie.Need-same-length-2
 same-length-2 c = search needs
 
 returns-2 : tie.Need-returns-2
-returns-2 c = at-most (omega (arith, many-are (listOf (c .before .before .before .before .before .before .before .before .before .before .before .before .before .before .before .args .sheet .now)) (c .before .before .before .before .before .before .before .before .before .before .before .before .before .before .before .args .x) (c .before .before .before .before .before .before .before .before .before .before .pair-of .result) (c .before .before .before .before .before .before .before .before .before .before .pair-of .ensures))) (text-is (some-good (listOf (c .before .before .before .before .before .before .before .before .before .before .before .before .before .before .before .args .sheet .now)) (c .before .before .before .before .before .before .before .before .before .before .before .before .before .before .before .args .a) (c .before .before .before .before .before .before .before .before .before .before .before .before .before .before .before .args .x) (c .before .before .before .before .before .before .before .before .before .before .pair-of .result) (c .before .before .before .before .before .before .before .before .before .height .result) (c .before .before .before .before .before .before .before .before .before .before .before .if1 .left) (c .before .before .before .before .before .before .before .before .before .before .pair-of .ensures) (c .before .before .before .before .before .before .before .before .before .height .ensures)) (then (c .before .before .before .before .before .before .put-scale .ensures) (c .before .before .put-frame .ensures)))
+returns-2 c = at-most (omega (arith, many-are (listOf (c .before .before .before .before .before .before .before .before .before .before .before .before .before .before .before .before .args .sheet .now)) (c .before .before .before .before .before .before .before .before .before .before .before .before .before .before .before .before .args .x) (c .before .before .before .before .before .before .before .before .before .before .pair-of .result) (c .before .before .before .before .before .before .before .before .before .before .pair-of .ensures))) (text-is (some-good (listOf (c .before .before .before .before .before .before .before .before .before .before .before .before .before .before .before .before .args .sheet .now)) (c .before .before .before .before .before .before .before .before .before .before .before .before .before .before .before .before .args .a) (c .before .before .before .before .before .before .before .before .before .before .before .before .before .before .before .before .args .x) (c .before .before .before .before .before .before .before .before .before .before .pair-of .result) (c .before .before .before .before .before .before .before .before .before .height .result) (c .before .before .before .before .before .before .before .before .before .before .before .before .if1 .left) (c .before .before .before .before .before .before .before .before .before .before .pair-of .ensures) (c .before .before .before .before .before .before .before .before .before .height .ensures)) (then (c .before .before .before .before .before .before .put-scale .ensures) (c .before .before .put-frame .ensures)))
 
 pub put-level-row-spec : {M : Type 1} → statement M
 put-level-row-spec =

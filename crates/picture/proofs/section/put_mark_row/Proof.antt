@@ -16,9 +16,9 @@ use borrow.Author.Needs.{needs}
 use Rattle.picture.proofs.section.put_mark_row.Statement.{statement}
 use Rattle.picture.proofs.section.put_mark_row.Tie as tie
 
-a-row : (l : List Entry) (a : Axis) (x : Line) (layer pair : ℕ) → pair ≡ pairOf x → scaleText layer 0 0 0 ++ frameText l pair layer (x .address) (a .from) 0 (a .span) 1 ≡ markRow l a x layer
+a-row : (l : List Entry) (a : Axis) (x : Line) (layer pair : ℕ) → pair ≡ pairOf x → scaleText layer 0 0 0 ++ frameText (a .begin) l pair layer (x .address) (a .from) 0 (a .span) 1 ≡ markRow l a x layer
 unfolding markRow
-a-row l a x layer pair p = ap (λ (j : ℕ). scaleText layer 0 0 0 ++ frameText l j layer (x .address) (a .from) 0 (a .span) 1) p
+a-row l a x layer pair p = ap (λ (j : ℕ). scaleText layer 0 0 0 ++ frameText (a .begin) l j layer (x .address) (a .from) 0 (a .span) 1) p
 
 pair-of-requires : tie.Need-pair-of-requires
 pair-of-requires c κs = search needs
@@ -27,13 +27,13 @@ put-scale-requires : tie.Need-put-scale-requires
 put-scale-requires c κs = search needs
 
 put-frame-requires : tie.Need-put-frame-requires
-put-frame-requires c κs = (c .before .before .before .before .before .before .before .before .pre .0, (c .before .before .before .before .before .before .before .before .pre .1 .0, omega (arith, many-are (listOf (c .before .before .before .before .before .before .before .before .args .sheet .now)) (c .before .before .before .before .before .before .before .before .args .x) (c .before .before .before .before .before .pair-of .result) (c .before .before .before .before .before .pair-of .ensures), c .before .before .before .before .before .before .before .before .pre .1 .1, c .before .before .before .put-scale .ensures .ends, c .before .before .before .put-scale .ensures .within, c .before .before .before .put-scale .kept .0)))
+put-frame-requires c κs = (c .before .before .before .before .before .before .before .before .before .pre .0, (c .before .before .before .before .before .before .before .before .before .pre .1 .0, omega (arith, many-are (listOf (c .before .before .before .before .before .before .before .before .before .args .sheet .now)) (c .before .before .before .before .before .before .before .before .before .args .x) (c .before .before .before .before .before .pair-of .result) (c .before .before .before .before .before .pair-of .ensures), c .before .before .before .before .before .before .before .before .before .pre .1 .1, c .before .before .before .put-scale .ensures .ends, c .before .before .before .put-scale .ensures .within, c .before .before .before .put-scale .kept .0)))
 
 same-length : tie.Need-same-length
 same-length c = search needs
 
 returns : tie.Need-returns
-returns c = at-most (omega (arith, many-are (listOf (c .before .before .before .before .before .before .before .before .before .before .before .args .sheet .now)) (c .before .before .before .before .before .before .before .before .before .before .before .args .x) (c .before .before .before .before .before .before .before .before .pair-of .result) (c .before .before .before .before .before .before .before .before .pair-of .ensures))) (text-is (a-row (listOf (c .before .before .before .before .before .before .before .before .before .before .before .args .sheet .now)) (c .before .before .before .before .before .before .before .before .before .before .before .args .a) (c .before .before .before .before .before .before .before .before .before .before .before .args .x) (c .before .before .before .before .before .before .before .before .before .before .before .args .layer) (c .before .before .before .before .before .before .before .before .pair-of .result) (c .before .before .before .before .before .before .before .before .pair-of .ensures)) (then (c .before .before .before .before .before .before .put-scale .ensures) (c .before .before .put-frame .ensures)))
+returns c = at-most (omega (arith, many-are (listOf (c .before .before .before .before .before .before .before .before .before .before .before .before .args .sheet .now)) (c .before .before .before .before .before .before .before .before .before .before .before .before .args .x) (c .before .before .before .before .before .before .before .before .pair-of .result) (c .before .before .before .before .before .before .before .before .pair-of .ensures))) (text-is (a-row (listOf (c .before .before .before .before .before .before .before .before .before .before .before .before .args .sheet .now)) (c .before .before .before .before .before .before .before .before .before .before .before .before .args .a) (c .before .before .before .before .before .before .before .before .before .before .before .before .args .x) (c .before .before .before .before .before .before .before .before .before .before .before .before .args .layer) (c .before .before .before .before .before .before .before .before .pair-of .result) (c .before .before .before .before .before .before .before .before .pair-of .ensures)) (then (c .before .before .before .before .before .before .put-scale .ensures) (c .before .before .put-frame .ensures)))
 
 pub put-mark-row-spec : {M : Type 1} → statement M
 put-mark-row-spec =

@@ -9,9 +9,6 @@ use borrow.Author.Needs.{needs}
 use Rattle.picture.proofs.top.put_counts.Statement.{statement}
 use Rattle.picture.proofs.top.put_counts.Tie as tie
 
-cast-t11 : tie.Need-cast-t11
-cast-t11 c = search needs
-
 cast-t12 : tie.Need-cast-t12
 cast-t12 c = search needs
 
@@ -20,6 +17,9 @@ cast-t13 c = search needs
 
 cast-t14 : tie.Need-cast-t14
 cast-t14 c = search needs
+
+cast-t15 : tie.Need-cast-t15
+cast-t15 c = search needs
 
 slice-aggregate-put-word : tie.Need-slice-aggregate-put-word
 slice-aggregate-put-word c = search needs
@@ -53,10 +53,10 @@ pub put-counts-spec : {M : Type 1} → statement M
 put-counts-spec =
     tie.close
     (tie.spec
-    cast-t11
     cast-t12
     cast-t13
     cast-t14
+    cast-t15
     slice-aggregate-put-word
     put-word-requires
     put-word-requires-2

@@ -7,19 +7,20 @@ use Rattle.listing.proofs.Putting.{then, text-is, at-most, nothing-put}
 use borrow.Author.Tests.{eq-eqb, ne-eqb, lt-ltb, le-ltb}
 use Rattle.listing.specs.Text.{ascii}
 use Rattle.cards.specs.declared.counting.Tally.{Tally}
-use Rattle.forms.specs.Words.{momentText}
+use Rattle.calendar.specs.declared.counting.Day.{Day}
+use Rattle.forms.specs.Days.{momentText}
 use Rattle.picture.specs.Page.{whenText}
 use borrow.Author.Needs.{needs}
 use Rattle.picture.proofs.top.put_when.Statement.{statement}
 use Rattle.picture.proofs.top.put_when.Tie as tie
 
-no-record : (t : Tally) → t .records ≡ 0 → ascii "no record" ≡ whenText t
+no-record : (begin : Day) (t : Tally) → t .records ≡ 0 → ascii "no record" ≡ whenText begin t
 unfolding whenText
-no-record t h = simp (eq-eqb (t .records) 0 h)
+no-record begin t h = simp (eq-eqb (t .records) 0 h)
 
-from-to : (t : Tally) → (t .records ≡ 0 → ⊥) → momentText (t .first) ++ ascii " to " ++ momentText (t .last) ≡ whenText t
+from-to : (begin : Day) (t : Tally) → (t .records ≡ 0 → ⊥) → momentText begin (t .first) ++ ascii " to " ++ momentText begin (t .last) ≡ whenText begin t
 unfolding whenText
-from-to t h = simp (ne-eqb (t .records) 0 h)
+from-to begin t h = simp (ne-eqb (t .records) 0 h)
 
 slice-aggregate-put-word : tie.Need-slice-aggregate-put-word
 slice-aggregate-put-word c = search needs
@@ -31,7 +32,7 @@ same-length : tie.Need-same-length
 same-length c = search needs
 
 returns : tie.Need-returns
-returns c = at-most (omega arith) (text-is (no-record (c .before .before .before .before .before .before .before .before .args .t) (c .before .before .before .before .before .if1 .taken)) (c .before .before .put-word .ensures))
+returns c = at-most (omega arith) (text-is (no-record (c .before .before .before .before .before .before .before .before .args .begin) (c .before .before .before .before .before .before .before .before .args .t) (c .before .before .before .before .before .if1 .taken)) (c .before .before .put-word .ensures))
 
 put-moment-requires : tie.Need-put-moment-requires
 put-moment-requires c κs = search needs
@@ -49,7 +50,7 @@ same-length-2 : tie.Need-same-length-2
 same-length-2 c = search needs
 
 returns-2 : tie.Need-returns-2
-returns-2 c = at-most (omega arith) (text-is (from-to (c .before .before .before .before .before .before .before .before .before .before .before .before .before .before .before .before .args .t) (c .before .before .before .before .before .before .before .before .before .before .before .before .before .if1 .left)) (then (then (c .before .before .before .before .before .before .before .before .before .before .before .put-moment .ensures) (c .before .before .before .before .before .before .put-word2 .ensures)) (c .before .before .put-moment2 .ensures)))
+returns-2 c = at-most (omega arith) (text-is (from-to (c .before .before .before .before .before .before .before .before .before .before .before .before .before .before .before .before .args .begin) (c .before .before .before .before .before .before .before .before .before .before .before .before .before .before .before .before .args .t) (c .before .before .before .before .before .before .before .before .before .before .before .before .before .if1 .left)) (then (then (c .before .before .before .before .before .before .before .before .before .before .before .put-moment .ensures) (c .before .before .before .before .before .before .put-word2 .ensures)) (c .before .before .put-moment2 .ensures)))
 
 pub put-when-spec : {M : Type 1} → statement M
 put-when-spec =

@@ -28,6 +28,7 @@ use Rattle.summary.proofs.Pages.{lines-page}
 use Rattle.summary.proofs.Seen.{few-slots}
 use Rattle.listing.specs.Text.{ascii}
 use Rattle.listing.proofs.Putting.{then, text-is, at-most}
+use Rattle.calendar.specs.declared.counting.Day.{Day}
 use Rattle.picture.specs.declared.axis.Axis.{Axis}
 use Rattle.picture.specs.Axis.{axisOf}
 use Rattle.picture.specs.Page.{styleText, topText, sectionsText, linesFor, pageOf}
@@ -79,7 +80,7 @@ module _ (s : List ℕ) (y : Summary) (is : y ≡ page (outside (keptPairs (list
   lines-are : take (y .count) (y .lines) ≡ linesFor l
   lines-are = ap linesOf is ∙ lines-page others (linesFor l)
 
-  room : roomOf l (take (y .count) (y .lines)) ≤ 138000 + 828 * slots s
+  room : roomOf l (take (y .count) (y .lines)) ≤ 138000 + 624 * slots s
   room =
       let kept : length (inOrder (keptPairs l)) ≤ 30 = omega (arith, length-order (keptPairs l) (once-take 30 (pairsOf l) (once-pairs l)), length-take 30 (pairsOf l)) in
       let same : roomOf l (take (y .count) (y .lines)) ≡ roomOf l (linesFor l) = ap (roomOf l) lines-are in
@@ -106,11 +107,11 @@ small s t size e =
     rw e (omega (arith, n, k), (omega (arith, n, f), (omega (arith, n, f), omega (arith, n, f))))
 
 -- the parts of the page are the page
-page-is : (s name note : List ℕ) (t : Tally) (left : ℕ) (a : Axis) (ls : List Line) → t ≡ tallyOf s → left ≡ outside (keptPairs (listOf s)) (listOf s) → a ≡ axisOf (t .first) (t .last) → ls ≡ linesFor (listOf s) → styleText name ++ topText name note t left a ++ sectionsText (listOf s) a ls ++ ascii "</main></body></html>\n" ≡ pageOf s name note
+page-is : (s name : List ℕ) (begin : Day) (t : Tally) (left : ℕ) (a : Axis) (ls : List Line) → t ≡ tallyOf s → left ≡ outside (keptPairs (listOf s)) (listOf s) → a ≡ axisOf begin (t .first) (t .last) → ls ≡ linesFor (listOf s) → styleText name ++ topText name t left a ++ sectionsText (listOf s) a ls ++ ascii "</main></body></html>\n" ≡ pageOf s name begin
 unfolding pageOf
-page-is s name note t left a ls e b g h =
-    let w : a ≡ axisOf (tallyOf s .first) (tallyOf s .last) = g ∙ ap (λ (z : Tally). axisOf (z .first) (z .last)) e in
-    λ i. styleText name ++ topText name note (e i) (b i) (w i) ++ sectionsText (listOf s) (w i) (h i) ++ ascii "</main></body></html>\n"
+page-is s name begin t left a ls e b g h =
+    let w : a ≡ axisOf begin (tallyOf s .first) (tallyOf s .last) = g ∙ ap (λ (z : Tally). axisOf begin (z .first) (z .last)) e in
+    λ i. styleText name ++ topText name (e i) (b i) (w i) ++ sectionsText (listOf s) (w i) (h i) ++ ascii "</main></body></html>\n"
 
 sisal-summary-of-requires : tie.Need-sisal-summary-of-requires
 sisal-summary-of-requires c κs = search needs
@@ -122,11 +123,11 @@ axis-of-requires : tie.Need-axis-of-requires
 axis-of-requires c κs = search needs
 
 put-style-requires : tie.Need-put-style-requires
-put-style-requires c κs = omega (arith, c .before .before .before .before .before .before .before .before .before .before .pre .1 .1)
+put-style-requires c κs = omega (arith, c .before .before .before .before .before .before .before .before .before .pre .1 .1)
 
 put-top-requires : tie.Need-put-top-requires
 put-top-requires c κs =
-    let start = c .before .before .before .before .before .before .before .before .before .before .before .before .before .before in
+    let start = c .before .before .before .before .before .before .before .before .before .before .before .before .before in
     let b = small (start .args .sheet .now) (c .before .before .before .before .before .before .count .result) (start .pre .0) (c .before .before .before .before .before .before .count .ensures) in
     (b .0, (b .1 .0, (b .1 .1 .0, (b .1 .1 .1, omega (arith, start .pre .1 .1, c .before .before .before .put-style .ensures .ends, c .before .before .before .put-style .ensures .within, c .before .before .before .put-style .kept .0)))))
 
@@ -135,7 +136,7 @@ cast-put-sections c = search needs
 
 put-sections-requires : tie.Need-put-sections-requires
 put-sections-requires c κs =
-    let start = c .before .before .before .before .before .before .before .before .before .before .before .before .before .before .before .before .before .before .before in
+    let start = c .before .before .before .before .before .before .before .before .before .before .before .before .before .before .before .before .before .before in
     let s = start .args .sheet .now in
     let made = c .before .before .before .before .before .before .before .before .before .before .before .before .before .before .sisal-summary-of in
     let y = made .result .summary in
@@ -147,7 +148,7 @@ slice-aggregate-put-word c = search needs
 
 put-word-requires : tie.Need-put-word-requires
 put-word-requires c κs =
-    let start = c .before .before .before .before .before .before .before .before .before .before .before .before .before .before .before .before .before .before .before .before .before .before .before .before in
+    let start = c .before .before .before .before .before .before .before .before .before .before .before .before .before .before .before .before .before .before .before .before .before .before .before in
     let s = start .args .sheet .now in
     let made = c .before .before .before .before .before .before .before .before .before .before .before .before .before .before .before .before .before .before .before .sisal-summary-of in
     let y = made .result .summary in
@@ -159,14 +160,14 @@ same-length c = search needs
 
 returns : tie.Need-returns
 returns c =
-    let start = c .before .before .before .before .before .before .before .before .before .before .before .before .before .before .before .before .before .before .before .before .before .before .before .before .before .before .before in
+    let start = c .before .before .before .before .before .before .before .before .before .before .before .before .before .before .before .before .before .before .before .before .before .before .before .before .before .before in
     let s = start .args .sheet .now in
     let made = c .before .before .before .before .before .before .before .before .before .before .before .before .before .before .before .before .before .before .before .before .before .before .sisal-summary-of in
     let y = made .result .summary in
     let is = made-is s (made .result) (start .pre .0) (made .ensures) in
     let t = c .before .before .before .before .before .before .before .before .before .before .before .before .before .before .before .before .before .before .before .count in
     let axis = c .before .before .before .before .before .before .before .before .before .before .before .before .before .before .before .before .before .before .axis-of in
-    let whole = page-is s (start .args .name .now) (start .args .note .now) (t .result) (y .others) (axis .result) (take (y .count) (y .lines)) (t .ensures) (others-are s y is) (axis .ensures) (lines-are s y is) in
+    let whole = page-is s (start .args .name .now) (start .args .begin) (t .result) (y .others) (axis .result) (take (y .count) (y .lines)) (t .ensures) (others-are s y is) (axis .ensures) (lines-are s y is) in
     at-most (omega (arith, room s y is, start .pre .1 .0)) (text-is whole (then (then (then (c .before .before .before .before .before .before .before .before .before .before .before .before .before .before .before .before .put-style .ensures) (c .before .before .before .before .before .before .before .before .before .before .before .before .put-top .ensures)) (c .before .before .before .before .before .before .before .put-sections .ensures)) (c .before .before .put-word .ensures)))
 
 pub put-page-spec : {M : Type 1} → statement M

@@ -48,7 +48,7 @@ text-none : (l : List Entry) (a : Axis) → sectionsText l a [] ≡ []
 unfolding sectionsText
 text-none l a = refl
 
-room-next : (l : List Entry) (x : Line) (xs : List Line) → roomOf l (x ∷ xs) ≡ 4600 + 828 * length (ofPair (pairOf x) l) + roomOf l xs
+room-next : (l : List Entry) (x : Line) (xs : List Line) → roomOf l (x ∷ xs) ≡ 4600 + 624 * length (ofPair (pairOf x) l) + roomOf l xs
 unfolding roomOf
 room-next l x xs = refl
 
@@ -68,18 +68,18 @@ module _ (out₀ : List ℕ) (at : ℕ) (l : List Entry) (a : Axis) (lines : Lis
   abbrev rest : List Line
   rest = drop (i + 1) (take count lines)
 
-  next-room : roomOf l (drop i (take count lines)) ≡ 4600 + 828 * length (ofPair (pairOf line) l) + roomOf l rest
+  next-room : roomOf l (drop i (take count lines)) ≡ 4600 + 624 * length (ofPair (pairOf line) l) + roomOf l rest
   next-room = ap (roomOf l) (next-line lines count i near inside) ∙ room-next l line rest
 
-  enough : at + roomOf l (take count lines) ≤ length out₀ → end + 4600 + 828 * length (ofPair (pairOf line) l) ≤ length out
+  enough : at + roomOf l (take count lines) ≤ length out₀ → end + 4600 + 624 * length (ofPair (pairOf line) l) ≤ length out
   enough h = omega (arith, next-room, f .room, f .put .ends, f .put .within, f .kept)
 
-  more : (mid : List ℕ) (next : ℕ) → length mid ≡ length out → Puts (sectionText l a line) (4600 + 828 * length (ofPair (pairOf line) l)) out end next mid → Sectioned out₀ at l a lines count mid next (i + 1)
+  more : (mid : List ℕ) (next : ℕ) → length mid ≡ length out → Puts (sectionText l a line) (4600 + 624 * length (ofPair (pairOf line) l)) out end next mid → Sectioned out₀ at l a lines count mid next (i + 1)
   more mid next same put =
       record {
         so-far = omega arith;
         kept = same ∙ f .kept;
-        most = f .most + (4600 + 828 * length (ofPair (pairOf line) l));
+        most = f .most + (4600 + 624 * length (ofPair (pairOf line) l));
         text = f .text ++ sectionText l a line;
         put = then (f .put) put;
         room = omega (arith, next-room, f .room);
