@@ -1,2 +1,5 @@
--- The theorem of the promise.
+-- The theorems of the promises.
 pub mod DrawnAsListed
+pub mod Read
+pub mod PlainWords
+pub mod PageAsListed
