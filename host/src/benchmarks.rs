@@ -383,7 +383,7 @@ mod tests {
         }
     }
 
-    /// Each case of document 02's requests runs, with one side on both.
+    /// Each case of the requests runs, with one side on both.
     #[test]
     fn every_case_of_the_requests_is_timed() {
         let benchmarks = at_once();

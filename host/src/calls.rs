@@ -1,5 +1,5 @@
-//! The calls of a recorder core: document 01's as one trait, each request's of document 02 as one
-//! of its own.
+//! The calls of a recorder core: document 01's as one trait, those of each request, of document 02
+//! or our own, as one of its own.
 //!
 //! Comparisons and benchmarks are written once over these traits. Two sides implement them: the
 //! independent reading in this package, and the wrapper of the proved library.

@@ -2,7 +2,7 @@
 //!
 //! * [`types`] and [`calls`]: the values of documents 01 and 02 and the traits through which
 //!   everything below reaches a recorder core: [`Core`] for document 01, and one for each request
-//!   of document 02 that adds calls.
+//!   that adds calls, of document 02 or our own.
 //! * [`library`]: the proved library, wrapped so that it is called with these types. It is there
 //!   on x86-64 alone, which is all that the library is compiled for.
 //! * [`reading`]: an independent reading of both documents, written from the paper alone. It is the

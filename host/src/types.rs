@@ -1,5 +1,5 @@
 //! The values that document 01 speaks of, as ordinary Rust types shared by every core; those of
-//! document 02's requests stand in files of their own.
+//! the requests, document 02's and our own, stand in files of their own.
 
 pub mod areas;
 pub mod drawings;
@@ -173,7 +173,7 @@ impl Fault {
     }
 }
 
-/// Every byte's fault; the numbers have gaps while some of document 02's requests are not in.
+/// Every byte's fault: 1 to 38 have one, any other byte has none.
 static BY_NUMBER: [Option<Fault>; 256] = {
     let mut faults = [None; 256];
     let mut place = 0;

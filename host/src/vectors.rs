@@ -1,6 +1,6 @@
-//! Tables of document 02's requests: inputs, and what a core must answer to them. Each is written
-//! once over the traits of the calls and runs on every core, on the independent reading here and
-//! on the proved library in its own tests.
+//! Tables of the requests, document 02's and our own: inputs, and what a core must answer to them.
+//! Each is written once over the traits of the calls and runs on every core, on the independent
+//! reading here and on the proved library in its own tests.
 
 pub mod areas;
 pub mod digits;

@@ -11,7 +11,7 @@ use Rattle.frame.specs.Pick.{pick}
 use Rattle.frame.specs.Faults.{firstOf}
 use Rattle.areas.specs.Site.{isArea}
 use Rattle.areas.specs.Check.{keeps, accepts, checkFault}
-use Rattle.areas.specs.Plan.{first, greedy, rest, planFault}
+use Rattle.areas.specs.Plan.{firstArea, greedy, rest, planFault}
 
 -- The next run of a plan, by what is asked of it.
 pub keeps-step : (s p : List ℕ) (from k n : ℕ) (x y : Bool) → k < length p → getD p k 0 ≡ n → leb n (length (drop from s)) ≡ x → isArea (take n (drop from s)) ≡ y
@@ -26,23 +26,23 @@ unfolding keeps
 keeps-end s p from k e = ap (keeps (drop from s)) (ap (λ (m : ℕ). drop m p) e ∙ drop-length p)
 
 -- The next area that is taken, of so many that may be taken.
-pub greedy-step : (s : List ℕ) (from n j : ℕ) → n ≡ first (drop from s) → eqb n 0 ≡ false → greedy (suc j) (drop from s) ≡ n ∷ greedy j (drop (from + n) s)
+pub greedy-step : (s : List ℕ) (from n j : ℕ) → n ≡ firstArea (drop from s) → eqb n 0 ≡ false → greedy (suc j) (drop from s) ≡ n ∷ greedy j (drop (from + n) s)
 unfolding greedy
 greedy-step s from n j e z =
     ap (λ (m : ℕ). pick (eqb m 0) [] (m ∷ greedy j (drop m (drop from s)))) (sym e)
     ∙ ap (λ (b : Bool). pick b [] (n ∷ greedy j (drop n (drop from s)))) z ∙ ap (λ (l : List ℕ). n ∷ greedy j l) (drop-drop n from s)
 
-pub rest-step : (s : List ℕ) (from n j : ℕ) → n ≡ first (drop from s) → eqb n 0 ≡ false → rest (suc j) (drop from s) ≡ rest j (drop (from + n) s)
+pub rest-step : (s : List ℕ) (from n j : ℕ) → n ≡ firstArea (drop from s) → eqb n 0 ≡ false → rest (suc j) (drop from s) ≡ rest j (drop (from + n) s)
 unfolding rest
 rest-step s from n j e z =
     ap (λ (m : ℕ). pick (eqb m 0) (drop from s) (rest j (drop m (drop from s)))) (sym e)
     ∙ ap (λ (b : Bool). pick b (drop from s) (rest j (drop n (drop from s)))) z ∙ ap (rest j) (drop-drop n from s)
 
-pub greedy-stop : (s : List ℕ) (from j : ℕ) → first (drop from s) ≡ 0 → greedy (suc j) (drop from s) ≡ []
+pub greedy-stop : (s : List ℕ) (from j : ℕ) → firstArea (drop from s) ≡ 0 → greedy (suc j) (drop from s) ≡ []
 unfolding greedy
 greedy-stop s from j e = ap (λ (m : ℕ). pick (eqb m 0) [] (m ∷ greedy j (drop m (drop from s)))) e
 
-pub rest-stop : (s : List ℕ) (from j : ℕ) → first (drop from s) ≡ 0 → rest (suc j) (drop from s) ≡ drop from s
+pub rest-stop : (s : List ℕ) (from j : ℕ) → firstArea (drop from s) ≡ 0 → rest (suc j) (drop from s) ≡ drop from s
 unfolding rest
 rest-stop s from j e = ap (λ (m : ℕ). pick (eqb m 0) (drop from s) (rest j (drop m (drop from s)))) e
 

@@ -6,7 +6,7 @@ ghost use lib.Dec.{eqb};
 ghost use lib.ListN.{length, drop, take, replicate};
 ghost use Rattle.frame.specs.Pick.{pick};
 ghost use Rattle.areas.specs.Site.{feet, tenths};
-ghost use Rattle.areas.specs.Plan.{joins, first, greedy, rest, told, refused};
+ghost use Rattle.areas.specs.Plan.{joins, firstArea, greedy, rest, planTold, refused};
 
 fn feet_of(t: u32) -> u32
     ensures { λ r. ⌜ (r ≡ feet t) × (r ≤ 65535) ⌝ }
@@ -39,7 +39,7 @@ fn may_join(many: usize, far: u32, ohms: u32, t: u32) -> bool
 // How many transmitters the area takes that begins at a place.
 fn area_from(site: &[u32], from: usize) -> usize
     requires { ⌜ from ≤ length (now site) ⌝ }
-    ensures { λ r. ⌜ (r ≡ first (drop from (now (site .entry)))) × (from + r ≤ length (now (site .entry))) × (r ≤ 30) ⌝ }
+    ensures { λ r. ⌜ (r ≡ firstArea (drop from (now (site .entry)))) × (from + r ≤ length (now (site .entry))) × (r ≤ 30) ⌝ }
 {
     let mut far: u32 = 0;
     let mut ohms: u32 = 0;
@@ -83,7 +83,7 @@ fn finished(sizes: [u8; 8], areas: usize, left: usize) -> Plan
 
 // Takes area after area, up to 8, until one takes nothing: then nothing is left, or the next transmitter fits no area.
 pub(crate) fn propose(site: &[u32]) -> Plan
-    ensures { λ r. ⌜ r ≡ pick (eqb (length (rest 8 (now (site .entry)))) 0) (told (greedy 8 (now (site .entry)))) (refused 35) ⌝ }
+    ensures { λ r. ⌜ r ≡ pick (eqb (length (rest 8 (now (site .entry)))) 0) (planTold (greedy 8 (now (site .entry)))) (refused 35) ⌝ }
 {
     let mut sizes = [0u8; 8];
     let mut from = 0;

@@ -14,7 +14,7 @@ use Rattle.board.specs.declared.Row.{Row}
 use Rattle.board.specs.Row.{isFree, freeRow}
 use Rattle.board.specs.Rows.{holds, placeBy, placeOf, placeFree}
 use Rattle.board.proofs.Places.{place-le}
-use Rattle.board.specs.Order.{allFree, keptFrom, kept, pushed, insertRow, closed, withoutRow}
+use Rattle.board.specs.Order.{allFree, inAddressOrderFrom, inAddressOrder, pushed, insertRow, closedUp, withoutRow}
 use Rattle.board.specs.inside.ByValue.{reaches, placeFor, carry, Within, onward, backward}
 use Rattle.board.proofs.Order.{neither, free-holds, used-holds, holds-used, off-head, room-tail, free-front, free-off, First, first-free, first-used, first-of, Put, put-free, put-here, put-behind, put-of, without-by, closed-by}
 
@@ -149,12 +149,12 @@ down-all (suc k) row x y ys =
     ∙ down-all k (getD ys k freeRow) x y (set ys k row)
     ∙ sym (ap (λ (zs : List Row). y ∷ zs) (carry-step 0 1 (suc k) (suc (suc k)) (suc k) (suc k) row (y ∷ ys) (omega arith) (omega arith)))
 
-closed-carry : (x : Row) (rows : List Row) → carry 0 1 (suc (placeFree rows)) (suc (placeFree rows)) freeRow (x ∷ rows) ≡ closed rows
-unfolding closed placeBy
+closed-carry : (x : Row) (rows : List Row) → carry 0 1 (suc (placeFree rows)) (suc (placeFree rows)) freeRow (x ∷ rows) ≡ closedUp rows
+unfolding closedUp placeBy
 closed-carry x [] = carry-step 0 1 0 1 0 0 freeRow (x ∷ []) refl refl ∙ carry-none 0 1 0 x (freeRow ∷ [])
 closed-carry x (row ∷ rows) = go (closed-carry row rows) (isFree row) refl
   where
-    go : carry 0 1 (suc (placeFree rows)) (suc (placeFree rows)) freeRow (row ∷ rows) ≡ closed rows → (t : Bool) → isFree row ≡ t → carry 0 1 (suc (placeFree (row ∷ rows))) (suc (placeFree (row ∷ rows))) freeRow (x ∷ row ∷ rows) ≡ closed (row ∷ rows)
+    go : carry 0 1 (suc (placeFree rows)) (suc (placeFree rows)) freeRow (row ∷ rows) ≡ closedUp rows → (t : Bool) → isFree row ≡ t → carry 0 1 (suc (placeFree (row ∷ rows))) (suc (placeFree (row ∷ rows))) freeRow (x ∷ row ∷ rows) ≡ closedUp (row ∷ rows)
     go rest true e =
         ap (λ (k : ℕ). carry 0 1 (suc k) (suc k) freeRow (x ∷ row ∷ rows)) (free-place true row rows e)
         ∙ carry-step 0 1 0 1 0 0 freeRow (x ∷ row ∷ rows) refl refl
@@ -167,7 +167,7 @@ closed-carry x (row ∷ rows) = go (closed-carry row rows) (isFree row) refl
         ∙ sym (closed-by false row rows e)
 
 -- a row taken out of rows so kept
-pub without-carry : (a least : ℕ) (rows : List Row) → keptFrom least rows ≡ true → placeOf a rows < length rows → carry 0 1 (placeFree rows - placeOf a rows) (placeFree rows) freeRow rows ≡ withoutRow a rows
+pub without-carry : (a least : ℕ) (rows : List Row) → inAddressOrderFrom least rows ≡ true → placeOf a rows < length rows → carry 0 1 (placeFree rows - placeOf a rows) (placeFree rows) freeRow rows ≡ withoutRow a rows
 unfolding placeBy
 without-carry a least [] k l = absurd (omega arith)
 without-carry a least (row ∷ rows) k l = go (without-carry a (suc (row .address)) rows) (holds a row) refl (first-of least row rows k)
@@ -181,7 +181,7 @@ without-carry a least (row ∷ rows) k l = go (without-carry a (suc (row .addres
     all : (m : ℕ) → suc m - 0 ≡ suc m
     all m = omega arith
 
-    go : (keptFrom (suc (row .address)) rows ≡ true → placeOf a rows < length rows → carry 0 1 (placeFree rows - placeOf a rows) (placeFree rows) freeRow rows ≡ withoutRow a rows)
+    go : (inAddressOrderFrom (suc (row .address)) rows ≡ true → placeOf a rows < length rows → carry 0 1 (placeFree rows - placeOf a rows) (placeFree rows) freeRow rows ≡ withoutRow a rows)
         → (t : Bool) → holds a row ≡ t → First least row rows → carry 0 1 (placeFree (row ∷ rows) - placeOf a (row ∷ rows)) (placeFree (row ∷ rows)) freeRow (row ∷ rows) ≡ withoutRow a (row ∷ rows)
     go rest true h (first-free f e) = neither f (holds-used a row h)
     go rest true h (first-used f m e) =

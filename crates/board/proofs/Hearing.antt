@@ -17,7 +17,7 @@ use Rattle.board.specs.declared.value.Change.{Change}
 use Rattle.board.specs.declared.value.Found.{Found}
 use Rattle.board.specs.Row.{heardAt, setsFault}
 use Rattle.board.specs.Rows.{placeOf, rowOf}
-use Rattle.board.specs.Order.{kept}
+use Rattle.board.specs.Order.{inAddressOrder}
 use Rattle.board.specs.Calls.{hearNumber, hearPlace, hearRows}
 use Rattle.board.specs.inside.ByValue.{Finds, Changes, HearsOn, refusal, heardChange}
 use Rattle.board.proofs.Numbers.{hear-read}
@@ -48,7 +48,7 @@ module _ (board : List Row) (minute address count : ℕ) (reply : List ℕ) (c :
       hears board (placeOf address board) row minute (readingAt (row .settings) count (line reply)) level (replyFault (row .settings) address count reply) number c (replyOf (row .settings) address count reply) is refl (hear-read board address count reply a f l) l
 
   -- the same, of what a search found, and of an answer that was given
-  pub hear-changes : (f : Found) (answer : Reply) → Finds board address f → kept board ≡ true → address ≤ 999 → formed count reply ≡ true → f .at < f .n → answer ≡ replyOf (f .row .settings) address count reply → c ≡ heardChange (f .at) (heardAt (f .row) minute) minute answer → HearsAt
+  pub hear-changes : (f : Found) (answer : Reply) → Finds board address f → inAddressOrder board ≡ true → address ≤ 999 → formed count reply ≡ true → f .at < f .n → answer ≡ replyOf (f .row .settings) address count reply → c ≡ heardChange (f .at) (heardAt (f .row) minute) minute answer → HearsAt
   hear-changes f answer finds k a form l w is =
       let same : f .row ≡ rowOf address board = finds .there k l in
       here a form (omega (arith, finds .count, finds .place k))
@@ -58,7 +58,7 @@ module _ (board : List Row) (minute address count : ℕ) (reply : List ℕ) (c :
       ∙ ap (λ (x : Reply). heardChange (placeOf address board) row minute x) (w ∙ ap (λ (y : Row). replyOf (y .settings) address count reply) same))
 
 -- so on every board on which the search finds the same, and 38 on one not so kept
-pub hears-on : (f : Found) (minute address count : ℕ) (reply : List ℕ) (c : Change) → f .kept ≡ true → ((board : List Row) → Finds board address f → kept board ≡ true → HearsAt board minute address count reply c) → HearsOn f minute address count reply c
+pub hears-on : (f : Found) (minute address count : ℕ) (reply : List ℕ) (c : Change) → f .kept ≡ true → ((board : List Row) → Finds board address f → inAddressOrder board ≡ true → HearsAt board minute address count reply c) → HearsOn f minute address count reply c
 hears-on f minute address count reply c k at =
     record {
       changes = record { on = λ board finds. let is = sym (finds .order) ∙ k in so-kept board _ _ c is (at board finds is .0) };

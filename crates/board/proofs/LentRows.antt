@@ -12,7 +12,7 @@ use borrow.Author.Tests.{ltb-true, ltb-false}
 use Rattle.frame.specs.Pick.{pick}
 use Rattle.board.specs.declared.Row.{Row}
 use Rattle.board.specs.Row.{freeRow}
-use Rattle.board.specs.inside.ByValue.{counted, filled}
+use Rattle.board.specs.inside.ByValue.{rowsThatCount, filled}
 
 -- how many bytes a row has
 abbrev pub rowBytes : ℕ
@@ -26,10 +26,10 @@ counted-by : (m : ℕ) (t : Bool) → ltb 30 m ≡ t → (pick t 30 m ≤ m) × 
 counted-by m true e = (omega (arith, ltb-true 30 m e), omega arith)
 counted-by m false e = (omega arith, omega (arith, ltb-false 30 m e))
 
-pub counted-le : (m : ℕ) → counted m ≤ m
+pub counted-le : (m : ℕ) → rowsThatCount m ≤ m
 counted-le m = counted-by m (ltb 30 m) refl .0
 
-pub counted-few : (m : ℕ) → counted m ≤ 30
+pub counted-few : (m : ℕ) → rowsThatCount m ≤ 30
 counted-few m = counted-by m (ltb 30 m) refl .1
 
 module _ {A : Type 0} (ys : List A) where
@@ -38,10 +38,10 @@ module _ {A : Type 0} (ys : List A) where
   take-by false e = take-all (length ys) ys (omega arith) ∙ sym (take-all 30 ys (ltb-false 30 (length ys) e))
 
   -- the rows that count are the first 30
-  pub take-counted : take (counted (length ys)) ys ≡ take 30 ys
+  pub take-counted : take (rowsThatCount (length ys)) ys ≡ take 30 ys
   take-counted = take-by (ltb 30 (length ys)) refl
 
-  pub length-counted : length (take 30 ys) ≡ counted (length ys)
+  pub length-counted : length (take 30 ys) ≡ rowsThatCount (length ys)
   length-counted = ap length (sym take-counted) ∙ simp length-take (omega (arith, counted-le (length ys)))
 
   -- one row more is copied

@@ -18,24 +18,24 @@ use Rattle.board.specs.declared.Row.{Row}
 use Rattle.board.specs.declared.value.Change.{Change}
 use Rattle.board.specs.Gauge.{outsideBy}
 use Rattle.board.specs.Row.{freeRow, withReading, withFault, setsFault}
-use Rattle.board.specs.Order.{kept, inOrder}
+use Rattle.board.specs.Order.{inAddressOrder, ifInOrder}
 use Rattle.board.specs.inside.ByValue.{moved, FitsIn, onward, Changes, changeOf, refusal, heardChange}
 use Rattle.board.proofs.Faults.{sets-7, sets-26}
 use Rattle.board.proofs.Carried.{carry-none, carry-one}
 
 -- On a board not so kept every call answers 38 and changes no row.
-pub out-of-order : (board : List Row) (number : ℕ) (after : List Row) (c : Change) → kept board ≡ false → c ≡ refusal 38 → Changes board (inOrder board number 38) (inOrder board after board) c
+pub out-of-order : (board : List Row) (number : ℕ) (after : List Row) (c : Change) → inAddressOrder board ≡ false → c ≡ refusal 38 → Changes board (ifInOrder board number 38) (ifInOrder board after board) c
 out-of-order board number after c k is = rw (is, k) (record { answers = refl; leaves = carry-none 1 0 0 freeRow board; fits = onward refl refl (omega arith) })
 
 -- On one so kept, what the call does.
-pub so-kept : (board : List Row) (number : ℕ) (after : List Row) (c : Change) → kept board ≡ true → Changes board number after c → Changes board (inOrder board number 38) (inOrder board after board) c
+pub so-kept : (board : List Row) (number : ℕ) (after : List Row) (c : Change) → inAddressOrder board ≡ true → Changes board number after c → Changes board (ifInOrder board number 38) (ifInOrder board after board) c
 so-kept board number after c k made = rw k made
 
 -- What is answered by value, on one so kept and on another.
-pub answered : {A : Type 0} (board : List Row) (answer x y : A) → kept board ≡ true → answer ≡ x → answer ≡ inOrder board x y
+pub answered : {A : Type 0} (board : List Row) (answer x y : A) → inAddressOrder board ≡ true → answer ≡ x → answer ≡ ifInOrder board x y
 answered board answer x y k e = e ∙ sym (ap (λ (t : Bool). pick t x y) k)
 
-pub not-answered : {A : Type 0} (board : List Row) (answer x y : A) → kept board ≡ false → answer ≡ y → answer ≡ inOrder board x y
+pub not-answered : {A : Type 0} (board : List Row) (answer x y : A) → inAddressOrder board ≡ false → answer ≡ y → answer ≡ ifInOrder board x y
 not-answered board answer x y k e = e ∙ sym (ap (λ (t : Bool). pick t x y) k)
 
 module _ (board : List Row) where

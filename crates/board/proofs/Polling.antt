@@ -16,7 +16,7 @@ use Rattle.frame.proofs.Answers.{number-is}
 use Rattle.board.specs.declared.Row.{Row}
 use Rattle.board.specs.declared.value.Found.{Found}
 use Rattle.board.specs.Rows.{boardOf}
-use Rattle.board.specs.Order.{kept}
+use Rattle.board.specs.Order.{inAddressOrder}
 use Rattle.board.specs.Calls.{rowPollNumber, rowPollBytes, PollsRow}
 use Rattle.board.specs.inside.ByValue.{Finds, mayPoll, MayPollOn, WritesOr, orPoll}
 use Rattle.board.proofs.Numbers.{polled}
@@ -51,5 +51,5 @@ module _ (address raise reset : ℕ) (out : List ℕ) where
 
   pub polls-row : (rows : List Row) (f : Found) (number answer : ℕ) (after : List ℕ) → Finds (boardOf rows) address f → MayPollOn f address raise reset number → WritesOr number address raise reset out answer after → PollsRow rows address raise reset out answer after
   polls-row rows f number answer after finds may writes =
-      let p = polls-by (boardOf rows) (kept (boardOf rows)) number answer after (may .on (boardOf rows) finds) writes in
+      let p = polls-by (boardOf rows) (inAddressOrder (boardOf rows)) number answer after (may .on (boardOf rows) finds) writes in
       record { answers = p .0; leaves = p .1 }

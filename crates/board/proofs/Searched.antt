@@ -16,10 +16,10 @@ use Rattle.frame.proofs.Both.{both-left, both-right}
 use Rattle.board.specs.declared.Row.{Row}
 use Rattle.board.specs.Row.{isFree, freeRow}
 use Rattle.board.specs.Rows.{holds, placeBy, placeOf, rowOf, placeFree}
-use Rattle.board.specs.Order.{allFree, keptFrom, kept, insertRow, withoutRow}
+use Rattle.board.specs.Order.{allFree, inAddressOrderFrom, inAddressOrder, insertRow, withoutRow}
 use Rattle.board.specs.declared.value.Found.{Found}
 use Rattle.board.specs.declared.value.Search.{Search}
-use Rattle.board.specs.inside.ByValue.{filled, reaches, placeFor, overFree, overLow, overUsed, passed, searched, unsearched, foundBy, unkept, Finds, carry, Within, onward, backward}
+use Rattle.board.specs.inside.ByValue.{filled, reaches, placeFor, overFree, overLow, overUsed, overRow, searched, unsearched, foundBy, notInOrder, Finds, carry, Within, onward, backward}
 use Rattle.board.proofs.Places.{place-le}
 use Rattle.board.proofs.Order.{neither, free-holds, used-holds, off-cons, free-front, free-off, low-off, First, first-free, first-used, first-of}
 use Rattle.board.proofs.Carried.{free-place, for-place, of-place, or-left, or-right, insert-carry, without-carry}
@@ -40,20 +40,20 @@ low-by s m false true v e = refl
 low-by s m false false v e = e
 
 module _ (a : ℕ) (s : Search) (row : Row) where
-  pass-free : isFree row ≡ true → passed a s row ≡ overFree s
+  pass-free : isFree row ≡ true → overRow a s row ≡ overFree s
   pass-free f = ap (λ (t : Bool). pick t (overFree s) (pick (ltb (row .address) (s .least)) (overLow s) (overUsed a s row))) f
 
-  in-use : isFree row ≡ false → passed a s row ≡ pick (ltb (row .address) (s .least)) (overLow s) (overUsed a s row)
+  in-use : isFree row ≡ false → overRow a s row ≡ pick (ltb (row .address) (s .least)) (overLow s) (overUsed a s row)
   in-use f = ap (λ (t : Bool). pick t (overFree s) (pick (ltb (row .address) (s .least)) (overLow s) (overUsed a s row))) f
 
-  pass-low : isFree row ≡ false → ltb (row .address) (s .least) ≡ true → passed a s row ≡ overLow s
+  pass-low : isFree row ≡ false → ltb (row .address) (s .least) ≡ true → overRow a s row ≡ overLow s
   pass-low f l = in-use f ∙ ap (λ (t : Bool). pick t (overLow s) (overUsed a s row)) l
 
-  pass-used : isFree row ≡ false → s .least ≤ row .address → passed a s row ≡ overUsed a s row
+  pass-used : isFree row ≡ false → s .least ≤ row .address → overRow a s row ≡ overUsed a s row
   pass-used f l = in-use f ∙ ap (λ (t : Bool). pick t (overLow s) (overUsed a s row)) (le-ltb (row .address) (s .least) l)
 
   -- the counts stay in bounds
-  pub pass-bounds : (i : ℕ) → s .vacant + s .below ≤ i → passed a s row .vacant + passed a s row .below ≤ i + 1
+  pub pass-bounds : (i : ℕ) → s .vacant + s .below ≤ i → overRow a s row .vacant + overRow a s row .below ≤ i + 1
   pass-bounds i l = bounds-by s (row .address + 1) i (isFree row) (ltb (row .address) (s .least)) (ltb (row .address) a) l
 
 -- Once a row was out of order, no row behind it mends that.
@@ -61,7 +61,7 @@ stays-low : (a : ℕ) (s : Search) (rows : List Row) → s .kept ≡ false → s
 unfolding searched
 stays-low a s [] e = e
 stays-low a s (row ∷ rows) e =
-    stays-low a (passed a s row) rows (low-by s (row .address + 1) (isFree row) (ltb (row .address) (s .least)) (ltb (row .address) a) e)
+    stays-low a (overRow a s row) rows (low-by s (row .address + 1) (isFree row) (ltb (row .address) (s .least)) (ltb (row .address) a) e)
 
 -- Free rows are counted, and nothing else comes of them.
 over-free : (a : ℕ) (s : Search) (rows : List Row) → allFree rows ≡ true → (searched a s rows .vacant ≡ s .vacant + length rows) × ((searched a s rows .below ≡ s .below) × (searched a s rows .kept ≡ s .kept))
@@ -73,12 +73,12 @@ over-free a s (row ∷ rows) e =
     (ap (λ (z : Search). searched a z rows .vacant) p ∙ h .0 ∙ omega arith, (ap (λ (z : Search). searched a z rows .below) p ∙ h .1 .0, ap (λ (z : Search). searched a z rows .kept) p ∙ h .1 .1))
 
 -- Nor do rows from the address on count as below it.
-over-high : (a : ℕ) (s : Search) (m : ℕ) (rows : List Row) → a ≤ m → s .least ≤ m → keptFrom m rows ≡ true → searched a s rows .below ≡ s .below
+over-high : (a : ℕ) (s : Search) (m : ℕ) (rows : List Row) → a ≤ m → s .least ≤ m → inAddressOrderFrom m rows ≡ true → searched a s rows .below ≡ s .below
 unfolding searched
 over-high a s m [] l g k = refl
 over-high a s m (row ∷ rows) l g k = go (over-high a (overUsed a s row) (suc (row .address)) rows) (first-of m row rows k)
   where
-    go : (a ≤ suc (row .address) → row .address + 1 ≤ suc (row .address) → keptFrom (suc (row .address)) rows ≡ true → searched a (overUsed a s row) rows .below ≡ pick (ltb (row .address) a) (s .below + 1) (s .below)) → First m row rows → searched a (passed a s row) rows .below ≡ s .below
+    go : (a ≤ suc (row .address) → row .address + 1 ≤ suc (row .address) → inAddressOrderFrom (suc (row .address)) rows ≡ true → searched a (overUsed a s row) rows .below ≡ pick (ltb (row .address) a) (s .below + 1) (s .below)) → First m row rows → searched a (overRow a s row) rows .below ≡ s .below
     go h (first-free f e) = ap (λ (z : Search). searched a z rows .below) (pass-free a s row f) ∙ over-free a (overFree s) rows e .1 .0
     go h (first-used f n e) =
         ap (λ (z : Search). searched a z rows .below) (pass-used a s row f (omega arith)) ∙ h (omega arith) (omega arith) e ∙ ap (λ (t : Bool). pick t (s .below + 1) (s .below)) (le-ltb (row .address) a (omega arith))
@@ -87,12 +87,12 @@ over-high a s m (row ∷ rows) l g k = go (over-high a (overUsed a s row) (suc (
 abbrev Placed : ℕ → Search → Search → List Row → Type 0
 Placed a s z rows = (z .vacant + placeFree rows ≡ s .vacant + length rows) × ((z .below ≡ s .below + placeFor a rows) × (z .kept ≡ s .kept))
 
-pub searched-places : (a : ℕ) (s : Search) (rows : List Row) → keptFrom (s .least) rows ≡ true → Placed a s (searched a s rows) rows
+pub searched-places : (a : ℕ) (s : Search) (rows : List Row) → inAddressOrderFrom (s .least) rows ≡ true → Placed a s (searched a s rows) rows
 unfolding searched placeBy
 searched-places a s [] k = (omega arith, (omega arith, refl))
 searched-places a s (row ∷ rows) k = go (searched-places a (overUsed a s row) rows) (first-of (s .least) row rows k)
   where
-    go : (keptFrom (row .address + 1) rows ≡ true → Placed a (overUsed a s row) (searched a (overUsed a s row) rows) rows) → First (s .least) row rows → Placed a s (searched a (passed a s row) rows) (row ∷ rows)
+    go : (inAddressOrderFrom (row .address + 1) rows ≡ true → Placed a (overUsed a s row) (searched a (overUsed a s row) rows) rows) → First (s .least) row rows → Placed a s (searched a (overRow a s row) rows) (row ∷ rows)
     go h (first-free f e) =
         let p = ap (λ (z : Search). searched a z rows) (pass-free a s row f) in
         let w = over-free a (overFree s) rows e in
@@ -101,7 +101,7 @@ searched-places a s (row ∷ rows) k = go (searched-places a (overUsed a s row) 
         subst (λ (z : Search). Placed a s z (row ∷ rows)) (sym p) (omega (arith, w .0, u), (w .1 .0 ∙ omega (arith, v), w .1 .1))
     go h (first-used f n e) =
         let p = ap (λ (z : Search). searched a z rows) (pass-used a s row f (omega arith)) in
-        let w = h (ap (λ (m : ℕ). keptFrom m rows) (add-one (row .address)) ∙ e) in
+        let w = h (ap (λ (m : ℕ). inAddressOrderFrom m rows) (add-one (row .address)) ∙ e) in
         let u = free-place false row rows f in
         subst (λ (z : Search). Placed a s z (row ∷ rows)) (sym p) (omega (arith, w .0, u), (below (ltb (row .address) a) refl (w .1 .0), w .1 .1))
       where
@@ -118,7 +118,7 @@ abbrev pub Low : List Row → Type 0
 Low rows = (i : ℕ) → i < length rows → getD rows i freeRow .address < 0x10000
 
 -- No address is above them all, so that what is kept from there on is free.
-high-free : (rows : List Row) → Low rows → keptFrom 0x10000 rows ≡ true → allFree rows ≡ true
+high-free : (rows : List Row) → Low rows → inAddressOrderFrom 0x10000 rows ≡ true → allFree rows ≡ true
 unfolding allFree
 high-free [] low k = refl
 high-free (row ∷ rows) low k = go (first-of 0x10000 row rows k)
@@ -128,24 +128,24 @@ high-free (row ∷ rows) low k = go (first-of 0x10000 row rows k)
     go (first-used f n e) = let l : row .address < 0x10000 = low 0 (omega arith) in absurd (omega arith)
 
 -- Where no row was out of order, the rows are so kept.
-kept-back : (a : ℕ) (s : Search) (rows : List Row) → Low rows → searched a s rows .kept ≡ true → keptFrom (s .least) rows ≡ true
-unfolding searched keptFrom
+kept-back : (a : ℕ) (s : Search) (rows : List Row) → Low rows → searched a s rows .kept ≡ true → inAddressOrderFrom (s .least) rows ≡ true
+unfolding searched inAddressOrderFrom
 kept-back a s [] low k = refl
 kept-back a s (row ∷ rows) low k =
     go (kept-back a (overFree s) rows (λ i l. low (suc i) (omega arith))) (kept-back a (overUsed a s row) rows (λ i l. low (suc i) (omega arith))) (isFree row) (ltb (row .address) (s .least)) refl refl
   where
-    go : (searched a (overFree s) rows .kept ≡ true → keptFrom 0x10000 rows ≡ true) → (searched a (overUsed a s row) rows .kept ≡ true → keptFrom (row .address + 1) rows ≡ true)
-        → (t u : Bool) → isFree row ≡ t → ltb (row .address) (s .least) ≡ u → pick (isFree row) (allFree rows) (leb (s .least) (row .address) && keptFrom (suc (row .address)) rows) ≡ true
+    go : (searched a (overFree s) rows .kept ≡ true → inAddressOrderFrom 0x10000 rows ≡ true) → (searched a (overUsed a s row) rows .kept ≡ true → inAddressOrderFrom (row .address + 1) rows ≡ true)
+        → (t u : Bool) → isFree row ≡ t → ltb (row .address) (s .least) ≡ u → pick (isFree row) (allFree rows) (leb (s .least) (row .address) && inAddressOrderFrom (suc (row .address)) rows) ≡ true
     go free used true u f l =
-        ap (λ (t : Bool). pick t (allFree rows) (leb (s .least) (row .address) && keptFrom (suc (row .address)) rows)) f
+        ap (λ (t : Bool). pick t (allFree rows) (leb (s .least) (row .address) && inAddressOrderFrom (suc (row .address)) rows)) f
         ∙ high-free rows (λ i l. low (suc i) (omega arith)) (free (sym (ap (λ (z : Search). searched a z rows .kept) (pass-free a s row f)) ∙ k))
     go free used false true f l =
         neither (sym (ap (λ (z : Search). searched a z rows .kept) (pass-low a s row f l)) ∙ k) (stays-low a (overLow s) rows refl)
     go free used false false f l =
         let m : s .least ≤ row .address = ltb-false (row .address) (s .least) l in
-        ap (λ (t : Bool). pick t (allFree rows) (leb (s .least) (row .address) && keptFrom (suc (row .address)) rows)) f
-        ∙ ap (λ (t : Bool). t && keptFrom (suc (row .address)) rows) (le-leb (s .least) (row .address) m)
-        ∙ sym (ap (λ (n : ℕ). keptFrom n rows) (add-one (row .address)))
+        ap (λ (t : Bool). pick t (allFree rows) (leb (s .least) (row .address) && inAddressOrderFrom (suc (row .address)) rows)) f
+        ∙ ap (λ (t : Bool). t && inAddressOrderFrom (suc (row .address)) rows) (le-leb (s .least) (row .address) m)
+        ∙ sym (ap (λ (n : ℕ). inAddressOrderFrom n rows) (add-one (row .address)))
         ∙ used (sym (ap (λ (z : Search). searched a z rows .kept) (pass-used a s row f m)) ∙ k)
 
 -- Free rows behind a board change nothing of it.
@@ -159,16 +159,16 @@ unfolding allFree
 all-free-more [] k = all-free-rows k
 all-free-more (row ∷ rows) k = ap (λ (t : Bool). isFree row && t) (all-free-more rows k)
 
-free-rows-kept : (m k : ℕ) → keptFrom m (replicate k freeRow) ≡ true
-unfolding keptFrom
+free-rows-kept : (m k : ℕ) → inAddressOrderFrom m (replicate k freeRow) ≡ true
+unfolding inAddressOrderFrom
 free-rows-kept m zero = refl
 free-rows-kept m (suc k) = all-free-rows k
 
-kept-more : (m : ℕ) (rows : List Row) (k : ℕ) → keptFrom m (rows ++ replicate k freeRow) ≡ keptFrom m rows
-unfolding keptFrom
+kept-more : (m : ℕ) (rows : List Row) (k : ℕ) → inAddressOrderFrom m (rows ++ replicate k freeRow) ≡ inAddressOrderFrom m rows
+unfolding inAddressOrderFrom
 kept-more m [] k = free-rows-kept m k
 kept-more m (row ∷ rows) k =
-    ap (λ (t : Bool). pick (isFree row) t (leb m (row .address) && keptFrom (suc (row .address)) (rows ++ replicate k freeRow))) (all-free-more rows k)
+    ap (λ (t : Bool). pick (isFree row) t (leb m (row .address) && inAddressOrderFrom (suc (row .address)) (rows ++ replicate k freeRow))) (all-free-more rows k)
     ∙ ap (λ (t : Bool). pick (isFree row) (allFree rows) (leb m (row .address) && t)) (kept-more (suc (row .address)) rows k)
 
 place-more : (test : Row → Bool) → test freeRow ≡ true → (rows : List Row) (k : ℕ) → placeBy test (rows ++ replicate k freeRow) ≡ placeBy test rows
@@ -200,7 +200,7 @@ module _ (a : ℕ) (row : Row) (rows : List Row) (f : isFree row ≡ false) wher
       go (seen less is at) = seen (omega (arith, p, q)) (ap (λ (i : ℕ). getD (row ∷ rows) i freeRow .address) p ∙ is) (of-place false a row rows h ∙ ap suc at ∙ sym p)
       go (unseen none off) = unseen (λ less is. none (omega (arith, p, q)) (sym (ap (λ (i : ℕ). getD (row ∷ rows) i freeRow .address) p) ∙ is)) (off-cons a row rows h off)
 
-  seen-here : a ≤ row .address → keptFrom (suc (row .address)) rows ≡ true → Seen a (row ∷ rows)
+  seen-here : a ≤ row .address → inAddressOrderFrom (suc (row .address)) rows ≡ true → Seen a (row ∷ rows)
   seen-here l k = go (eqb (row .address) a) refl
     where
       p : placeFor a (row ∷ rows) ≡ 0
@@ -218,12 +218,12 @@ module _ (a : ℕ) (row : Row) (rows : List Row) (f : isFree row ≡ false) wher
           let ne = eqb-false (row .address) a e in
           unseen (λ less is. ne (sym there ∙ is)) (off-cons a row rows (used-holds a row f ∙ e) (low-off a (suc (row .address)) rows (omega arith) k))
 
-pub seen-of : (a least : ℕ) (rows : List Row) → keptFrom least rows ≡ true → Seen a rows
+pub seen-of : (a least : ℕ) (rows : List Row) → inAddressOrderFrom least rows ≡ true → Seen a rows
 unfolding placeBy
 seen-of a least [] k = unseen (λ l e. omega arith) (omega arith)
 seen-of a least (row ∷ rows) k = go (seen-of a (suc (row .address)) rows) (first-of least row rows k)
   where
-    go : (keptFrom (suc (row .address)) rows ≡ true → Seen a rows) → First least row rows → Seen a (row ∷ rows)
+    go : (inAddressOrderFrom (suc (row .address)) rows ≡ true → Seen a rows) → First least row rows → Seen a (row ∷ rows)
     go h (first-free f e) =
         let q = free-place true row rows f in
         unseen (λ l _. absurd (omega (arith, q))) (off-cons a row rows (free-holds a row f) (free-off a rows e))
@@ -234,10 +234,10 @@ seen-of a least (row ∷ rows) k = go (seen-of a (suc (row .address)) rows) (fir
         by false l = seen-here a row rows f (ltb-false (row .address) a l) e
 
 -- One row of the pass, and its end.
-pub search-step : (a : ℕ) (s : Search) (board : List Row) (i : ℕ) → i < length board → searched a s (drop i board) ≡ searched a (passed a s (getD board i freeRow)) (drop (i + 1) board)
+pub search-step : (a : ℕ) (s : Search) (board : List Row) (i : ℕ) → i < length board → searched a s (drop i board) ≡ searched a (overRow a s (getD board i freeRow)) (drop (i + 1) board)
 unfolding searched
 search-step a s board i l =
-    ap (searched a s) (drop-cons board i freeRow l) ∙ ap (λ (k : ℕ). searched a (passed a s (getD board i freeRow)) (drop k board)) (sym (add-one i))
+    ap (searched a s) (drop-cons board i freeRow l) ∙ ap (λ (k : ℕ). searched a (overRow a s (getD board i freeRow)) (drop k board)) (sym (add-one i))
 
 pub search-end : (a : ℕ) (s : Search) (board : List Row) (i : ℕ) → length board ≤ i → searched a s (drop i board) ≡ s
 unfolding searched
@@ -248,7 +248,7 @@ search-end a s board i l = ap (searched a s) (drop-of-length-le board l)
 abbrev pub Passing : ℕ → List Row → Search → ℕ → Type 0
 Passing a held s i = (s .vacant + s .below ≤ i) × (((j : ℕ) → j < i → getD held j freeRow .address < 0x10000) × (searched a s (drop i held) ≡ searched a unsearched held))
 
-pub passes-on : (a : ℕ) (held : List Row) (s r : Search) (i : ℕ) → i < length held → (r ≡ passed a s (getD held i freeRow)) × (getD held i freeRow .address < 0x10000) → Passing a held s i → Passing a held r (i + 1)
+pub passes-on : (a : ℕ) (held : List Row) (s r : Search) (i : ℕ) → i < length held → (r ≡ overRow a s (getD held i freeRow)) × (getD held i freeRow .address < 0x10000) → Passing a held s i → Passing a held r (i + 1)
 passes-on a held s r i l e so = (
   subst (λ (z : Search). z .vacant + z .below ≤ i + 1) (sym (e .0)) (pass-bounds a s (getD held i freeRow) i (so .0)),
   (λ j m. words j m (ltb j i) refl, ap (λ (z : Search). searched a z (drop (i + 1) held)) (e .0) ∙ sym (search-step a s held i l) ∙ so .1 .1),
@@ -261,7 +261,7 @@ passes-on a held s r i l e so = (
         subst (λ (k : ℕ). getD held k freeRow .address < 0x10000) same (e .1)
 
 -- What was found on a board so kept, by its places.
-module _ (a : ℕ) (board : List Row) (s : Search) (row : Row) (k : kept board ≡ true) (used-is : 30 - s .vacant ≡ placeFree board) (below-is : s .below ≡ placeFor a board) (low : s .vacant + s .below ≤ 30) (there : s .below < length board → row ≡ getD board (s .below) freeRow) where
+module _ (a : ℕ) (board : List Row) (s : Search) (row : Row) (k : inAddressOrder board ≡ true) (used-is : 30 - s .vacant ≡ placeFree board) (below-is : s .below ≡ placeFor a board) (low : s .vacant + s .below ≤ 30) (there : s .below < length board → row ≡ getD board (s .below) freeRow) where
   -- the place of the row, and the row
   abbrev At : Bool → Type 0
   At t = (pick t (s .below) (length board) ≡ placeOf a board) × (pick t (s .below) (length board) < length board → row ≡ rowOf a board)
@@ -311,7 +311,7 @@ length-filled board l =
 pub found-filled : (a : ℕ) (board : List Row) (s : Search) (row : Row) → length board ≤ 30 → s ≡ searched a unsearched (filled board) → s .kept ≡ true → Low (filled board) → s .vacant + s .below ≤ 30
     → (s .below < length board → row ≡ getD (filled board) (s .below) freeRow) → Finds board a (foundBy s (length board) row a)
 found-filled a board s row few all sound low bound there =
-    let k : kept (filled board) ≡ true = kept-back a unsearched (filled board) low (sym (ap (λ (z : Search). z .kept) all) ∙ sound) in
+    let k : inAddressOrder (filled board) ≡ true = kept-back a unsearched (filled board) low (sym (ap (λ (z : Search). z .kept) all) ∙ sound) in
     let placed = subst (λ (z : Search). Placed a unsearched z (filled board)) (sym all) (searched-places a unsearched (filled board) k) in
     let free-is = place-more isFree refl board (30 - length board) in
     let for-is = place-more (reaches a) refl board (30 - length board) in
@@ -326,26 +326,26 @@ found-filled a board s row few all sound low bound there =
     below-is v p q e f = omega arith
 
 -- And where one was, the board is not so kept.
-pub found-low : (a : ℕ) (board : List Row) (s : Search) (i n : ℕ) → length board ≡ n → searched a s (drop i (filled board)) ≡ searched a unsearched (filled board) → s .kept ≡ false → Finds board a (unkept n)
+pub found-low : (a : ℕ) (board : List Row) (s : Search) (i n : ℕ) → length board ≡ n → searched a s (drop i (filled board)) ≡ searched a unsearched (filled board) → s .kept ≡ false → Finds board a (notInOrder n)
 found-low a board s i n count all low =
     record {
       count = sym count;
       bounds = record { spot-free = omega arith; free-few = omega arith };
-      order = sym (not-kept (kept board) refl);
-      place = λ k. neither k (not-kept (kept board) refl);
-      there = λ k. neither k (not-kept (kept board) refl);
-      vacant = λ k. neither k (not-kept (kept board) refl);
-      stands = λ k. neither k (not-kept (kept board) refl);
+      order = sym (not-kept (inAddressOrder board) refl);
+      place = λ k. neither k (not-kept (inAddressOrder board) refl);
+      there = λ k. neither k (not-kept (inAddressOrder board) refl);
+      vacant = λ k. neither k (not-kept (inAddressOrder board) refl);
+      stands = λ k. neither k (not-kept (inAddressOrder board) refl);
       found = λ l. absurd (omega arith);
     }
   where
-    not-kept : (t : Bool) → kept board ≡ t → kept board ≡ false
+    not-kept : (t : Bool) → inAddressOrder board ≡ t → inAddressOrder board ≡ false
     not-kept false e = e
     not-kept true e =
         neither (searched-places a unsearched (filled board) (kept-more 0 board (30 - length board) ∙ e) .1 .1) (sym (ap (λ (z : Search). z .kept) all) ∙ stays-low a s (drop i (filled board)) low)
 
 -- The change that an enrolment makes of a board on which the address was not found, and that of a removal where it was.
-module _ (a : ℕ) (board : List Row) (f : Found) (finds : Finds board a f) (k : kept board ≡ true) where
+module _ (a : ℕ) (board : List Row) (f : Found) (finds : Finds board a f) (k : inAddressOrder board ≡ true) where
   pub moves-in : (row new : Row) → row ≡ new → new .address ≡ a → placeFree board < length board → length board ≤ placeOf a board → (carry 1 0 (f .free - f .spot + 1) (f .spot) row board ≡ insertRow new board) × Within (length board) 1 0 (f .free - f .spot + 1) (f .spot)
   moves-in row new is own room off = (
     ap (λ (r : Row). carry 1 0 (f .free - f .spot + 1) (f .spot) r board) is

@@ -9,7 +9,7 @@ use Rattle.board.specs.declared.Looked.{Looked}
 use Rattle.board.specs.declared.Row.{Row}
 use Rattle.board.specs.Gauge.{gaugeTold}
 use Rattle.board.specs.Row.{Last, none, good, rowBy, keptAs, placeTold, heardTold}
-use Rattle.board.specs.Calls.{answerBy, told}
+use Rattle.board.specs.Calls.{answerBy, rowTold}
 
 module _ (row : Row) where
   -- what is told of the row beside a last good reading
@@ -21,8 +21,8 @@ module _ (row : Row) where
   abbrev read : Last
   read = good (readingBy (row .kind) (row .tenths) (row .level) (row .alarm1) (row .alarm0)) (row .minute)
 
-  pub told-none : row .kind ≡ 0 → told row ≡ toldWith none
+  pub told-none : row .kind ≡ 0 → rowTold row ≡ toldWith none
   told-none e = ap (λ (t : Bool). toldWith (pick t none read)) (eq-eqb (row .kind) 0 e)
 
-  pub told-some : (row .kind ≡ 0 → ⊥) → told row ≡ toldWith read
+  pub told-some : (row .kind ≡ 0 → ⊥) → rowTold row ≡ toldWith read
   told-some ne = ap (λ (t : Bool). toldWith (pick t none read)) (ne-eqb (row .kind) 0 ne)

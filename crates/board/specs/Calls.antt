@@ -19,7 +19,7 @@ use Rattle.board.specs.declared.Row.{Row}
 use Rattle.board.specs.Gauge.{outsideBy, profileMisplaced, gaugeTold, unmarked, atOnce}
 use Rattle.board.specs.Row.{Last, lastBy, lastOf, rowBy, keptAs, placeTold, heardAt, heardTold, Minute, minuteBy, freeRow, newRow, withReading, withFault, setsFault}
 use Rattle.board.specs.Rows.{boardOf, beyond, placeOf, onBoard, rowOf, hasFree}
-use Rattle.board.specs.Order.{inOrder, insertRow, withoutRow}
+use Rattle.board.specs.Order.{ifInOrder, insertRow, withoutRow}
 
 -- Enrolling: 10, 11, 27, 18, 19. The new row is put among the others by its address; a refused enrolment changes no row.
 unfoldable pub enrolNumber : List Row → (settings address gauge : ℕ) → ℕ
@@ -38,8 +38,8 @@ enrolRows board settings address gauge =
     pick (eqb (enrolNumber board settings address gauge) 0) (insertRow (newRow settings address gauge) board) board
 
 pub record Enrols (rows : List Row) (settings address gauge : ℕ) (answer : ℕ) (after : List Row) : Type 0 where
-  pub answers : answer ≡ inOrder (boardOf rows) (enrolNumber (boardOf rows) settings address gauge) 38
-  pub leaves : after ≡ inOrder (boardOf rows) (enrolRows (boardOf rows) settings address gauge) (boardOf rows) ++ beyond rows
+  pub answers : answer ≡ ifInOrder (boardOf rows) (enrolNumber (boardOf rows) settings address gauge) 38
+  pub leaves : after ≡ ifInOrder (boardOf rows) (enrolRows (boardOf rows) settings address gauge) (boardOf rows) ++ beyond rows
 
 -- What reading a reply by a row's own settings byte gives: 10 or 1 to 9, 0 where it is accepted.
 abbrev pub faultBy : Row → ℕ → ℕ → List ℕ → ℕ
@@ -80,8 +80,8 @@ abbrev pub heardAs : (number place : ℕ) → Heard
 heardAs number place = record { number = number; place = place }
 
 pub record Hears (rows : List Row) (minute address count : ℕ) (reply : List ℕ) (answer : Heard) (after : List Row) : Type 0 where
-  pub answers : answer ≡ inOrder (boardOf rows) (heardAs (hearNumber (boardOf rows) address count reply) (hearPlace (boardOf rows) address count reply)) (heardAs 38 0)
-  pub leaves : after ≡ inOrder (boardOf rows) (hearRows (boardOf rows) minute address count reply) (boardOf rows) ++ beyond rows
+  pub answers : answer ≡ ifInOrder (boardOf rows) (heardAs (hearNumber (boardOf rows) address count reply) (hearPlace (boardOf rows) address count reply)) (heardAs 38 0)
+  pub leaves : after ≡ ifInOrder (boardOf rows) (hearRows (boardOf rows) minute address count reply) (boardOf rows) ++ beyond rows
 
 -- Removing, or looking at a row: 11, 17.
 unfoldable pub findNumber : List Row → ℕ → ℕ
@@ -93,8 +93,8 @@ unfoldable pub removeRows : List Row → ℕ → List Row
 removeRows board address = pick (eqb (findNumber board address) 0) (withoutRow address board) board
 
 pub record Removes (rows : List Row) (address : ℕ) (answer : ℕ) (after : List Row) : Type 0 where
-  pub answers : answer ≡ inOrder (boardOf rows) (findNumber (boardOf rows) address) 38
-  pub leaves : after ≡ inOrder (boardOf rows) (removeRows (boardOf rows) address) (boardOf rows) ++ beyond rows
+  pub answers : answer ≡ ifInOrder (boardOf rows) (findNumber (boardOf rows) address) 38
+  pub leaves : after ≡ ifInOrder (boardOf rows) (removeRows (boardOf rows) address) (boardOf rows) ++ beyond rows
 
 -- What looking answers is laid out as a row is, with the refusal's number, 0 for none, where a row says whether it is in use.
 abbrev pub answerBy : ℕ → Row → Looked
@@ -118,8 +118,8 @@ answerBy number row =
 
 -- What looking tells of a row: its address, settings and gauge, the last good reading with its minute, the last fault with its place,
 -- the count of faulty replies, and the minute it was last heard. It tells what the row holds and not its bytes.
-abbrev pub told : Row → Looked
-told row =
+abbrev pub rowTold : Row → Looked
+rowTold row =
     answerBy 0
     (rowBy (record { used = 0; address = row .address; settings = row .settings; gauge = gaugeTold (row .gauge) }) (keptAs (lastOf row))
     (record { fault = row .fault; place = placeTold row; faulty = row .faulty; heard = heardTold row }))
@@ -130,10 +130,10 @@ refusedLook number = answerBy number freeRow
 
 unfoldable pub lookedAt : List Row → ℕ → Looked
 lookedAt board address =
-    pick (eqb (findNumber board address) 0) (told (rowOf address board)) (refusedLook (findNumber board address))
+    pick (eqb (findNumber board address) 0) (rowTold (rowOf address board)) (refusedLook (findNumber board address))
 
 pub record LooksUp (rows : List Row) (address : ℕ) (answer : Looked) : Type 0 where
-  pub answers : answer ≡ inOrder (boardOf rows) (lookedAt (boardOf rows) address) (refusedLook 38)
+  pub answers : answer ≡ ifInOrder (boardOf rows) (lookedAt (boardOf rows) address) (refusedLook 38)
 
 -- The last good reading that an answer tells of.
 abbrev pub lastTold : Looked → Last
@@ -163,5 +163,5 @@ rowPollBytes board address raise reset out =
     (firstBytes 2 (pollLine address (isSet raise) (isSet reset)) ++ drop 2 out) out
 
 pub record PollsRow (rows : List Row) (address raise reset : ℕ) (out : List ℕ) (answer : ℕ) (after : List ℕ) : Type 0 where
-  pub answers : answer ≡ inOrder (boardOf rows) (rowPollNumber (boardOf rows) address raise reset out) 38
-  pub leaves : after ≡ inOrder (boardOf rows) (rowPollBytes (boardOf rows) address raise reset out) out
+  pub answers : answer ≡ ifInOrder (boardOf rows) (rowPollNumber (boardOf rows) address raise reset out) 38
+  pub leaves : after ≡ ifInOrder (boardOf rows) (rowPollBytes (boardOf rows) address raise reset out) out

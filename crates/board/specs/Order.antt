@@ -15,17 +15,17 @@ allFree [] = true
 allFree (row ∷ rows) = isFree row && allFree rows
 
 -- The addresses of the rows in use rise, the first being at least so much, and behind the first free row all are free.
-unfoldable pub keptFrom : ℕ → List Row → Bool
-keptFrom least [] = true
-keptFrom least (row ∷ rows) = pick (isFree row) (allFree rows) (leb least (row .address) && keptFrom (suc (row .address)) rows)
+unfoldable pub inAddressOrderFrom : ℕ → List Row → Bool
+inAddressOrderFrom least [] = true
+inAddressOrderFrom least (row ∷ rows) = pick (isFree row) (allFree rows) (leb least (row .address) && inAddressOrderFrom (suc (row .address)) rows)
 
 -- A board so kept.
-abbrev pub kept : List Row → Bool
-kept board = keptFrom 0 board
+abbrev pub inAddressOrder : List Row → Bool
+inAddressOrder board = inAddressOrderFrom 0 board
 
 -- What a call answers or leaves, and what it does where the board is not so kept.
-abbrev pub inOrder : {A : Type 0} → List Row → A → A → A
-inOrder board answer refused = pick (kept board) answer refused
+abbrev pub ifInOrder : {A : Type 0} → List Row → A → A → A
+ifInOrder board answer refused = pick (inAddressOrder board) answer refused
 
 -- Rows that make room at their front: each row in use moves on by one, and the first free one is used up. Those behind it stay.
 unfoldable pub pushed : Row → List Row → List Row
@@ -39,11 +39,11 @@ insertRow row (next ∷ rows) =
     pick (isFree next || ltb (row .address) (next .address)) (pushed row (next ∷ rows)) (next ∷ insertRow row rows)
 
 -- Rows that close up to a place left before them: each row in use moves up by one, and the last place so freed is all zeros.
-unfoldable pub closed : List Row → List Row
-closed [] = freeRow ∷ []
-closed (row ∷ rows) = pick (isFree row) (freeRow ∷ row ∷ rows) (row ∷ closed rows)
+unfoldable pub closedUp : List Row → List Row
+closedUp [] = freeRow ∷ []
+closedUp (row ∷ rows) = pick (isFree row) (freeRow ∷ row ∷ rows) (row ∷ closedUp rows)
 
 -- The rows without that of an address.
 unfoldable pub withoutRow : ℕ → List Row → List Row
 withoutRow address [] = []
-withoutRow address (row ∷ rows) = pick (holds address row) (closed rows) (row ∷ withoutRow address rows)
+withoutRow address (row ∷ rows) = pick (holds address row) (closedUp rows) (row ∷ withoutRow address rows)

@@ -37,7 +37,7 @@ pub record Owner : Type 0 where
   pub gauge : ℕ
 
 -- The last good reading in numbers.
-pub record Kept : Type 0 where
+pub record KeptReading : Type 0 where
   pub minute : ℕ
   pub level : ℕ
   pub tenths : ℤ
@@ -53,7 +53,7 @@ pub record Since : Type 0 where
   pub faulty : ℕ
   pub heard : ℕ
 
-abbrev pub rowBy : Owner → Kept → Since → Row
+abbrev pub rowBy : Owner → KeptReading → Since → Row
 rowBy o k s =
     record {
       minute = k .minute;
@@ -75,8 +75,8 @@ rowBy o k s =
 abbrev pub ownerOf : Row → Owner
 ownerOf row = record { used = row .used; address = row .address; settings = row .settings; gauge = row .gauge }
 
-abbrev pub keptOf : Row → Kept
-keptOf row = record { minute = row .minute; level = row .level; tenths = row .tenths; kind = row .kind; alarm1 = row .alarm1; alarm0 = row .alarm0 }
+abbrev pub readingKept : Row → KeptReading
+readingKept row = record { minute = row .minute; level = row .level; tenths = row .tenths; kind = row .kind; alarm1 = row .alarm1; alarm0 = row .alarm0 }
 
 abbrev pub sinceOf : Row → Since
 sinceOf row = record { fault = row .fault; place = row .place; faulty = row .faulty; heard = row .heard }
@@ -89,7 +89,7 @@ abbrev pub enrolled : ℕ → ℕ → ℕ → Owner
 enrolled settings address gauge = record { used = 1; address = address; settings = settings; gauge = gauge }
 
 -- A last good reading as it is kept. No reading is all zeros.
-abbrev pub keptAs : Last → Kept
+abbrev pub keptAs : Last → KeptReading
 keptAs none = record { minute = 0; level = 0; tenths = pos 0; kind = 0; alarm1 = 0; alarm0 = 0 }
 keptAs (good r minute) =
     record {
@@ -128,7 +128,7 @@ newRow settings address gauge = rowBy (enrolled settings address gauge) (keptAs 
 -- The row, heard at a minute: that of the latest hearing, good or faulty, even if the clock went back.
 abbrev pub heardAt : Row → ℕ → Row
 heardAt row minute =
-    rowBy (ownerOf row) (keptOf row) (record { fault = row .fault; place = row .place; faulty = row .faulty; heard = minute })
+    rowBy (ownerOf row) (readingKept row) (record { fault = row .fault; place = row .place; faulty = row .faulty; heard = minute })
 
 -- The minute a row was last heard, or none: enrolling and removing leave neither a reading nor a fault, and every hearing leaves one of them.
 pub data Minute : Type 0 where
@@ -151,7 +151,7 @@ withReading row r minute = rowBy (ownerOf row) (keptAs (good r minute)) (faultOf
 
 -- A faulty reply sets only that row's fault, with its place, and is counted.
 abbrev pub withFault : Row → ℕ → ℕ → Row
-withFault row fault place = rowBy (ownerOf row) (keptOf row) (faultOf (sinceOf row) fault place (more (row .faulty)))
+withFault row fault place = rowBy (ownerOf row) (readingKept row) (faultOf (sinceOf row) fault place (more (row .faulty)))
 
 -- Faults 1 to 9 are those that a row's fault is set to, and so is 26, which acts on a row as 9 does.
 unfoldable pub setsFault : ℕ → Bool

@@ -1,7 +1,6 @@
 // A row's gauge byte: bits 0 and 1 its sensor profile, 1 copper, 2 platinum, bit 2 the mark of a 6500; the rest is not read.
 ghost use mathlib.Core.Path.{_≡_};
 ghost use Rattle.board.specs.Gauge.{profileOf, profileNumber, is6500, beyondEnds, beyondProfile, outside, outsideBy, profileMisplaced, gaugeTold, unmarked, atOnce};
-ghost use Rattle.frame.specs.Reply.{is1800};
 use frame::Temperature;
 use frame::kinds;
 
@@ -46,18 +45,11 @@ pub(crate) fn at_once(raise: u8, reset: u8) -> bool
     raise != 0 && reset != 0
 }
 
-// Bit 2 of a settings byte is the type.
-fn of_1800(settings: u8) -> bool
-    ensures { λ r. ⌜ r ≡ is1800 settings ⌝ }
-{
-    settings / 4 % 2 == 1
-}
-
 // Whether a profile is given on a type 1800.
 pub(crate) fn misplaced(settings: u8, gauge: u8) -> bool
     ensures { λ r. ⌜ r ≡ profileMisplaced settings gauge ⌝ }
 {
-    of_1800(settings) && profile(gauge) != 0
+    kinds::of_1800(settings) && profile(gauge) != 0
 }
 
 // The ends are allowed.
@@ -93,7 +85,7 @@ fn outside(gauge: u8, t: Temperature) -> bool
 pub(crate) fn outside_by(settings: u8, gauge: u8, t: Temperature) -> bool
     ensures { λ r. ⌜ r ≡ outsideBy settings gauge t ⌝ }
 {
-    !of_1800(settings) && outside(gauge, t)
+    !kinds::of_1800(settings) && outside(gauge, t)
 }
 
 // What is told of the byte: the profile's number, and 4 more with the mark.

@@ -2,7 +2,7 @@
 ghost use mathlib.Core.Path.{_≡_};
 ghost use lib.ListN.{replicate};
 ghost use Rattle.board.specs.Row.{freeRow, newRow, isFree, withReading, withFault, placeTold, heardAt, heardTold, more, setsFault};
-ghost use Rattle.board.specs.Calls.{told, refusedLook};
+ghost use Rattle.board.specs.Calls.{rowTold, refusedLook};
 use crate::Looked;
 use crate::Row;
 use crate::gauge;
@@ -150,7 +150,7 @@ fn heard_told(row: Row) -> u32
 
 // What looking at a row answers.
 pub(crate) fn tell(row: Row) -> Looked
-    ensures { λ r. ⌜ r ≡ told row ⌝ }
+    ensures { λ r. ⌜ r ≡ rowTold row ⌝ }
 {
     let mut answer = refused_look(0);
     answer.address = row.address;

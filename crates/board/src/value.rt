@@ -5,7 +5,7 @@ ghost use mathlib.Core.Bool.{_&&_};
 ghost use Prim.Native.Nat.{_+_, _<_, _≤_};
 ghost use lib.Dec.{ltb};
 ghost use Rattle.frame.specs.Pick.{pick};
-ghost use Rattle.board.specs.inside.ByValue.{FindsOn, Bounded, counted, passed, foundBy, unkept, changeOf, refusal, heardChange, saidOf, EnrolsOn, HearsOn, RemovesOn, LooksOn, readChange, MayPollOn, WritesOr};
+ghost use Rattle.board.specs.inside.ByValue.{FindsOn, Bounded, rowsThatCount, overRow, foundBy, notInOrder, changeOf, refusal, heardChange, saidOf, EnrolsOn, HearsOn, RemovesOn, LooksOn, readChange, MayPollOn, WritesOr};
 use crate::Heard;
 use crate::Looked;
 use crate::Row;
@@ -51,7 +51,7 @@ pub struct Found {
 
 // The first 30 rows count.
 fn counted(len: usize) -> usize
-    ensures { λ r. ⌜ r ≡ counted len ⌝ }
+    ensures { λ r. ⌜ r ≡ rowsThatCount len ⌝ }
 {
     if 30 < len { 30 } else { len }
 }
@@ -70,7 +70,7 @@ fn below_after(below: usize, passed: u16, address: u16) -> usize
 // One row more has been passed. What may follow a free row is above every address, so that it can only be free: an address is 16 bits.
 fn pass(s: Search, row: Row, address: u16) -> Search
     requires { ⌜ (s .vacant < 30) × (s .below < 30) ⌝ }
-    ensures { λ r. ⌜ (r ≡ passed address s row) × (row .address < 0x10000) ⌝ }
+    ensures { λ r. ⌜ (r ≡ overRow address s row) × (row .address < 0x10000) ⌝ }
 {
     let mut next = s;
     if rows::is_free(row) {
@@ -129,7 +129,7 @@ fn told(s: Search, n: usize, row: Row, address: u16) -> Found
 
 // What is told of n rows that are not kept in order.
 fn unkept(n: usize) -> Found
-    ensures { λ r. ⌜ r ≡ unkept n ⌝ }
+    ensures { λ r. ⌜ r ≡ notInOrder n ⌝ }
 {
     let row = rows::free_row();
     Found {

@@ -8,7 +8,7 @@ use borrow.Author.Tests.{lt-ltb, le-ltb}
 use lib.Dec.{eqb}
 use Rattle.frame.specs.Pick.{pick}
 use Rattle.calendar.specs.declared.counting.Day.{Day}
-use Rattle.calendar.specs.Days.{daysIn, monthAfter, yearAfter, firstOf, dayAfter, daysAfter, daysFrom}
+use Rattle.calendar.specs.Days.{daysIn, monthAfter, yearAfter, firstOfMonth, dayAfter, daysAfter, daysFrom}
 
 abbrev pub FewDays : ℕ → Type 0
 FewDays n = (0 < n) × (n ≤ 31)
@@ -39,11 +39,11 @@ module _ (y m : ℕ) where
   unfolding dayAfter
   day-more n h = simp (lt-ltb _ _ h)
 
-  month-over : dayAfter (dayOf (daysIn y m)) ≡ firstOf (yearAfter y m) (monthAfter m)
+  month-over : dayAfter (dayOf (daysIn y m)) ≡ firstOfMonth (yearAfter y m) (monthAfter m)
   unfolding dayAfter
   month-over = simp (le-ltb (daysIn y m) (daysIn y m) (omega arith))
 
-  pub within : (k : ℕ) → k < daysIn y m → daysAfter (firstOf y m) k ≡ dayOf (k + 1)
+  pub within : (k : ℕ) → k < daysIn y m → daysAfter (firstOfMonth y m) k ≡ dayOf (k + 1)
   unfolding daysAfter
   within zero h = refl
   within (suc k) h =
@@ -51,17 +51,17 @@ module _ (y m : ℕ) where
       ap dayAfter (within k (omega arith)) ∙ day-more (k + 1) (omega arith) ∙ sym (ap dayOf same)
 
   -- counted through a month
-  last-day : (k : ℕ) → suc k ≡ daysIn y m → daysAfter (firstOf y m) (suc k) ≡ firstOf (yearAfter y m) (monthAfter m)
+  last-day : (k : ℕ) → suc k ≡ daysIn y m → daysAfter (firstOfMonth y m) (suc k) ≡ firstOfMonth (yearAfter y m) (monthAfter m)
   unfolding daysAfter
   last-day k e =
       let at-last : k + 1 ≡ daysIn y m = omega arith in
       ap dayAfter (within k (omega arith) ∙ ap dayOf at-last) ∙ month-over
 
-  pub through : daysAfter (firstOf y m) (daysIn y m) ≡ firstOf (yearAfter y m) (monthAfter m)
+  pub through : daysAfter (firstOfMonth y m) (daysIn y m) ≡ firstOfMonth (yearAfter y m) (monthAfter m)
   through =
       let f = few-days y m in
       let e : suc (daysIn y m - 1) ≡ daysIn y m = omega arith in
-      ap (daysAfter (firstOf y m)) (sym e) ∙ last-day (daysIn y m - 1) e
+      ap (daysAfter (firstOfMonth y m)) (sym e) ∙ last-day (daysIn y m - 1) e
 
 -- some days after some days
 pub days-after : (d : Day) (a b : ℕ) → daysAfter d (a + b) ≡ daysAfter (daysAfter d b) a
@@ -74,15 +74,15 @@ days-after d (suc a) b =
     ap (daysAfter d) more ∙ ap dayAfter (days-after d a b)
 
 -- a month taken off
-pub month-less : (y m left : ℕ) → daysIn y m ≤ left → daysAfter (firstOf (yearAfter y m) (monthAfter m)) (left - daysIn y m) ≡ daysAfter (firstOf y m) left
+pub month-less : (y m left : ℕ) → daysIn y m ≤ left → daysAfter (firstOfMonth (yearAfter y m) (monthAfter m)) (left - daysIn y m) ≡ daysAfter (firstOfMonth y m) left
 month-less y m left h =
     let whole : left - daysIn y m + daysIn y m ≡ left = omega arith in
-    ap (λ (d : Day). daysAfter d (left - daysIn y m)) (sym (through y m)) ∙ sym (days-after (firstOf y m) (left - daysIn y m) (daysIn y m))
-    ∙ ap (daysAfter (firstOf y m)) whole
+    ap (λ (d : Day). daysAfter d (left - daysIn y m)) (sym (through y m)) ∙ sym (days-after (firstOfMonth y m) (left - daysIn y m) (daysIn y m))
+    ∙ ap (daysAfter (firstOfMonth y m)) whole
 
 -- Counted from the first of its month, a day that its month has is counted on from itself.
 pub counted-from-itself : (d : Day) (n : ℕ) → 0 < d .day → d .day ≤ daysIn (d .year) (d .month) → daysFrom d n ≡ daysAfter d n
 counted-from-itself d n some fits =
     let there : d .day - 1 + 1 ≡ d .day = omega arith in
-    days-after (firstOf (d .year) (d .month)) n (d .day - 1)
+    days-after (firstOfMonth (d .year) (d .month)) n (d .day - 1)
     ∙ ap (λ (e : Day). daysAfter e n) (within (d .year) (d .month) (d .day - 1) (omega arith) ∙ ap (dayOf (d .year) (d .month)) there)

@@ -22,8 +22,8 @@ monthAfter m = pick (ltb m 12) (m + 1) 1
 abbrev pub yearAfter : ℕ → ℕ → ℕ
 yearAfter y m = pick (ltb m 12) y (pick (ltb y 0xffffffff) (y + 1) y)
 
-abbrev pub firstOf : ℕ → ℕ → Day
-firstOf y m = record { year = y; month = m; day = 1 }
+abbrev pub firstOfMonth : ℕ → ℕ → Day
+firstOfMonth y m = record { year = y; month = m; day = 1 }
 
 -- The day after: the next of its month, or the first of the next month.
 unfoldable pub dayAfter : Day → Day
@@ -31,7 +31,7 @@ dayAfter d =
     pick
     (ltb (d .day) (daysIn (d .year) (d .month)))
     record { year = d .year; month = d .month; day = d .day + 1 }
-    (firstOf (yearAfter (d .year) (d .month)) (monthAfter (d .month)))
+    (firstOfMonth (yearAfter (d .year) (d .month)) (monthAfter (d .month)))
 
 -- So many days after.
 unfoldable pub daysAfter : Day → ℕ → Day
@@ -40,4 +40,4 @@ daysAfter d (suc n) = dayAfter (daysAfter d n)
 
 -- The same, counted from the first of its month. Of a day that its month has they are one; a day beyond its month's last is counted on into the next.
 abbrev pub daysFrom : Day → ℕ → Day
-daysFrom d n = daysAfter (firstOf (d .year) (d .month)) (n + (d .day - 1))
+daysFrom d n = daysAfter (firstOfMonth (d .year) (d .month)) (n + (d .day - 1))

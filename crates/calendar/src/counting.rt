@@ -1,6 +1,6 @@
 // Days counted on, month by month.
 ghost use mathlib.Core.Path.{_≡_};
-ghost use Rattle.calendar.specs.Days.{februaryDays, daysIn, monthAfter, yearAfter, firstOf, daysAfter};
+ghost use Rattle.calendar.specs.Days.{februaryDays, daysIn, monthAfter, yearAfter, firstOfMonth, daysAfter};
 
 // A day; where its day is 0, none.
 pub struct Day {
@@ -68,7 +68,7 @@ pub(crate) fn year_after(year: u32, month: u32) -> u32
 
 // The day that comes so many days after the first of a month.
 pub(crate) fn from_first(beginning: u32, first: u32, days: u64) -> Day
-    ensures { λ r. ⌜ r ≡ daysAfter (firstOf beginning first) days ⌝ }
+    ensures { λ r. ⌜ r ≡ daysAfter (firstOfMonth beginning first) days ⌝ }
 {
     let mut year = beginning;
     let mut month = first;

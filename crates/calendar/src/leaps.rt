@@ -7,7 +7,7 @@ use crate::counting::next_month;
 use crate::counting::year_after;
 ghost use mathlib.Core.Path.{_≡_};
 ghost use Prim.Native.Nat.{_-_};
-ghost use Rattle.calendar.specs.Days.{yearDays, firstOf, daysAfter, daysFrom};
+ghost use Rattle.calendar.specs.Days.{yearDays, firstOfMonth, daysAfter, daysFrom};
 
 // A month, and how many days are left to count from its first day.
 pub(crate) struct Rest {
@@ -18,7 +18,7 @@ pub(crate) struct Rest {
 
 // On to the next January, or to the month where the days end before it.
 fn to_january(beginning: u32, first: u32, days: u64) -> Rest
-    ensures { λ r. ⌜ daysAfter (firstOf (r .year) (r .month)) (r .left) ≡ daysAfter (firstOf beginning first) days ⌝ }
+    ensures { λ r. ⌜ daysAfter (firstOfMonth (r .year) (r .month)) (r .left) ≡ daysAfter (firstOfMonth beginning first) days ⌝ }
 {
     let mut year = beginning;
     let mut month = first;
@@ -38,7 +38,7 @@ fn to_january(beginning: u32, first: u32, days: u64) -> Rest
 
 // Any four hundred years have 146,097 days. Years and days so many that a sum might be too large are left to the smaller steps.
 fn by_centuries(r: Rest) -> Rest
-    ensures { λ f. ⌜ daysAfter (firstOf (f .year) (f .month)) (f .left) ≡ daysAfter (firstOf (r .year) (r .month)) (r .left) ⌝ }
+    ensures { λ f. ⌜ daysAfter (firstOfMonth (f .year) (f .month)) (f .left) ≡ daysAfter (firstOfMonth (r .year) (r .month)) (r .left) ⌝ }
 {
     let many = r.left / 146_097;
     if r.month != 1 {
@@ -65,7 +65,7 @@ fn days_of(year: u32) -> u64
 }
 
 fn by_years(r: Rest) -> Rest
-    ensures { λ f. ⌜ daysAfter (firstOf (f .year) (f .month)) (f .left) ≡ daysAfter (firstOf (r .year) (r .month)) (r .left) ⌝ }
+    ensures { λ f. ⌜ daysAfter (firstOfMonth (f .year) (f .month)) (f .left) ≡ daysAfter (firstOfMonth (r .year) (r .month)) (r .left) ⌝ }
 {
     if r.month != 1 {
         return r;

@@ -6,12 +6,12 @@ use Rattle.sheet.specs.declared.Found.{Found}
 use Rattle.sheet.specs.declared.Found.the-variants.{Blank, Spoiled, Foreign, Record, Refused}
 use Rattle.sheet.specs.Look.{lookOf}
 use Rattle.cards.specs.declared.counting.Tally.{Tally}
-use Rattle.cards.specs.Tally.{counted, tallyUpTo}
+use Rattle.cards.specs.Tally.{withSlot, tallyUpTo}
 
 abbrev allCounted : Tally → ℕ
 allCounted t = t .records + t .spoiled + t .foreign
 
-one-more : (f : Found) (t : Tally) → allCounted (counted f t) ≤ allCounted t + 1
+one-more : (f : Found) (t : Tally) → allCounted (withSlot f t) ≤ allCounted t + 1
 one-more Blank t = omega arith
 one-more Spoiled t = omega arith
 one-more Foreign t = omega arith

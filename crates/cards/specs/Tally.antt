@@ -12,18 +12,18 @@ abbrev pub noTally : ℕ → Tally
 noTally n = record { slots = n; records = 0; spoiled = 0; foreign = 0; first = 4294967295; last = 0 }
 
 -- One slot more, by what a look at it answers.
-abbrev pub counted : Found → Tally → Tally
-counted Blank t = t
-counted Spoiled t = record { slots = t .slots; records = t .records; spoiled = t .spoiled + 1; foreign = t .foreign; first = t .first; last = t .last }
-counted Foreign t = record { slots = t .slots; records = t .records; spoiled = t .spoiled; foreign = t .foreign + 1; first = t .first; last = t .last }
-counted (Record h) t =
+abbrev pub withSlot : Found → Tally → Tally
+withSlot Blank t = t
+withSlot Spoiled t = record { slots = t .slots; records = t .records; spoiled = t .spoiled + 1; foreign = t .foreign; first = t .first; last = t .last }
+withSlot Foreign t = record { slots = t .slots; records = t .records; spoiled = t .spoiled; foreign = t .foreign + 1; first = t .first; last = t .last }
+withSlot (Record h) t =
     record { slots = t .slots; records = t .records + 1; spoiled = t .spoiled; foreign = t .foreign; first = min (t .first) (h .minute); last = max (t .last) (h .minute) }
-counted (Refused n) t = t
+withSlot (Refused n) t = t
 
 -- The first k slots, and all. Of a sheet of a size that is not allowed every look is refused, and nothing is counted.
 unfoldable pub tallyUpTo : List ℕ → ℕ → Tally
 tallyUpTo s zero = noTally (slots s)
-tallyUpTo s (suc k) = counted (lookOf s k .found) (tallyUpTo s k)
+tallyUpTo s (suc k) = withSlot (lookOf s k .found) (tallyUpTo s k)
 
 abbrev pub tallyOf : List ℕ → Tally
 tallyOf s = tallyUpTo s (slots s)

@@ -6,7 +6,7 @@ ghost use mathlib.Core.Path.{_≡_};
 ghost use Prim.Native.Nat.{_+_, _<_, _^_, min, max};
 ghost use Rattle.sheet.specs.declared.Found.the-variants.{Spoiled, Foreign, Record};
 ghost use Rattle.sheet.specs.Look.{lookOf};
-ghost use Rattle.cards.specs.Tally.{noTally, counted, tallyOf};
+ghost use Rattle.cards.specs.Tally.{noTally, withSlot, tallyOf};
 
 // How many slots a sheet has, how many of them read as what, and the lowest and the highest minute of its records; where there is no record, the
 // lowest is 0xffffffff and the highest 0.
@@ -46,7 +46,7 @@ fn higher(a: u32, b: u32) -> u32
 
 fn with_record(t: Tally, head: Head) -> Tally
     requires { ⌜ t .records + 1 < 2 ^ 64 ⌝ }
-    ensures { λ r. ⌜ r ≡ counted (Record head) t ⌝ }
+    ensures { λ r. ⌜ r ≡ withSlot (Record head) t ⌝ }
 {
     Tally {
         slots: t.slots,
@@ -60,7 +60,7 @@ fn with_record(t: Tally, head: Head) -> Tally
 
 fn with_spoiled(t: Tally) -> Tally
     requires { ⌜ t .spoiled + 1 < 2 ^ 64 ⌝ }
-    ensures { λ r. ⌜ r ≡ counted Spoiled t ⌝ }
+    ensures { λ r. ⌜ r ≡ withSlot Spoiled t ⌝ }
 {
     Tally {
         slots: t.slots,
@@ -74,7 +74,7 @@ fn with_spoiled(t: Tally) -> Tally
 
 fn with_foreign(t: Tally) -> Tally
     requires { ⌜ t .foreign + 1 < 2 ^ 64 ⌝ }
-    ensures { λ r. ⌜ r ≡ counted Foreign t ⌝ }
+    ensures { λ r. ⌜ r ≡ withSlot Foreign t ⌝ }
 {
     Tally {
         slots: t.slots,
@@ -90,7 +90,7 @@ fn with_slot(t: Tally, sheet: &[u8], k: usize) -> Tally
     requires { ⌜ t .records + 1 < 2 ^ 64 ⌝ }
     requires { ⌜ t .spoiled + 1 < 2 ^ 64 ⌝ }
     requires { ⌜ t .foreign + 1 < 2 ^ 64 ⌝ }
-    ensures { λ r. ⌜ r ≡ counted (lookOf (now (sheet .entry)) k .found) t ⌝ }
+    ensures { λ r. ⌜ r ≡ withSlot (lookOf (now (sheet .entry)) k .found) t ⌝ }
 {
     let looked = look(sheet, k);
     let found = looked.found;

@@ -9,12 +9,12 @@ use borrow.Author.Tests.{leb-true, eqb-true, not-false}
 use lib.Dec.{eqb, leb}
 use lib.ListN.{length, take, drop, length-take}
 use lib.Seq.{sets, sets-eq}
-use Rattle.frame.specs.Pick.{pick}
+use Rattle.frame.specs.Pick.{pick, within}
 use Rattle.frame.specs.Line.{bytesFor, padClear, formed}
 use Rattle.frame.specs.Faults.{firstOf}
 use Rattle.frame.proofs.Both.{both}
 use Rattle.drawing.specs.declared.Done.{Done}
-use Rattle.drawing.specs.Pulses.{within, badPulse, drawing}
+use Rattle.drawing.specs.Pulses.{badPulse, drawing}
 use Rattle.drawing.specs.Calls.{drawFault, done, portion, Draws}
 use Rattle.drawing.specs.inside.Fills.{Fills}
 

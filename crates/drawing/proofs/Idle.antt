@@ -13,7 +13,7 @@ use lib.ListN.{length, getD, take, drop, set, replicate, length-take, length-dro
 use lib.Seq.{sets, set-getD, getD-set-other, drop-at, length-sets, take-nil}
 use Rattle.frame.proofs.Fronts.{front}
 use Rattle.frame.proofs.Parts.{sets-append}
-use Rattle.drawing.specs.Pulses.{lineOf, bitAfter}
+use Rattle.drawing.specs.Pulses.{lowSample, bitAfter}
 use Rattle.drawing.specs.inside.Fills.{Fills}
 use Rattle.drawing.proofs.Rest.{one, one-long, two-runs, restOf, next-bit}
 
@@ -137,7 +137,7 @@ module _ (low still : ℕ) where
 
   -- a turn: the pulse of a bit, and then the bits after it
   pub turn : (message : List ℕ) (count : ℕ) (out mid : List ℕ) (bit passed i end line : ℕ) → bit < count → passed ≤ low + still → i ≤ end → Idle out i end
-      → line ≡ lineOf (bitAfter message bit)
+      → line ≡ lowSample (bitAfter message bit)
       → mid ≡ sets out i (replicate (min end (i + (low - passed)) - i) line)
       → sets out i (take (end - i) (restOf low still message bit (count - bit) passed))
       ≡ sets mid (i + (low + still - passed)) (take (end - (i + (low + still - passed))) (restOf low still message (bit + 1) (count - (bit + 1)) 0))
@@ -155,7 +155,7 @@ module _ (low still : ℕ) where
       ∙ ap (sets out i) (take-both n d later)
       ∙ sym (sets-append (take n d) (take (n - length d) later) out i)
       ∙ ap₂ (λ (l : List ℕ) (k : ℕ). sets l (i + length (take n d)) (take (n - k) later))
-      (pulse-alone out i end passed (lineOf b) room idle ∙ sym (put ∙ ap (λ (x : ℕ). sets out i (replicate (min end (i + (low - passed)) - i) x)) is)) size
+      (pulse-alone out i end passed (lowSample b) room idle ∙ sym (put ∙ ap (λ (x : ℕ). sets out i (replicate (min end (i + (low - passed)) - i) x)) is)) size
       ∙ ap (λ (k : ℕ). sets mid (i + k) (take (n - s) later)) (length-take n d ∙ ap (min n) size)
       ∙ at-place mid later i n s
       ∙ ap (λ (k : ℕ). sets mid (i + s) (take k later)) ends

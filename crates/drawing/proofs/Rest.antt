@@ -11,16 +11,16 @@ use borrow.Author.Tests.{leb-true, leb-false}
 use lib.Dec.{leb}
 use lib.ListN.{length, drop, replicate, length-append, length-replicate, length-drop}
 use lib.Seq.{drop-nil, drop-append-le, drop-append-add}
-use Rattle.drawing.specs.Pulses.{lineOf, bitAfter, bitsAfter, drawn, drawing}
+use Rattle.drawing.specs.Pulses.{lowSample, bitAfter, bitsAfter, drawn, drawing}
 
 -- one bit drawn
 abbrev pub one : (low still bit : ℕ) → List ℕ
-one low still bit = replicate low (lineOf bit) ++ replicate still 0
+one low still bit = replicate low (lowSample bit) ++ replicate still 0
 
 pub one-long : (low still bit : ℕ) → length (one low still bit) ≡ low + still
 one-long low still bit =
-    length-append (replicate low (lineOf bit)) (replicate still 0)
-    ∙ ap₂ (λ (a b : ℕ). a + b) (length-replicate low (lineOf bit)) (length-replicate still 0)
+    length-append (replicate low (lowSample bit)) (replicate still 0)
+    ∙ ap₂ (λ (a b : ℕ). a + b) (length-replicate low (lowSample bit)) (length-replicate still 0)
 
 pub bit-first : (low still bit : ℕ) (bits : List ℕ) → drawn low still (bit ∷ bits) ≡ one low still bit ++ drawn low still bits
 unfolding drawn

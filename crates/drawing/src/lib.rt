@@ -3,7 +3,8 @@
 mod pulses;
 
 ghost use mathlib.Core.Path.{_≡_};
-ghost use Rattle.drawing.specs.Pulses.{within, badPulse};
+ghost use Rattle.frame.specs.Pick.{within};
+ghost use Rattle.drawing.specs.Pulses.{badPulse};
 ghost use Rattle.drawing.specs.Calls.{done, Draws};
 
 // What drawing answers: the samples drawn; beside a refusal 0.

@@ -3,13 +3,13 @@ ghost use mathlib.Core.Path.{_≡_};
 ghost use Prim.Native.Nat.{_+_, _-_, _/_, _<_, _≤_, min};
 ghost use lib.ListN.{length, drop, replicate};
 ghost use lib.Seq.{sets};
-ghost use Rattle.drawing.specs.Pulses.{lineOf, bitAfter, drawing};
+ghost use Rattle.drawing.specs.Pulses.{lowSample, bitAfter, drawing};
 ghost use Rattle.drawing.specs.inside.Fills.{Fills};
 
 // A mark pulls line 1 low, a space line 2.
 fn line_of(message: &[u8], passed: usize) -> u8
     requires { ⌜ passed / 8 < length (now message) ⌝ }
-    ensures { λ r. ⌜ r ≡ lineOf (bitAfter (now (message .entry)) passed) ⌝ }
+    ensures { λ r. ⌜ r ≡ lowSample (bitAfter (now (message .entry)) passed) ⌝ }
 {
     if (message[passed / 8] >> (7 - passed % 8)) % 2 == 1 {
         1

@@ -12,7 +12,7 @@ use Rattle.frame.specs.Pick.{pick}
 use Rattle.frame.specs.Faults.{firstOf}
 use Rattle.frame.proofs.Both.{both}
 use Rattle.enraf.specs.Item.{Item, alone, setting, settingTaken, value, failed, equals, ampersand, exclamation, isDigit, digitAt, isLetter, allCharacters, isData, hasData, kindFits, textFits, begins, ends, isTaken, isError, kindIn, charactersIn, errorIn}
-use Rattle.enraf.specs.Record.{STX, ETX, B, Z, recordOf}
+use Rattle.enraf.specs.Record.{STX, ETX, B, Z, itemRecord}
 use Rattle.enraf.specs.Reading.{framed, checkRight, addressed, itemIn, readFault}
 use Rattle.enraf.specs.Writing.{writeFault}
 
@@ -65,7 +65,7 @@ unfolding readFault firstOf
 read-fault-by s x y z w a b c d = λ i. pick (not (a i)) 29 (pick (not (b i)) 30 (pick (not (c i)) 31 (pick (not (d i)) 32 0)))
 
 pub write-fault-by : (t : Item) (out : List ℕ) (x y z w : Bool) → ltb 9 (t .ciu) ≡ x → ltb 99 (t .gauge) ≡ y → textFits t ≡ z
-    → ltb (length out) (length (recordOf t)) ≡ w
+    → ltb (length out) (length (itemRecord t)) ≡ w
     → writeFault t out ≡ pick (x || y) 31 (pick (not z) 32 (pick w 33 0))
 unfolding writeFault firstOf
 write-fault-by t out x y z w a b c d = λ i. pick (a i || b i) 31 (pick (not (c i)) 32 (pick (d i) 33 0))

@@ -2,7 +2,7 @@
 use mathlib.Core.Path.{_≡_, ap}
 use mathlib.Core.List.{List, [], _∷_, _++_}
 use Prim.Native.Nat.{ℕ}
-use Rattle.enraf.specs.Item.{equals, ampersand, exclamation, threeDigits, tailOf}
+use Rattle.enraf.specs.Item.{equals, ampersand, exclamation, digitCharacters, tailOf}
 
 module _ (kind error : ℕ) (d : List ℕ) where
   pub tail-alone : kind ≡ 1 → tailOf kind error d ≡ []
@@ -25,6 +25,6 @@ module _ (kind error : ℕ) (d : List ℕ) where
   unfolding tailOf
   tail-value h = ap (λ (k : ℕ). tailOf k error d) h
 
-  pub tail-error : kind ≡ 6 → tailOf kind error d ≡ exclamation ∷ threeDigits error
+  pub tail-error : kind ≡ 6 → tailOf kind error d ≡ exclamation ∷ digitCharacters error
   unfolding tailOf
   tail-error h = ap (λ (k : ℕ). tailOf k error d) h

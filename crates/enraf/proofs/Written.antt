@@ -12,32 +12,32 @@ use Rattle.frame.specs.Pick.{pick}
 use Rattle.enraf.specs.declared.Done.{Done}
 use Rattle.enraf.specs.Check.{blockCheck}
 use Rattle.enraf.specs.Item.{Item, digit, tailOf}
-use Rattle.enraf.specs.Record.{STX, ETX, B, Z, checkedOf, recordOf}
+use Rattle.enraf.specs.Record.{STX, ETX, B, Z, checkedOf, itemRecord}
 use Rattle.enraf.specs.Writing.{writeFault, done, WritesItem}
 use Rattle.enraf.specs.inside.Puts.{Puts}
 use Rattle.frame.proofs.Parts.{sets-append}
 
 pub refuses : (i : Item) (out : List ℕ) (n : ℕ) (answer : Done) → writeFault i out ≡ n → eqb n 0 ≡ false → answer ≡ done 0 n → WritesItem i out answer out
 refuses i out n answer e z is =
-    let r = recordOf i in
+    let r = itemRecord i in
     record {
       answers = is ∙ sym (ap (λ (m : ℕ). pick (eqb m 0) (done (length r) 0) (done 0 m)) e ∙ ap (λ (b : Bool). pick b (done (length r) 0) (done 0 n)) z);
       leaves = sym (ap (λ (m : ℕ). pick (eqb m 0) (r ++ drop (length r) out) out) e ∙ ap (λ (b : Bool). pick b (r ++ drop (length r) out) out) z);
     }
 
-pub writes : (i : Item) (out : List ℕ) (answer : Done) (after : List ℕ) → writeFault i out ≡ 0 → answer ≡ done (length (recordOf i)) 0
-    → after ≡ recordOf i ++ drop (length (recordOf i)) out
+pub writes : (i : Item) (out : List ℕ) (answer : Done) (after : List ℕ) → writeFault i out ≡ 0 → answer ≡ done (length (itemRecord i)) 0
+    → after ≡ itemRecord i ++ drop (length (itemRecord i)) out
     → WritesItem i out answer after
 writes i out answer after e is left =
-    let r = recordOf i in
+    let r = itemRecord i in
     record {
       answers = is ∙ sym (ap (λ (m : ℕ). pick (eqb m 0) (done (length r) 0) (done 0 m)) e);
       leaves = left ∙ sym (ap (λ (m : ℕ). pick (eqb m 0) (r ++ drop (length r) out) out) e);
     }
 
 -- ten bytes stand around what follows the letters
-pub record-long : (i : Item) → length (recordOf i) ≡ 10 + length (tailOf (i .kind) (i .error) (i .characters))
-unfolding recordOf checkedOf
+pub record-long : (i : Item) → length (itemRecord i) ≡ 10 + length (tailOf (i .kind) (i .error) (i .characters))
+unfolding itemRecord checkedOf
 record-long i =
     let t = tailOf (i .kind) (i .error) (i .characters) in
     let a : length (t ++ ETX ∷ []) ≡ length t + 1 = length-append t (ETX ∷ []) in
@@ -79,11 +79,11 @@ module _ (front out : List ℕ) (end : ℕ) (at : end ≡ suc (length front)) (r
 abbrev pub headOf : Item → List ℕ
 headOf i = STX ∷ digit (i .ciu) ∷ digit (i .gauge / 10) ∷ digit (i .gauge % 10) ∷ B ∷ Z ∷ i .first ∷ i .second ∷ []
 
-pub left : (i : Item) (out o1 o2 o3 : List ℕ) (end : ℕ) → length (recordOf i) ≤ length out → o1 ≡ sets out 0 (headOf i)
+pub left : (i : Item) (out o1 o2 o3 : List ℕ) (end : ℕ) → length (itemRecord i) ≤ length out → o1 ≡ sets out 0 (headOf i)
     → Puts (tailOf (i .kind) (i .error) (i .characters)) o1 8 end o2
     → o3 ≡ sets o2 end (ETX ∷ blockCheck (take end (drop 1 (set o2 end ETX))) ∷ [])
-    → o3 ≡ recordOf i ++ drop (length (recordOf i)) out
-unfolding recordOf checkedOf
+    → o3 ≡ itemRecord i ++ drop (length (itemRecord i)) out
+unfolding itemRecord checkedOf
 left i out o1 o2 o3 end room one two three =
     let t = tailOf (i .kind) (i .error) (i .characters) in
     let front = digit (i .ciu) ∷ digit (i .gauge / 10) ∷ digit (i .gauge % 10) ∷ B ∷ Z ∷ i .first ∷ i .second ∷ t in

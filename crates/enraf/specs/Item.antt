@@ -60,8 +60,8 @@ isDigit b = leb 0x30 b && leb b 0x39
 abbrev pub digitAt : List ℕ → ℕ → ℕ
 digitAt s k = getD s k 0 - 0x30
 
-abbrev pub threeDigits : ℕ → List ℕ
-threeDigits n = digit (n / 100) ∷ digit (n / 10 % 10) ∷ digit (n % 10) ∷ []
+abbrev pub digitCharacters : ℕ → List ℕ
+digitCharacters n = digit (n / 100) ∷ digit (n / 10 % 10) ∷ digit (n % 10) ∷ []
 
 -- Capital letters, and the characters of data.
 abbrev pub isLetter : ℕ → Bool
@@ -84,7 +84,7 @@ tailOf kind error characters =
     (pick (eqb kind taken) (ampersand ∷ [])
     (pick (eqb kind settingTaken) (equals ∷ characters ++ ampersand ∷ [])
     (pick (eqb kind value) characters
-    (pick (eqb kind failed) (exclamation ∷ threeDigits error) []))))
+    (pick (eqb kind failed) (exclamation ∷ digitCharacters error) []))))
 
 -- An item's text can be written: capital letters, one of the six kinds, data in a setting and a value and nowhere else, an error's number in an error and
 -- nowhere else.

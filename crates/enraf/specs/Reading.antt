@@ -52,8 +52,8 @@ readFault s =
     ∷ [])
 
 -- An item told in integers, its data from the first character on and 0 after it; beside a refusal all else is 0.
-abbrev pub told : Item → ItemTold
-told i =
+abbrev pub toldInIntegers : Item → ItemTold
+toldInIntegers i =
     record {
       characters = i .characters ++ replicate (16 - length (i .characters)) 0;
       error = i .error;
@@ -85,4 +85,4 @@ itemTold t =
 
 -- What `sisal_read_item` answers.
 pub record ReadsItem (s : List ℕ) (answer : ItemTold) : Type 0 where
-  pub answers : answer ≡ pick (eqb (readFault s) 0) (told (itemIn s)) (refused (readFault s))
+  pub answers : answer ≡ pick (eqb (readFault s) 0) (toldInIntegers (itemIn s)) (refused (readFault s))

@@ -22,5 +22,5 @@ checkedOf i =
     digit (i .ciu) ∷ digit (i .gauge / 10) ∷ digit (i .gauge % 10) ∷ B ∷ Z ∷ i .first ∷ i .second
     ∷ tailOf (i .kind) (i .error) (i .characters) ++ ETX ∷ []
 
-unfoldable pub recordOf : Item → List ℕ
-recordOf i = STX ∷ checkedOf i ++ blockCheck (checkedOf i) ∷ []
+unfoldable pub itemRecord : Item → List ℕ
+itemRecord i = STX ∷ checkedOf i ++ blockCheck (checkedOf i) ∷ []

@@ -9,7 +9,7 @@ ghost use mathlib.Core.Bool.{true};
 ghost use Prim.Native.Nat.{_-_, _≤_};
 ghost use lib.ListN.{length, replicate};
 ghost use Rattle.enraf.specs.Item.{isDigit, isTaken, isError, kindIn, errorIn, charactersIn};
-ghost use Rattle.enraf.specs.Reading.{framed, checkRight, addressed, itemIn, readFault, told, refused};
+ghost use Rattle.enraf.specs.Reading.{framed, checkRight, addressed, itemIn, readFault, toldInIntegers, refused};
 
 fn is_framed(bytes: &[u8]) -> bool
     ensures { λ r. ⌜ r ≡ framed (now (bytes .entry)) ⌝ }
@@ -200,7 +200,7 @@ pub(crate) fn refusal(number: u8) -> ItemTold
 // What an accepted record says.
 pub(crate) fn tell(bytes: &[u8]) -> ItemTold
     requires { ⌜ readFault (now bytes) ≡ 0 ⌝ }
-    ensures { λ r. ⌜ r ≡ told (itemIn (now (bytes .entry))) ⌝ }
+    ensures { λ r. ⌜ r ≡ toldInIntegers (itemIn (now (bytes .entry))) ⌝ }
 {
     let end = bytes.len() - 2;
     let tail = &bytes[8..end];

@@ -7,7 +7,7 @@ ghost use mathlib.Core.List.{[], _∷_};
 ghost use Prim.Native.Nat.{_+_, _/_, _%_, _≤_, _<_};
 ghost use lib.ListN.{length, take, drop, set};
 ghost use lib.Seq.{sets};
-ghost use Rattle.enraf.specs.Item.{digit, threeDigits, kindFits, tailOf};
+ghost use Rattle.enraf.specs.Item.{digit, digitCharacters, kindFits, tailOf};
 ghost use Rattle.enraf.specs.Check.{blockCheck};
 ghost use Rattle.enraf.specs.Record.{STX, ETX, B, Z};
 ghost use Rattle.enraf.specs.Writing.{done};
@@ -78,7 +78,7 @@ fn put_part(out: &mut [u8], at: usize, part: &[u8]) -> usize
 fn put_three(out: &mut [u8], at: usize, n: u16) -> usize
     requires { ⌜ at + 3 ≤ length (now out) ⌝ }
     requires { ⌜ n ≤ 999 ⌝ }
-    ensures { λ r. ⌜ Puts (threeDigits n) (now (out .entry)) at r (now (out .exit)) ⌝ }
+    ensures { λ r. ⌜ Puts (digitCharacters n) (now (out .entry)) at r (now (out .exit)) ⌝ }
 {
     out[at] = b'0' + (n / 100) as u8;
     out[at + 1] = b'0' + (n / 10 % 10) as u8;

@@ -17,8 +17,8 @@ use Rattle.sheet.specs.declared.Found.the-variants as found
 use Rattle.sheet.specs.declared.Saved.the-variants as saved
 use Rattle.sheet.specs.declared.view.Counted.the-variants as counted
 use Rattle.sheet.specs.Slots.{Slot, blank, spoiled, foreign, holds, slotOf, slotAt, slots, sizeAllowed}
-use Rattle.sheet.specs.Look.{bare, told, lookOf}
-use Rattle.sheet.specs.View.{countOf}
+use Rattle.sheet.specs.Look.{bare, lookTold, lookOf}
+use Rattle.sheet.specs.View.{slotsCounted}
 use Rattle.frame.proofs.ToldBack.{flag-back, reading-back}
 use Rattle.export_told.specs.Told.{pollTold, pollMeant, replyTold, replyMeant, writtenTold, writtenMeant, savedTold, savedMeant, countedTold, countedMeant, slotTold, slotMeant}
 
@@ -54,15 +54,15 @@ written-back bytes fault = by-fault writtenTold writtenMeant (written.Bytes byte
 pub saved-back : (stores fault : ℕ) → let a = pick (eqb fault 0) (saved.Stores stores) (saved.Refused fault) in savedMeant (savedTold a) ≡ a
 saved-back stores fault = by-fault savedTold savedMeant (saved.Stores stores) saved.Refused refl (λ n e. simp e) fault
 
-pub counted-back : (s : List ℕ) → countedMeant (countedTold (countOf s)) ≡ countOf s
-unfolding countOf
+pub counted-back : (s : List ℕ) → countedMeant (countedTold (slotsCounted s)) ≡ slotsCounted s
+unfolding slotsCounted
 counted-back s = go (sizeAllowed s)
   where
     go : (t : Bool) → let a = pick t (counted.Slots (slots s)) (counted.Refused 12) in countedMeant (countedTold a) ≡ a
     go true = refl
     go false = refl
 
-slot-back : (x : Slot) → slotMeant (slotTold (told x)) ≡ told x
+slot-back : (x : Slot) → slotMeant (slotTold (lookTold x)) ≡ lookTold x
 slot-back blank = refl
 slot-back spoiled = refl
 slot-back foreign = refl
@@ -72,6 +72,6 @@ pub look-back : (s : List ℕ) (k : ℕ) → slotMeant (slotTold (lookOf s k)) �
 unfolding lookOf
 look-back s k = go (sizeAllowed s && ltb k (slots s))
   where
-    go : (t : Bool) → let l = pick t (told (slotOf (slotAt s k))) (bare (found.Refused 12)) in slotMeant (slotTold l) ≡ l
+    go : (t : Bool) → let l = pick t (lookTold (slotOf (slotAt s k))) (bare (found.Refused 12)) in slotMeant (slotTold l) ≡ l
     go true = slot-back (slotOf (slotAt s k))
     go false = refl

@@ -12,7 +12,7 @@ use lib.Dec.{eqb, ltb}
 use lib.ListN.{length, getD, drop, take, length-drop, length-append}
 use lib.Seq.{drop-cons, getD-drop, drop-drop}
 use Rattle.frame.specs.Pick.{pick}
-use Rattle.listing.specs.Text.{decimal}
+use Rattle.listing.specs.Text.{inDecimal}
 use Rattle.forms.specs.Form.{fill, first, others, choice}
 use Rattle.forms.specs.inside.Bounds.{takesNumber, past, passed, widestFrom, widest}
 
@@ -24,12 +24,12 @@ some-left ns n = go (decLt n (length ns))
     go (yes p) = rw (length-drop, lt-ltb n (length ns) p) (lt-ltb 0 (length ns - n) (omega arith))
     go (no q) = rw (length-drop, le-ltb n (length ns) (omega arith)) (le-ltb 0 (length ns - n) (omega arith))
 
-opened : (c : ℕ) (cs ns : List ℕ) → fill (c ∷ cs) ns ≡ pick (eqb c 126 && ltb 0 (length ns)) (decimal (getD ns 0 0) ++ fill cs (drop 1 ns)) (c ∷ fill cs ns)
+opened : (c : ℕ) (cs ns : List ℕ) → fill (c ∷ cs) ns ≡ pick (eqb c 126 && ltb 0 (length ns)) (inDecimal (getD ns 0 0) ++ fill cs (drop 1 ns)) (c ∷ fill cs ns)
 unfolding fill
 opened c cs ns = refl
 
 module _ (form ns : List ℕ) (i n : ℕ) (near : i < length form) where
-  pub fill-next : (b : Bool) → takesNumber (getD form i 0) n (length ns) ≡ b → fill (drop i form) (drop n ns) ≡ pick b (decimal (getD ns n 0) ++ fill (drop (i + 1) form) (drop (n + 1) ns)) (getD form i 0 ∷ fill (drop (i + 1) form) (drop n ns))
+  pub fill-next : (b : Bool) → takesNumber (getD form i 0) n (length ns) ≡ b → fill (drop i form) (drop n ns) ≡ pick b (inDecimal (getD ns n 0) ++ fill (drop (i + 1) form) (drop (n + 1) ns)) (getD form i 0 ∷ fill (drop (i + 1) form) (drop n ns))
   fill-next b e =
       let c = getD form i 0 in
       let test : (eqb c 126 && ltb 0 (length (drop n ns))) ≡ b = ap (λ (t : Bool). eqb c 126 && t) (some-left ns n) ∙ e in
@@ -37,7 +37,7 @@ module _ (form ns : List ℕ) (i n : ℕ) (near : i < length form) where
       let rest : drop 1 (drop n ns) ≡ drop (n + 1) ns = drop-drop 1 n ns in
       let byte : drop i form ≡ c ∷ drop (i + 1) form = drop-cons form i 0 near ∙ ap (λ (k : ℕ). c ∷ drop k form) (sym (add-one i)) in
       ap (λ (l : List ℕ). fill l (drop n ns)) byte ∙ opened c (drop (i + 1) form) (drop n ns)
-      ∙ (λ j. pick (test j) (decimal (here j) ++ fill (drop (i + 1) form) (rest j)) (c ∷ fill (drop (i + 1) form) (drop n ns)))
+      ∙ (λ j. pick (test j) (inDecimal (here j) ++ fill (drop (i + 1) form) (rest j)) (c ∷ fill (drop (i + 1) form) (drop n ns)))
 
 -- a number is taken only where one is left
 pub takes-left : (c n many : ℕ) → takesNumber c n many ≡ true → n < many

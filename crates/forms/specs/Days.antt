@@ -3,7 +3,7 @@ use mathlib.Core.List.{List, [], _∷_, _++_}
 use Prim.Native.Nat.{ℕ, _/_, _%_}
 use lib.Dec.{eqb, ltb}
 use Rattle.frame.specs.Pick.{pick}
-use Rattle.listing.specs.Text.{ascii, digit, decimal}
+use Rattle.listing.specs.Text.{ascii, digit, inDecimal}
 use Rattle.calendar.specs.declared.counting.Day.{Day}
 use Rattle.calendar.specs.Days.{daysFrom}
 use Rattle.forms.specs.Form.{fill}
@@ -15,7 +15,7 @@ twoDigits n = digit (n / 10 % 10) ∷ digit (n % 10) ∷ []
 -- A date, "2026-11-03". A year has four digits, or as many more as it needs.
 unfoldable pub yearText : ℕ → List ℕ
 unfolding twoDigits
-yearText y = pick (ltb y 10000) (twoDigits (y / 100) ++ twoDigits (y % 100)) (decimal y)
+yearText y = pick (ltb y 10000) (twoDigits (y / 100) ++ twoDigits (y % 100)) (inDecimal y)
 
 unfoldable pub monthDayText : Day → List ℕ
 unfolding twoDigits

@@ -5,12 +5,12 @@ use Prim.Native.Nat.{ℕ, zero, suc}
 use lib.Dec.{eqb, ltb}
 use lib.ListN.{length, getD, drop}
 use Rattle.frame.specs.Pick.{pick}
-use Rattle.listing.specs.Text.{decimal}
+use Rattle.listing.specs.Text.{inDecimal}
 
 -- A form: text in which each "~" stands for the next of some numbers, in decimal, while there is one.
 unfoldable pub fill : List ℕ → List ℕ → List ℕ
 fill [] ns = []
-fill (c ∷ cs) ns = pick (eqb c 126 && ltb 0 (length ns)) (decimal (getD ns 0 0) ++ fill cs (drop 1 ns)) (c ∷ fill cs ns)
+fill (c ∷ cs) ns = pick (eqb c 126 && ltb 0 (length ns)) (inDecimal (getD ns 0 0) ++ fill cs (drop 1 ns)) (c ∷ fill cs ns)
 
 -- Several forms in one text, a "|" between them: the first of them, what follows it, and the one that has so many before it.
 unfoldable pub first : List ℕ → List ℕ

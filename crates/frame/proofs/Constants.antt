@@ -14,7 +14,7 @@ use lib.Pow.{pow-pos}
 use Rattle.frame.specs.Charts.{Chart, oneBit, twoBits, feetTens, decimal, inches, sixteenths}
 use Rattle.frame.specs.Pick.{pick}
 use Rattle.frame.specs.Level.{Mode, modeOf, widthOf, valuesOf, readRow, writeRow, fillClear, lastBit, putLevel, fractionalMode, decimalMode, twentyMetreMode, thirtyMetreMode}
-use Rattle.frame.specs.inside.Packed.{chartOf, rowOf, levelCode, writeUp}
+use Rattle.frame.specs.inside.Packed.{chartOf, digitRow, levelCode, writeUp}
 use Rattle.frame.specs.inside.Constants.{Constants, fractional, decimalFeet, metres20, metres30, constantsBy, fillAt, digitBits, readBy, writeBy}
 use Rattle.frame.proofs.Both.{and-true}
 use Rattle.frame.proofs.Tables.{pick-case}
@@ -37,7 +37,7 @@ pub record Fits (m : Mode) (k : Constants) : Type 0 where
   pub top : Chart
   pub rest : List Chart
   pub row : m .row ≡ top ∷ rest
-  pub charts : rowOf (k .charts) (k .digits) ≡ inFourBits top ∷ rest
+  pub charts : digitRow (k .charts) (k .digits) ≡ inFourBits top ∷ rest
   pub narrow : 2 ^ (top .width) ≤ 16
   pub alone : (bits : ℕ) → bits < 2 ^ digitBits (k .first) (k .after) → bits / 2 ^ widthOf rest < 2 ^ (top .width)
   pub wide : digitBits (k .first) (k .after) ≡ widthOf (m .row)
@@ -47,7 +47,7 @@ pub record Fits (m : Mode) (k : Constants) : Type 0 where
   pub fill : (n : ℕ) → fillAt n (k .before) (k .after) ≡ fillClear n (m .fill)
   pub largest : k .largest ≡ m .largest
   pub straight : k .start ≡ false
-  pub values : k .largest < valuesOf (rowOf (k .charts) (k .digits))
+  pub values : k .largest < valuesOf (digitRow (k .charts) (k .digits))
   pub begins : 16 ≤ k .first
   pub ends : 4 * k .digits + (27 + k .after) ≤ 53
 
@@ -59,7 +59,7 @@ module _ (m : Mode) (k : Constants) (f : Fits m k) where
       let few : bits < 2 ^ digitBits (k .first) (k .after) = mod-lt (n / 2 ^ (27 + k .after)) (pow-pos (digitBits (k .first) (k .after))) in
       rw (f .fill n, f .charts, f .straight, f .largest, top-in-four (f .top) (f .rest) bits false 0 0 (f .alone bits few) (f .narrow), f .cut, f .last, f .row)
 
-  same-codes : (v : ℕ) → writeRow (rowOf (k .charts) (k .digits)) false v ≡ writeRow (m .row) false v
+  same-codes : (v : ℕ) → writeRow (digitRow (k .charts) (k .digits)) false v ≡ writeRow (m .row) false v
   unfolding writeRow
   same-codes v = rw (f .charts, f .row)
 
@@ -76,7 +76,7 @@ only-after : (n j : ℕ) → fillAt n 0 j ≡ (eqb (n / 2 ^ 27 % 2 ^ j) 0 && tru
 only-after n j = rw (mod-one (n / 2 ^ 49), and-true (eqb (n / 2 ^ 27 % 2 ^ j) 0))
 
 pub fractional-fits : Fits fractionalMode fractional
-unfolding fractionalMode widthOf valuesOf rowOf chartOf feetTens decimal inches sixteenths
+unfolding fractionalMode widthOf valuesOf digitRow chartOf feetTens decimal inches sixteenths
 fractional-fits =
     record {
       top = feetTens;
@@ -98,7 +98,7 @@ fractional-fits =
     }
 
 pub decimal-fits : Fits decimalMode decimalFeet
-unfolding decimalMode widthOf valuesOf rowOf chartOf feetTens decimal
+unfolding decimalMode widthOf valuesOf digitRow chartOf feetTens decimal
 decimal-fits =
     record {
       top = feetTens;
@@ -120,7 +120,7 @@ decimal-fits =
     }
 
 pub metres20-fits : Fits twentyMetreMode metres20
-unfolding twentyMetreMode widthOf valuesOf rowOf chartOf oneBit decimal
+unfolding twentyMetreMode widthOf valuesOf digitRow chartOf oneBit decimal
 metres20-fits =
     record {
       top = oneBit;
@@ -142,7 +142,7 @@ metres20-fits =
     }
 
 pub metres30-fits : Fits thirtyMetreMode metres30
-unfolding thirtyMetreMode widthOf valuesOf rowOf chartOf twoBits decimal
+unfolding thirtyMetreMode widthOf valuesOf digitRow chartOf twoBits decimal
 metres30-fits =
     record {
       top = twoBits;

@@ -10,7 +10,7 @@ use borrow.Author.Tests.{lt-ltb, le-ltb, ltb-true}
 use lib.Dec.{ltb, lit≤}
 use Rattle.frame.specs.Charts.{Chart, sizeOf, isOdd, turned, placeIn}
 use Rattle.frame.specs.Level.{Level, known, lost, widthOf, readRow}
-use Rattle.frame.specs.inside.Packed.{chartOf, digitOf, rowOf, readCode, Below, levelNumber}
+use Rattle.frame.specs.inside.Packed.{chartOf, digitOf, digitRow, readCode, Below, levelNumber}
 use Rattle.frame.proofs.Tables.{size-high}
 
 -- n and n - 1
@@ -21,8 +21,8 @@ down P f (suc k) h = rw (pred-suc k) (f k)
     pred-suc : (k : ℕ) → suc k - 1 ≡ k
     pred-suc k = omega arith
 
-pub row-width : (row left : ℕ) → widthOf (rowOf row left) ≡ 4 * left
-unfolding widthOf rowOf
+pub row-width : (row left : ℕ) → widthOf (digitRow row left) ≡ 4 * left
+unfolding widthOf digitRow
 row-width row zero = refl
 row-width row (suc left) = rw (row-width (row / 16) left) (omega arith)
 
@@ -63,30 +63,30 @@ module _ (c : Chart) (code : ℕ) (odd : Bool) where
 -- one step of the reader over a row kept in a word
 module _ (row k bits : ℕ) (odd : Bool) (sofar place : ℕ) where
   -- the top digit is in no chart
-  pub step-lost : digitOf (chartOf (row % 16)) (bits / 2 ^ (4 * k) % 16) odd ≡ 16 → readRow (rowOf row (suc k)) bits odd sofar place ≡ lost place
-  unfolding readRow rowOf
+  pub step-lost : digitOf (chartOf (row % 16)) (bits / 2 ^ (4 * k) % 16) odd ≡ 16 → readRow (digitRow row (suc k)) bits odd sofar place ≡ lost place
+  unfolding readRow digitRow
   step-lost e = simp (row-width (row / 16) k, is-out (chartOf (row % 16)) (bits / 2 ^ (4 * k) % 16) odd (size-high (row % 16)) e)
 
   -- the top digit is read, and the rest goes on from it
   pub step-read : (digitOf (chartOf (row % 16)) (bits / 2 ^ (4 * k) % 16) odd ≡ 16 → ⊥)
-      → readRow (rowOf row (suc k)) bits odd sofar place
-      ≡ readRow (rowOf (row / 16) k) bits (isOdd (digitOf (chartOf (row % 16)) (bits / 2 ^ (4 * k) % 16) odd)) (sofar * sizeOf (chartOf (row % 16)) + digitOf (chartOf (row % 16)) (bits / 2 ^ (4 * k) % 16) odd) (suc place)
-  unfolding readRow rowOf
+      → readRow (digitRow row (suc k)) bits odd sofar place
+      ≡ readRow (digitRow (row / 16) k) bits (isOdd (digitOf (chartOf (row % 16)) (bits / 2 ^ (4 * k) % 16) odd)) (sofar * sizeOf (chartOf (row % 16)) + digitOf (chartOf (row % 16)) (bits / 2 ^ (4 * k) % 16) odd) (suc place)
+  unfolding readRow digitRow
   step-read e =
       simp (row-width (row / 16) k, is-in (chartOf (row % 16)) (bits / 2 ^ (4 * k) % 16) odd e, digit-is (chartOf (row % 16)) (bits / 2 ^ (4 * k) % 16) odd e)
 
 -- the same steps by the number of digits left
 module _ (row left bits : ℕ) (odd : Bool) (sofar place : ℕ) (some : 0 < left) where
-  pub left-lost : digitOf (chartOf (row % 16)) (bits / 2 ^ (4 * (left - 1)) % 16) odd ≡ 16 → readRow (rowOf row left) bits odd sofar place ≡ lost place
+  pub left-lost : digitOf (chartOf (row % 16)) (bits / 2 ^ (4 * (left - 1)) % 16) odd ≡ 16 → readRow (digitRow row left) bits odd sofar place ≡ lost place
   left-lost =
-      down (λ (n k : ℕ). digitOf (chartOf (row % 16)) (bits / 2 ^ (4 * k) % 16) odd ≡ 16 → readRow (rowOf row n) bits odd sofar place ≡ lost place)
+      down (λ (n k : ℕ). digitOf (chartOf (row % 16)) (bits / 2 ^ (4 * k) % 16) odd ≡ 16 → readRow (digitRow row n) bits odd sofar place ≡ lost place)
       (λ k. step-lost row k bits odd sofar place) left some
 
   pub left-read : (digitOf (chartOf (row % 16)) (bits / 2 ^ (4 * (left - 1)) % 16) odd ≡ 16 → ⊥)
-      → readRow (rowOf row left) bits odd sofar place
-      ≡ readRow (rowOf (row / 16) (left - 1)) bits (isOdd (digitOf (chartOf (row % 16)) (bits / 2 ^ (4 * (left - 1)) % 16) odd)) (sofar * sizeOf (chartOf (row % 16)) + digitOf (chartOf (row % 16)) (bits / 2 ^ (4 * (left - 1)) % 16) odd) (suc place)
+      → readRow (digitRow row left) bits odd sofar place
+      ≡ readRow (digitRow (row / 16) (left - 1)) bits (isOdd (digitOf (chartOf (row % 16)) (bits / 2 ^ (4 * (left - 1)) % 16) odd)) (sofar * sizeOf (chartOf (row % 16)) + digitOf (chartOf (row % 16)) (bits / 2 ^ (4 * (left - 1)) % 16) odd) (suc place)
   left-read =
-      down (λ (n k : ℕ). (digitOf (chartOf (row % 16)) (bits / 2 ^ (4 * k) % 16) odd ≡ 16 → ⊥) → readRow (rowOf row n) bits odd sofar place ≡ readRow (rowOf (row / 16) k) bits (isOdd (digitOf (chartOf (row % 16)) (bits / 2 ^ (4 * k) % 16) odd)) (sofar * sizeOf (chartOf (row % 16)) + digitOf (chartOf (row % 16)) (bits / 2 ^ (4 * k) % 16) odd) (suc place))
+      down (λ (n k : ℕ). (digitOf (chartOf (row % 16)) (bits / 2 ^ (4 * k) % 16) odd ≡ 16 → ⊥) → readRow (digitRow row n) bits odd sofar place ≡ readRow (digitRow (row / 16) k) bits (isOdd (digitOf (chartOf (row % 16)) (bits / 2 ^ (4 * k) % 16) odd)) (sofar * sizeOf (chartOf (row % 16)) + digitOf (chartOf (row % 16)) (bits / 2 ^ (4 * k) % 16) odd) (suc place))
       (λ k. step-read row k bits odd sofar place) left some
 
 -- a level with one digit more takes no more room than was left for it: four bits a digit
@@ -114,8 +114,8 @@ below-more b b′ h (known v) w = omega arith
 below-more b b′ h (lost k) w = tt
 
 -- a row's level is below what four bits a digit leave room for
-pub row-below : (row left bits : ℕ) (odd : Bool) (sofar place : ℕ) → Below ((sofar + 1) * 16 ^ left) (readRow (rowOf row left) bits odd sofar place)
-unfolding readRow rowOf
+pub row-below : (row left bits : ℕ) (odd : Bool) (sofar place : ℕ) → Below ((sofar + 1) * 16 ^ left) (readRow (digitRow row left) bits odd sofar place)
+unfolding readRow digitRow
 row-below row zero bits odd sofar place = omega arith
 row-below row (suc k) bits odd sofar place =
     let c = chartOf (row % 16) in
@@ -126,7 +126,7 @@ row-below row (suc k) bits odd sofar place =
           rw (step-read row k bits odd sofar place e)
           (below-more ((sofar * sizeOf c + d + 1) * 16 ^ k) ((sofar + 1) * 16 ^ suc k)
           (room-step sofar (sizeOf c) d (digit-lt c (bits / 2 ^ (4 * k) % 16) odd e) (size-high (row % 16)) k)
-          (readRow (rowOf (row / 16) k) bits (isOdd d) (sofar * sizeOf c + d) (suc place)) (row-below (row / 16) k bits (isOdd d) (sofar * sizeOf c + d) (suc place)))
+          (readRow (digitRow (row / 16) k) bits (isOdd d) (sofar * sizeOf c + d) (suc place)) (row-below (row / 16) k bits (isOdd d) (sofar * sizeOf c + d) (suc place)))
     ]
 
 -- the number that the code gives for a level, by the number that the digit reader gave

@@ -11,22 +11,22 @@ use lib.Dec.{eqb, eqb→eq, ltb, lit<, lit≤}
 use Rattle.frame.specs.Pick.{pick}
 use Rattle.frame.specs.Charts.{isOdd, decimal, placeIn, turned}
 use Rattle.frame.specs.Level.{Level, known, lost}
-use Rattle.frame.specs.Pairs.{noPair, pairOf, entryOf, indexOf, readPairs, uncounted}
+use Rattle.frame.specs.Pairs.{noPair, pairNumber, tableEntry, indexOf, readPairs, uncounted}
 use Rattle.frame.specs.inside.Packed.{chartOf, digitOf, readCode, Below}
 use Rattle.frame.proofs.Tables.{at-below}
 use Rattle.frame.proofs.Digits.{down, below-more}
 use Rattle.frame.proofs.PairsAreDigits.{entry-is, pair-lt}
 
 -- an entry that is no mark is the number of a pair
-pub entry-lt : (odd : Bool) (a b : ℕ) → a < 16 → b < 16 → (entryOf (indexOf odd a b) ≡ 255 → ⊥) → entryOf (indexOf odd a b) < 100
+pub entry-lt : (odd : Bool) (a b : ℕ) → a < 16 → b < 16 → (tableEntry (indexOf odd a b) ≡ 255 → ⊥) → tableEntry (indexOf odd a b) < 100
 entry-lt odd a b ha hb none = rw (entry-is odd a b ha hb) (pair-lt odd a b (λ e. none (entry-is odd a b ha hb ∙ e)))
 
 -- the entry of the top pair, and of its first code with 0000
 abbrev pub topPair : ℕ → ℕ → Bool → ℕ
-topPair k bits odd = entryOf (indexOf odd (bits / 2 ^ (8 * k + 4) % 16) (bits / 2 ^ (8 * k) % 16))
+topPair k bits odd = tableEntry (indexOf odd (bits / 2 ^ (8 * k + 4) % 16) (bits / 2 ^ (8 * k) % 16))
 
 abbrev pub lostAt : ℕ → ℕ → Bool → ℕ → ℕ
-lostAt k bits odd place = pick (eqb (entryOf (indexOf odd (bits / 2 ^ (8 * k + 4) % 16) 0)) noPair) place (suc place)
+lostAt k bits odd place = pick (eqb (tableEntry (indexOf odd (bits / 2 ^ (8 * k + 4) % 16) 0)) noPair) place (suc place)
 
 pub top-lt : (k bits : ℕ) (odd : Bool) → (topPair k bits odd ≡ 255 → ⊥) → topPair k bits odd < 100
 top-lt k bits odd = entry-lt odd (bits / 2 ^ (8 * k + 4) % 16) (bits / 2 ^ (8 * k) % 16) (mod-lt (bits / 2 ^ (8 * k + 4)) (lit< tt)) (mod-lt (bits / 2 ^ (8 * k)) (lit< tt))

@@ -9,24 +9,24 @@ use lib.Pow.{shr-shr}
 use Rattle.frame.specs.Pick.{pick}
 use Rattle.frame.specs.Line.{mark}
 use Rattle.frame.specs.Charts.{decimal, placeIn, turned}
-use Rattle.frame.specs.Pairs.{pairOf, entryOf, indexOf}
+use Rattle.frame.specs.Pairs.{pairNumber, tableEntry, indexOf}
 use Rattle.frame.specs.inside.PairWords.{words, wordOf, tableAt}
 use Rattle.frame.proofs.Tables.{at-below}
 
 entryRight : ℕ → Bool
-entryRight i = eqb (tableAt i) (entryOf i)
+entryRight i = eqb (tableAt i) (tableEntry i)
 
-pub table-rule : (i : ℕ) → i < 512 → tableAt i ≡ entryOf i
-unfolding entryRight words pairOf decimal placeIn turned
+pub table-rule : (i : ℕ) → i < 512 → tableAt i ≡ tableEntry i
+unfolding entryRight words pairNumber decimal placeIn turned
 table-rule i h = eqb→eq _ _ (at-below entryRight 512 tt i h)
 
 -- where the entry of an index stands
-at-place : (i k j : ℕ) → i < 512 → i / 8 ≡ k → i % 8 ≡ j → wordOf k / 2 ^ (8 * j) % 256 ≡ entryOf i
+at-place : (i k j : ℕ) → i < 512 → i / 8 ≡ k → i % 8 ≡ j → wordOf k / 2 ^ (8 * j) % 256 ≡ tableEntry i
 at-place i k j h w r = rw (← w, ← r) (table-rule i h)
 
 -- the same by the codes side by side, as the code takes it out of a word
 pub words-rule : (odd : Bool) (codes : ℕ) → codes < 256
-    → pick odd (wordOf (32 + codes / 8)) (wordOf (codes / 8)) / 2 ^ (8 * (codes % 8)) % 256 ≡ entryOf (mark odd * 256 + codes)
+    → pick odd (wordOf (32 + codes / 8)) (wordOf (codes / 8)) / 2 ^ (8 * (codes % 8)) % 256 ≡ tableEntry (mark odd * 256 + codes)
 words-rule true codes h = at-place (1 * 256 + codes) (32 + codes / 8) (codes % 8) (omega arith) (omega arith) (omega arith)
 words-rule false codes h = at-place (0 * 256 + codes) (codes / 8) (codes % 8) (omega arith) (omega arith) (omega arith)
 

@@ -16,7 +16,7 @@ use Rattle.frame.specs.Pick.{pick}
 use Rattle.frame.specs.Line.{field, mark}
 use Rattle.frame.specs.Charts.{Chart, sizeOf, isOdd, turned, placeIn, decimal, oneBit, twoBits, feetTens}
 use Rattle.frame.specs.Level.{Level, known, lost, Mode, widthOf, readRow, lastBit, levelOf, modeOf, decimalMode, twentyMetreMode, thirtyMetreMode}
-use Rattle.frame.specs.Pairs.{noPair, pairOf, entryOf, indexOf, decimals, readPairs, uncounted, levelByPairs, secondLevel}
+use Rattle.frame.specs.Pairs.{noPair, pairNumber, tableEntry, indexOf, decimals, readPairs, uncounted, levelByPairs, secondLevel}
 use Rattle.frame.proofs.Both.{and-left, and-right}
 use Rattle.frame.proofs.Tables.{allBelow, at-below}
 use Rattle.frame.proofs.Digits.{turned-lt}
@@ -34,7 +34,7 @@ unfolding decimal placeIn
 zero-place = refl
 
 -- the entry of an index made of a pair
-pub entry-is : (odd : Bool) (a b : ℕ) → a < 16 → b < 16 → entryOf (indexOf odd a b) ≡ pairOf odd a b
+pub entry-is : (odd : Bool) (a b : ℕ) → a < 16 → b < 16 → tableEntry (indexOf odd a b) ≡ pairNumber odd a b
 entry-is true a b ha hb =
     let high : (1 * 256 + a * 16 + b) / 256 ≡ 1 = omega arith in
     let mid : (1 * 256 + a * 16 + b) / 16 % 16 ≡ a = omega arith in
@@ -60,16 +60,16 @@ module _ (odd : Bool) (a b : ℕ) where
   abbrev e : ℕ
   e = turned (isOdd d) (sizeOf decimal) y
 
-  both-in : ltb x (sizeOf decimal) ≡ true → ltb y (sizeOf decimal) ≡ true → pairOf odd a b ≡ 10 * d + e
-  unfolding pairOf
+  both-in : ltb x (sizeOf decimal) ≡ true → ltb y (sizeOf decimal) ≡ true → pairNumber odd a b ≡ 10 * d + e
+  unfolding pairNumber
   both-in p q = rw (p, q)
 
-  first-out : ltb x (sizeOf decimal) ≡ false → pairOf odd a b ≡ noPair
-  unfolding pairOf
+  first-out : ltb x (sizeOf decimal) ≡ false → pairNumber odd a b ≡ noPair
+  unfolding pairNumber
   first-out p = rw p
 
-  second-out : ltb x (sizeOf decimal) ≡ true → ltb y (sizeOf decimal) ≡ false → pairOf odd a b ≡ noPair
-  unfolding pairOf
+  second-out : ltb x (sizeOf decimal) ≡ true → ltb y (sizeOf decimal) ≡ false → pairNumber odd a b ≡ noPair
+  unfolding pairNumber
   second-out p q = rw (p, q)
 
   d-lt : ltb x (sizeOf decimal) ≡ true → d < 10
@@ -79,35 +79,35 @@ module _ (odd : Bool) (a b : ℕ) where
   e-lt q = rw (← decimal-size) (turned-lt (isOdd d) (sizeOf decimal) y (ltb-true _ _ q))
 
   -- a pair's number is no mark, and is odd exactly if its second digit is
-  pub unmarked : ltb x (sizeOf decimal) ≡ true → ltb y (sizeOf decimal) ≡ true → eqb (pairOf odd a b) noPair ≡ false
+  pub unmarked : ltb x (sizeOf decimal) ≡ true → ltb y (sizeOf decimal) ≡ true → eqb (pairNumber odd a b) noPair ≡ false
   unmarked p q = rw (both-in p q) (ne-eqb (10 * d + e) 255 (small d e (d-lt p) (e-lt q)))
     where
       small : (d e : ℕ) → d < 10 → e < 10 → 10 * d + e ≡ 255 → ⊥
       small d e h k z = omega arith
 
-  odd-is : ltb x (sizeOf decimal) ≡ true → ltb y (sizeOf decimal) ≡ true → isOdd (pairOf odd a b) ≡ isOdd e
+  odd-is : ltb x (sizeOf decimal) ≡ true → ltb y (sizeOf decimal) ≡ true → isOdd (pairNumber odd a b) ≡ isOdd e
   odd-is p q = rw (both-in p q) (ap (λ (n : ℕ). eqb n 1) (same d e))
     where
       same : (d e : ℕ) → (10 * d + e) % 2 ≡ e % 2
       same d e = omega arith
 
   -- an entry that is no mark is a number from 0 to 99
-  pub pair-lt : (pairOf odd a b ≡ 255 → ⊥) → pairOf odd a b < 100
+  pub pair-lt : (pairNumber odd a b ≡ 255 → ⊥) → pairNumber odd a b < 100
   pair-lt none = go (ltb x (sizeOf decimal)) refl (ltb y (sizeOf decimal)) refl
     where
       small : (d e : ℕ) → d < 10 → e < 10 → 10 * d + e < 100
       small d e h k = omega arith
 
-      go : (s : Bool) → ltb x (sizeOf decimal) ≡ s → (t : Bool) → ltb y (sizeOf decimal) ≡ t → pairOf odd a b < 100
+      go : (s : Bool) → ltb x (sizeOf decimal) ≡ s → (t : Bool) → ltb y (sizeOf decimal) ≡ t → pairNumber odd a b < 100
       go true p true q = rw (both-in p q) (small d e (d-lt p) (e-lt q))
       go true p false q = absurd (none (second-out p q))
       go false p t q = absurd (none (first-out p))
 
 -- with 0000 for the second code a pair is marked exactly if its first code is in no chart
-asked-in : (odd : Bool) (a : ℕ) → ltb (placeIn a (decimal .codes)) (sizeOf decimal) ≡ true → eqb (pairOf odd a 0) noPair ≡ false
+asked-in : (odd : Bool) (a : ℕ) → ltb (placeIn a (decimal .codes)) (sizeOf decimal) ≡ true → eqb (pairNumber odd a 0) noPair ≡ false
 asked-in odd a p = unmarked odd a 0 p (rw (zero-place, decimal-size))
 
-asked-out : (odd : Bool) (a : ℕ) → ltb (placeIn a (decimal .codes)) (sizeOf decimal) ≡ false → eqb (pairOf odd a 0) noPair ≡ true
+asked-out : (odd : Bool) (a : ℕ) → ltb (placeIn a (decimal .codes)) (sizeOf decimal) ≡ false → eqb (pairNumber odd a 0) noPair ≡ true
 asked-out odd a p = rw (first-out odd a 0 p)
 
 -- two decimal digits above a row, by their pair
@@ -129,12 +129,12 @@ module _ (cs : List Chart) (left : ℕ) (w : widthOf cs ≡ 8 * left) (bits : �
   sum a d e = omega arith
 
   two-digits : readRow (decimal ∷ decimal ∷ cs) bits odd sofar place
-      ≡ pick (eqb (pairOf odd first second) noPair) (lost (pick (eqb (pairOf odd first 0) noPair) place (suc place))) (readRow cs bits (isOdd (pairOf odd first second)) (sofar * 100 + pairOf odd first second) (suc (suc place)))
+      ≡ pick (eqb (pairNumber odd first second) noPair) (lost (pick (eqb (pairNumber odd first 0) noPair) place (suc place))) (readRow cs bits (isOdd (pairNumber odd first second)) (sofar * 100 + pairNumber odd first second) (suc (suc place)))
   two-digits = one-by-one ∙ go (ltb (x odd first second) (sizeOf decimal)) refl (ltb (y odd first second) (sizeOf decimal)) refl
     where
       go : (s : Bool) → ltb (x odd first second) (sizeOf decimal) ≡ s → (t : Bool) → ltb (y odd first second) (sizeOf decimal) ≡ t
           → pick s (pick t (readRow cs bits (isOdd (e odd first second)) ((sofar * sizeOf decimal + d odd first second) * sizeOf decimal + e odd first second) (suc (suc place))) (lost (suc place))) (lost place)
-          ≡ pick (eqb (pairOf odd first second) noPair) (lost (pick (eqb (pairOf odd first 0) noPair) place (suc place))) (readRow cs bits (isOdd (pairOf odd first second)) (sofar * 100 + pairOf odd first second) (suc (suc place)))
+          ≡ pick (eqb (pairNumber odd first second) noPair) (lost (pick (eqb (pairNumber odd first 0) noPair) place (suc place))) (readRow cs bits (isOdd (pairNumber odd first second)) (sofar * 100 + pairNumber odd first second) (suc (suc place)))
       go true p true q =
           rw (unmarked odd first second p q, odd-is odd first second p q, both-in odd first second p q, sum sofar (d odd first second) (e odd first second), decimal-size)
       go true p false q = rw (second-out odd first second p q, asked-in odd first p)
@@ -166,7 +166,7 @@ pairs-are-digits zero bits odd sofar place = no-digit bits odd sofar place
 pairs-are-digits (suc k) bits odd sofar place =
     let first = bits / 2 ^ (8 * k + 4) % 16 in
     let second = bits / 2 ^ (8 * k) % 16 in
-    rw (entry-is odd first second (mod-lt (bits / 2 ^ (8 * k + 4)) (lit< tt)) (mod-lt (bits / 2 ^ (8 * k)) (lit< tt)), entry-is odd first 0 (mod-lt (bits / 2 ^ (8 * k + 4)) (lit< tt)) (lit< tt), pairs-are-digits k bits (isOdd (pairOf odd first second)) (sofar * 100 + pairOf odd first second) (suc (suc place)))
+    rw (entry-is odd first second (mod-lt (bits / 2 ^ (8 * k + 4)) (lit< tt)) (mod-lt (bits / 2 ^ (8 * k)) (lit< tt)), entry-is odd first 0 (mod-lt (bits / 2 ^ (8 * k + 4)) (lit< tt)) (lit< tt), pairs-are-digits k bits (isOdd (pairNumber odd first second)) (sofar * 100 + pairNumber odd first second) (suc (suc place)))
     (sym (two-digits (decimals (2 * k)) k (pairs-width k) bits odd sofar place) ∙ ap (λ (cs : List Chart). readRow cs bits odd sofar place) (more k))
 
 -- a chart that is a full front of the decimal one: each code of its width stands in both, at the same place

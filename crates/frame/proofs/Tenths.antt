@@ -7,8 +7,8 @@ use lib.IntN.{ℤ, pos, negsuc}
 use Rattle.frame.specs.declared.Temperature.{Temperature}
 use Rattle.frame.specs.declared.Temperature.the-variants.{Degrees, Above, Below, Absent}
 use Rattle.frame.specs.Kinds.{tenthsOf}
-use Rattle.frame.specs.Temperature.{isAbsent, putHeat, putHeat1800, putHeat1900, putDegrees1800, putDegrees1900}
-use Rattle.frame.specs.inside.Written.{isAbove, isBelow, tenthsFor, putTenths}
+use Rattle.frame.specs.Temperature.{isAbove, isBelow, isAbsent, putHeat, putHeat1800, putHeat1900, putDegrees1800, putDegrees1900}
+use Rattle.frame.specs.inside.Written.{tenthsFor, putTenths}
 
 pub above-is : (t : Temperature) → isAbove t ≡ true → tenthsFor t ≡ pos 32767
 above-is (Degrees d) e = let z : _≡_ {A = ℕ} 0 1 = cc in absurd (omega arith)

@@ -14,7 +14,7 @@ use Rattle.frame.specs.Pick.{pick}
 use Rattle.frame.specs.Line.{mark}
 use Rattle.frame.specs.Charts.{Chart, sizeOf, isOdd, turned, codeOf}
 use Rattle.frame.specs.Level.{widthOf, valuesOf, writeRow}
-use Rattle.frame.specs.inside.Packed.{chartOf, rowOf, writeUp}
+use Rattle.frame.specs.inside.Packed.{chartOf, digitRow, writeUp}
 use Rattle.frame.specs.inside.Constants.{placedAt}
 use Rattle.frame.proofs.Digits.{turned-lt}
 use Rattle.frame.proofs.Tables.{size-low, size-high, size-even, code-small}
@@ -24,10 +24,10 @@ abbrev pub inFour : ℕ → Chart
 inFour k = record { width = 4; codes = chartOf k .codes }
 
 -- a row of one digit more is the row with that digit at its end
-row-snoc : (row k : ℕ) → rowOf row (suc k) ≡ rowOf row k ++ (inFour (row / 16 ^ k % 16) ∷ [])
-unfolding rowOf
+row-snoc : (row k : ℕ) → digitRow row (suc k) ≡ digitRow row k ++ (inFour (row / 16 ^ k % 16) ∷ [])
+unfolding digitRow
 row-snoc row zero = ap (λ (n : ℕ). inFour (n % 16) ∷ []) (omega arith)
-row-snoc row (suc k) = ap (λ (cs : List Chart). inFour (row % 16) ∷ cs) (row-snoc (row / 16) k ∙ ap (λ (n : ℕ). rowOf (row / 16) k ++ (inFour (n % 16) ∷ [])) (div-div-eq-div-mul row 16 (16 ^ k) ∙ ap (λ (n : ℕ). row / n) (mul-comm 16 (16 ^ k) ∙ sym (pow-suc 16 k))))
+row-snoc row (suc k) = ap (λ (cs : List Chart). inFour (row % 16) ∷ cs) (row-snoc (row / 16) k ∙ ap (λ (n : ℕ). digitRow (row / 16) k ++ (inFour (n % 16) ∷ [])) (div-div-eq-div-mul row 16 (16 ^ k) ∙ ap (λ (n : ℕ). row / n) (mul-comm 16 (16 ^ k) ∙ sym (pow-suc 16 k))))
 
 module _ (c : Chart) where
   values-snoc : (cs : List Chart) → valuesOf (cs ++ (c ∷ [])) ≡ valuesOf cs * sizeOf c
@@ -79,23 +79,23 @@ module _ (v w s : ℕ) (ws : 0 < w) (ss : 0 < s) where
   below-mod : v % (w * s) % s ≡ v % s
   below-mod = ap (λ (n : ℕ). n % s) rest-split ∙ digits-mod (v / s % w) (mod-lt v ss)
 
-values-pos : (row k : ℕ) → 0 < valuesOf (rowOf row k)
-unfolding valuesOf rowOf
+values-pos : (row k : ℕ) → 0 < valuesOf (digitRow row k)
+unfolding valuesOf digitRow
 values-pos row zero = lit< tt
 values-pos row (suc k) = mul-pos (omega (arith, size-low (row % 16))) (values-pos (row / 16) k)
 
 -- the last digit of a row, below the digits of the row and any number u above them all
 module _ (c : Chart) (some : 0 < sizeOf c) where
-  last-digit : (row k u v : ℕ) → v < valuesOf (rowOf row k) * sizeOf c
-      → writeRow (rowOf row k ++ (c ∷ [])) (isOdd u) v
-      ≡ writeRow (rowOf row k) (isOdd u) (v / sizeOf c) * 2 ^ (c .width) + codeOf (isOdd (u * valuesOf (rowOf row k) + v / sizeOf c)) c (v % sizeOf c)
-  unfolding writeRow rowOf valuesOf widthOf
+  last-digit : (row k u v : ℕ) → v < valuesOf (digitRow row k) * sizeOf c
+      → writeRow (digitRow row k ++ (c ∷ [])) (isOdd u) v
+      ≡ writeRow (digitRow row k) (isOdd u) (v / sizeOf c) * 2 ^ (c .width) + codeOf (isOdd (u * valuesOf (digitRow row k) + v / sizeOf c)) c (v % sizeOf c)
+  unfolding writeRow digitRow valuesOf widthOf
   last-digit row zero u v h =
       let few : v < sizeOf c = omega arith in
       let q : v / sizeOf c ≡ 0 = div-eq-of-lt few in
       simp (mod-eq-of-lt few, q, div-one v, mul-one, add-zero, zero-mul, zero-add)
   last-digit row (suc k) u v h =
-      let cs = rowOf (row / 16) k in
+      let cs = digitRow (row / 16) k in
       let w = valuesOf cs in
       let s = sizeOf c in
       let ws = values-pos (row / 16) k in
@@ -105,9 +105,9 @@ module _ (c : Chart) (some : 0 < sizeOf c) where
       (regroup (codeOf (isOdd u) (inFour (row % 16)) (v / s / w)) (2 ^ widthOf cs) (2 ^ (c .width)) (writeRow cs (isOdd (v / s / w)) (v / s % w)) (codeOf (isOdd (v / s)) c (v % s)))
 
   -- the same with a starting state above the first digit
-  pub last-from : (row k : ℕ) (start : Bool) (v : ℕ) → v < valuesOf (rowOf row k) * sizeOf c
-      → writeRow (rowOf row k ++ (c ∷ [])) start v
-      ≡ writeRow (rowOf row k) start (v / sizeOf c) * 2 ^ (c .width) + codeOf (isOdd (mark start * valuesOf (rowOf row k) + v / sizeOf c)) c (v % sizeOf c)
+  pub last-from : (row k : ℕ) (start : Bool) (v : ℕ) → v < valuesOf (digitRow row k) * sizeOf c
+      → writeRow (digitRow row k ++ (c ∷ [])) start v
+      ≡ writeRow (digitRow row k) start (v / sizeOf c) * 2 ^ (c .width) + codeOf (isOdd (mark start * valuesOf (digitRow row k) + v / sizeOf c)) c (v % sizeOf c)
   last-from row k true v h = last-digit row k 1 v h
   last-from row k false v h = last-digit row k 0 v h
 
@@ -115,30 +115,30 @@ not-zero : (k : ℕ) → suc k ≡ 0 → ⊥
 not-zero k e = omega arith
 
 -- what the digit above is odd by: the starting state above the first digit, else all that stands above
-odd-above : (row k : ℕ) (start : Bool) (q : ℕ) → q < valuesOf (rowOf row k) → isOdd (mark start * valuesOf (rowOf row k) + q) ≡ pick (eqb k 0) start (isOdd q)
-unfolding valuesOf rowOf
+odd-above : (row k : ℕ) (start : Bool) (q : ℕ) → q < valuesOf (digitRow row k) → isOdd (mark start * valuesOf (digitRow row k) + q) ≡ pick (eqb k 0) start (isOdd q)
+unfolding valuesOf digitRow
 odd-above row zero true q h = let none : q ≡ 0 = omega arith in rw none
 odd-above row zero false q h = let none : q ≡ 0 = omega arith in rw none
 odd-above row (suc k) start q h =
     rw (ne-eqb (suc k) 0 (λ e. not-zero k e))
-    (odd-even (mark start) (sizeOf (inFour (row % 16)) * valuesOf (rowOf (row / 16) k)) q (even-mul (sizeOf (inFour (row % 16))) (valuesOf (rowOf (row / 16) k)) (size-even (row % 16))))
+    (odd-even (mark start) (sizeOf (inFour (row % 16)) * valuesOf (digitRow (row / 16) k)) q (even-mul (sizeOf (inFour (row % 16))) (valuesOf (digitRow (row / 16) k)) (size-even (row % 16))))
 
 -- from the ones digit up or from the top, the same codes
-pub upward : (row left : ℕ) (start : Bool) (v : ℕ) → v < valuesOf (rowOf row left) → writeUp row left start v ≡ writeRow (rowOf row left) start v
-unfolding writeUp writeRow rowOf
+pub upward : (row left : ℕ) (start : Bool) (v : ℕ) → v < valuesOf (digitRow row left) → writeUp row left start v ≡ writeRow (digitRow row left) start v
+unfolding writeUp writeRow digitRow
 upward row zero start v h = refl
 upward row (suc k) start v h =
     let c = inFour (row / 16 ^ k % 16) in
     let s = sizeOf c in
     let some : 0 < s = omega (arith, size-low (row / 16 ^ k % 16)) in
-    let inside : v < valuesOf (rowOf row k) * s = rw (row-snoc row k, values-snoc c (rowOf row k)) at h in
-    let fewer : v / s < valuesOf (rowOf row k) = div-lt-iff-lt-mul some .1 inside in
+    let inside : v < valuesOf (digitRow row k) * s = rw (row-snoc row k, values-snoc c (digitRow row k)) at h in
+    let fewer : v / s < valuesOf (digitRow row k) = div-lt-iff-lt-mul some .1 inside in
     let low = codeOf (pick (eqb k 0) start (isOdd (v / s))) c (v % s) in
     ap (λ (n : ℕ). low + 16 * n) (upward row k start (v / s) fewer)
-    ∙ swap low (writeRow (rowOf row k) start (v / s))
+    ∙ swap low (writeRow (digitRow row k) start (v / s))
     ∙ sym
     (ap (λ (cs : List Chart). writeRow cs start v) (row-snoc row k) ∙ last-from c some row k start v inside
-    ∙ ap (λ (odd : Bool). writeRow (rowOf row k) start (v / s) * 16 + codeOf odd c (v % s)) (odd-above row k start (v / s) fewer))
+    ∙ ap (λ (odd : Bool). writeRow (digitRow row k) start (v / s) * 16 + codeOf odd c (v % s)) (odd-above row k start (v / s) fewer))
   where
     swap : (a b : ℕ) → a + 16 * b ≡ b * 16 + a
     swap a b = omega arith
@@ -171,11 +171,11 @@ pub sixteen-le : (k : ℕ) → k ≤ 8 → 16 ^ k ≤ 2 ^ 32
 sixteen-le k h = rw (← sixteen k) (pow-mono {i = 4 * k} {j = 32} (omega arith))
 
 -- so a level within its mode is placed the same from either end
-pub placed-up : (v row left first fill largest : ℕ) (start : Bool) → largest < valuesOf (rowOf row left)
-    → placedAt v (writeUp row left start v) first fill largest ≡ placedAt v (writeRow (rowOf row left) start v) first fill largest
+pub placed-up : (v row left first fill largest : ℕ) (start : Bool) → largest < valuesOf (digitRow row left)
+    → placedAt v (writeUp row left start v) first fill largest ≡ placedAt v (writeRow (digitRow row left) start v) first fill largest
 placed-up v row left first fill largest start h = by (leb v largest) refl
   where
-    by : (b : Bool) → leb v largest ≡ b → placedAt v (writeUp row left start v) first fill largest ≡ placedAt v (writeRow (rowOf row left) start v) first fill largest
+    by : (b : Bool) → leb v largest ≡ b → placedAt v (writeUp row left start v) first fill largest ≡ placedAt v (writeRow (digitRow row left) start v) first fill largest
     by true e =
         let within : v ≤ largest = leb-true v largest e in
         ap (λ (n : ℕ). placedAt v n first fill largest) (upward row left start v (omega arith))

@@ -20,8 +20,8 @@ noPair = 255
 
 -- The entry for a pair of decimal codes, the digit above the first one odd (the first digit is turned) or not: the pair's number from 0 to 99, or
 -- the mark where one of the codes is in no chart.
-unfoldable pub pairOf : Bool → ℕ → ℕ → ℕ
-pairOf odd first second =
+unfoldable pub pairNumber : Bool → ℕ → ℕ → ℕ
+pairNumber odd first second =
     let x = placeIn first (decimal .codes) in
     let y = placeIn second (decimal .codes) in
     let d = turned odd (sizeOf decimal) x in
@@ -29,8 +29,8 @@ pairOf odd first second =
     pick (ltb x (sizeOf decimal) && ltb y (sizeOf decimal)) (10 * d + e) noPair
 
 -- The table: an entry stands at 256 where the first digit is turned, plus 16 times the first code, plus the second.
-abbrev pub entryOf : ℕ → ℕ
-entryOf i = pairOf (eqb (i / 256) 1) (i / 16 % 16) (i % 16)
+abbrev pub tableEntry : ℕ → ℕ
+tableEntry i = pairNumber (eqb (i / 256) 1) (i / 16 % 16) (i % 16)
 
 abbrev pub indexOf : Bool → ℕ → ℕ → ℕ
 indexOf odd first second = mark odd * 256 + first * 16 + second
@@ -46,8 +46,8 @@ unfoldable pub readPairs : ℕ → ℕ → Bool → ℕ → ℕ → Level
 readPairs zero bits odd sofar place = known sofar
 readPairs (suc left) bits odd sofar place =
     let first = bits / 2 ^ (8 * left + 4) % 16 in
-    let pair = entryOf (indexOf odd first (bits / 2 ^ (8 * left) % 16)) in
-    pick (eqb pair noPair) (lost (pick (eqb (entryOf (indexOf odd first 0)) noPair) place (suc place)))
+    let pair = tableEntry (indexOf odd first (bits / 2 ^ (8 * left) % 16)) in
+    pick (eqb pair noPair) (lost (pick (eqb (tableEntry (indexOf odd first 0)) noPair) place (suc place)))
     (readPairs left bits (isOdd pair) (sofar * 100 + pair) (suc (suc place)))
 
 -- A row with an odd number of digits has a digit 0000 before them, which is not counted in the place of a digit in no chart.

@@ -13,6 +13,19 @@ pub data Heat : Type 0 where
   told : Temperature → Heat
   bad : Heat
 
+-- Above or below the range of an 1800.
+abbrev pub isAbove : Temperature → Bool
+isAbove (Degrees d) = false
+isAbove Above = true
+isAbove Below = false
+isAbove Absent = false
+
+abbrev pub isBelow : Temperature → Bool
+isBelow (Degrees d) = false
+isBelow Above = false
+isBelow Below = true
+isBelow Absent = false
+
 -- A sign and a number of tenths. Zero has one value, whatever its sign.
 abbrev pub signed : Bool → ℕ → ℤ
 signed true m = pos m

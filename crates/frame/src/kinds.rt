@@ -2,7 +2,15 @@
 ghost use mathlib.Core.Path.{_≡_};
 ghost use Rattle.frame.specs.Line.{mark};
 ghost use Rattle.frame.specs.Kinds.{kindOf, tenthsOf, temperatureBy};
+ghost use Rattle.frame.specs.Reply.{is1800};
 use crate::Temperature;
+
+// Bit 2 of a settings byte is the type.
+pub fn of_1800(settings: u8) -> bool
+    ensures { λ r. ⌜ r ≡ is1800 settings ⌝ }
+{
+    settings / 4 % 2 == 1
+}
 
 pub fn marked(set: bool) -> u8
     ensures { λ r. ⌜ r ≡ mark set ⌝ }

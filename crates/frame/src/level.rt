@@ -3,7 +3,7 @@ ghost use mathlib.Core.Path.{_≡_};
 ghost use Prim.Native.Nat.{_+_, _-_, _*_, _/_, _%_, _^_, _<_, _≤_};
 ghost use Rattle.frame.specs.Charts.{sizeOf};
 ghost use Rattle.frame.specs.Level.{Level, readRow};
-ghost use Rattle.frame.specs.inside.Packed.{chartOf, digitOf, rowOf, readCode, Below, levelNumber};
+ghost use Rattle.frame.specs.inside.Packed.{chartOf, digitOf, digitRow, readCode, Below, levelNumber};
 ghost use Rattle.frame.specs.inside.Constants.{fillAt, digitBits, readAt};
 use crate::charts;
 
@@ -36,7 +36,7 @@ fn with_digit(row: u64, sofar: u64, d: u64) -> u64
 pub(crate) fn read_digits(row: u64, left: u64, bits: u64, odd: bool, sofar: u64, place: u64) -> u64
     requires { ⌜ (sofar + 1) * 16 ^ left ≤ 2 ^ 32 ⌝ }
     requires { ⌜ place + left ≤ 8 ⌝ }
-    ensures { λ r. ⌜ r ≡ readCode (readRow (rowOf row left) bits odd sofar place) ⌝ }
+    ensures { λ r. ⌜ r ≡ readCode (readRow (digitRow row left) bits odd sofar place) ⌝ }
 {
     if left == 0 {
         return sofar;

@@ -18,6 +18,7 @@ ghost use Rattle.frame.specs.Reply.{ReadsReply, WritesReply};
 ghost use Rattle.frame.specs.Pairs.{ReadsReplyByPairs};
 pub use heat::is_plus;
 pub use heat::magnitude;
+pub use line::bytes_of;
 pub use line::formed;
 
 // A temperature in tenths of a degree, above or below its range, or absent from the reply.

@@ -3,7 +3,7 @@ ghost use mathlib.Core.Path.{_≡_};
 ghost use Prim.Native.Nat.{_+_, _*_, _^_, _≤_};
 ghost use mathlib.Core.Logic.{_≢_};
 ghost use lib.ListN.{length};
-ghost use Rattle.frame.specs.Line.{formed, line, mark};
+ghost use Rattle.frame.specs.Line.{firstBytes, formed, line, mark};
 ghost use Rattle.frame.specs.inside.Packed.{threeBy, threeOf};
 
 // A line is lent in the right form: at most 64 bits, exactly the bytes for its count, pad bits 0.
@@ -114,4 +114,20 @@ pub(crate) fn three_of(v: u64) -> u64
     ensures { λ r. ⌜ r ≡ threeOf v ⌝ }
 {
     v + 6 * (v / 10) + 96 * (v / 100)
+}
+
+// The bytes of a word, the highest first. The compiler makes one store of them.
+pub fn bytes_of(word: u64) -> [u8; 8]
+    ensures { λ r. ⌜ r ≡ firstBytes 8 word ⌝ }
+{
+    [
+        ((word >> 56) % 256) as u8,
+        ((word >> 48) % 256) as u8,
+        ((word >> 40) % 256) as u8,
+        ((word >> 32) % 256) as u8,
+        ((word >> 24) % 256) as u8,
+        ((word >> 16) % 256) as u8,
+        ((word >> 8) % 256) as u8,
+        (word % 256) as u8,
+    ]
 }

@@ -6,7 +6,7 @@ ghost use lib.Dec.{eqb};
 ghost use Rattle.frame.specs.Pick.{pick};
 ghost use Rattle.frame.specs.Line.{mark};
 ghost use Rattle.frame.specs.Level.{Level};
-ghost use Rattle.frame.specs.Pairs.{noPair, entryOf, indexOf, readPairs, uncounted};
+ghost use Rattle.frame.specs.Pairs.{noPair, tableEntry, indexOf, readPairs, uncounted};
 ghost use Rattle.frame.specs.inside.Packed.{readCode, Below, levelNumber};
 ghost use Rattle.frame.specs.inside.Constants.{readPairsAt};
 use crate::level;
@@ -30,7 +30,7 @@ fn either(odd: bool, entries: Entries) -> u64
 // The table's entry for a pair of codes, its first digit turned or straight; the codes stand side by side in eight bits.
 fn entry(odd: bool, codes: u64) -> u64
     requires { ⌜ codes < 256 ⌝ }
-    ensures { λ r. ⌜ r ≡ entryOf (mark odd * 256 + codes) ⌝ }
+    ensures { λ r. ⌜ r ≡ tableEntry (mark odd * 256 + codes) ⌝ }
 {
     let word = either(odd, pair_table::eight(codes / 8));
     (word >> (8 * (codes % 8))) % 256
@@ -40,7 +40,7 @@ fn entry(odd: bool, codes: u64) -> u64
 fn top_pair(left: u64, bits: u64, odd: bool) -> u64
     requires { ⌜ 0 < left ⌝ }
     requires { ⌜ left ≤ 4 ⌝ }
-    ensures { λ r. ⌜ r ≡ entryOf (indexOf odd (bits / 2 ^ (8 * (left - 1) + 4) % 16) (bits / 2 ^ (8 * (left - 1)) % 16)) ⌝ }
+    ensures { λ r. ⌜ r ≡ tableEntry (indexOf odd (bits / 2 ^ (8 * (left - 1) + 4) % 16) (bits / 2 ^ (8 * (left - 1)) % 16)) ⌝ }
 {
     entry(odd, (bits >> (8 * (left - 1))) % 256)
 }
@@ -51,7 +51,7 @@ fn lost_place(left: u64, bits: u64, odd: bool, place: u64) -> u64
     requires { ⌜ 0 < left ⌝ }
     requires { ⌜ left ≤ 4 ⌝ }
     requires { ⌜ place ≤ 8 ⌝ }
-    ensures { λ r. ⌜ (r ≡ pick (eqb (entryOf (indexOf odd (bits / 2 ^ (8 * (left - 1) + 4) % 16) 0)) noPair) place (suc place)) × (r ≤ 9) ⌝ }
+    ensures { λ r. ⌜ (r ≡ pick (eqb (tableEntry (indexOf odd (bits / 2 ^ (8 * (left - 1) + 4) % 16) 0)) noPair) place (suc place)) × (r ≤ 9) ⌝ }
 {
     let first = (bits >> (8 * (left - 1) + 4)) % 16;
     if entry(odd, 16 * first) == NO_PAIR {

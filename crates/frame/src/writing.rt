@@ -11,6 +11,7 @@ ghost use Rattle.frame.specs.inside.Written.{frontOf, marksUp};
 use crate::Reading;
 use crate::Temperature;
 use crate::heat;
+use crate::kinds;
 use crate::line;
 use crate::modes;
 
@@ -54,7 +55,7 @@ fn body(settings: u8, address: u16, reading: Reading) -> u64
     if is_absent(t) {
         return front;
     }
-    front + heat::write(settings / 4 % 2 == 1, heat::tenths(t))
+    front + heat::write(kinds::of_1800(settings), heat::tenths(t))
 }
 
 // One byte of a line, by how many bits stand below it.

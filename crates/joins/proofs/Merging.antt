@@ -16,7 +16,7 @@ use Rattle.summary.specs.declared.Line.{Line}
 use Rattle.summary.specs.Line.{pairOf, together, blankLine}
 use Rattle.summary.specs.declared.Summary.{Summary}
 use Rattle.summary.specs.Handed.{linesOf}
-use Rattle.summary.specs.Updated.{put}
+use Rattle.summary.specs.Updated.{putAmong}
 use Rattle.summary.specs.Joined.{putAll, joinLines}
 use Rattle.summary.specs.inside.Placed.{Sound}
 use Rattle.summary.specs.inside.Joining.{mergedFrom, merged, Turn}
@@ -50,19 +50,19 @@ merged-below l ls [] n h a = merged-none l ls
 merged-below l ls (m ∷ ms) n h (above-more q a) = merged-first l m ls ms (omega arith)
 
 -- the first of a row put among the others, and the rest merged
-put-merged : (m : Line) (ls ms : List Line) → Above pairOf (pairOf m) ms → merged (put m ls) ms ≡ merged ls (m ∷ ms)
+put-merged : (m : Line) (ls ms : List Line) → Above pairOf (pairOf m) ms → merged (putAmong m ls) ms ≡ merged ls (m ∷ ms)
 put-merged m [] ms a = ap (λ (ls : List Line). merged ls ms) alone ∙ merged-below m [] ms (pairOf m) (omega arith) a ∙ none
   where
-    alone : put m [] ≡ m ∷ []
-    alone = unfold put in refl
+    alone : putAmong m [] ≡ m ∷ []
+    alone = unfold putAmong in refl
 
     none : m ∷ merged [] ms ≡ merged [] (m ∷ ms)
     none = unfold merged in refl
 put-merged m (l ∷ ls) ms a = go (put-merged m ls ms a) (order (pairOf l) (pairOf m))
   where
-    go : merged (put m ls) ms ≡ merged ls (m ∷ ms) → Order (pairOf l) (pairOf m) → merged (put m (l ∷ ls)) ms ≡ merged (l ∷ ls) (m ∷ ms)
+    go : merged (putAmong m ls) ms ≡ merged ls (m ∷ ms) → Order (pairOf l) (pairOf m) → merged (putAmong m (l ∷ ls)) ms ≡ merged (l ∷ ls) (m ∷ ms)
     go rest (less q) =
-        ap (λ (xs : List Line). merged xs ms) (put-after m l ls q) ∙ merged-below l (put m ls) ms (pairOf m) (omega arith) a
+        ap (λ (xs : List Line). merged xs ms) (put-after m l ls q) ∙ merged-below l (putAmong m ls) ms (pairOf m) (omega arith) a
         ∙ ap (λ (xs : List Line). l ∷ xs) rest ∙ sym (merged-first l m ls ms q)
     go rest (same q) =
         ap (λ (xs : List Line). merged xs ms) (put-at m l ls (sym q))
@@ -78,7 +78,7 @@ all-merged ls [] r = sym (nothing ls)
     nothing : (xs : List Line) → merged xs [] ≡ xs
     nothing [] = unfold merged in refl
     nothing (x ∷ xs) = merged-none x xs ∙ ap (λ (ys : List Line). x ∷ ys) (nothing xs)
-all-merged ls (m ∷ ms) (rises-more a r) = all-merged (put m ls) ms r ∙ put-merged m ls ms a
+all-merged ls (m ∷ ms) (rises-more a r) = all-merged (putAmong m ls) ms r ∙ put-merged m ls ms a
 
 -- the same by places: what is left of two rows from two places on
 module _ (ls ms : List Line) (i j : ℕ) where

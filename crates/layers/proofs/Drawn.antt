@@ -15,7 +15,7 @@ use Rattle.summary.specs.Worked.{pairIn, ofPair}
 use Rattle.summary.proofs.Seen.{list-more}
 use Rattle.summary.proofs.PairFigures.{pair-append}
 use Rattle.calendar.specs.declared.counting.Day.{Day}
-use Rattle.layers.specs.Drawing.{partText, goesOn, layerText}
+use Rattle.layers.specs.Drawing.{partText, lineGoesOn, layerText}
 use Rattle.listing.specs.inside.Puts.{Puts}
 use Rattle.listing.proofs.Putting.{text-is, at-most, nothing-put}
 use Rattle.layers.specs.inside.Layers.{joinedAfter}
@@ -24,20 +24,20 @@ pub layer-append : (b : Day) (n : ℕ) (j : Bool) (l m : List Entry) → layerTe
 unfolding layerText joinedAfter
 layer-append b n j [] m = refl
 layer-append b n j (e ∷ l) m =
-    ap (λ (t : List ℕ). partText b n j e ++ t) (layer-append b n (goesOn n e) l m)
-    ∙ sym (append-assoc (partText b n j e) (layerText b n (goesOn n e) l) (layerText b n (joinedAfter n (goesOn n e) l) m))
+    ap (λ (t : List ℕ). partText b n j e ++ t) (layer-append b n (lineGoesOn n e) l m)
+    ∙ sym (append-assoc (partText b n j e) (layerText b n (lineGoesOn n e) l) (layerText b n (joinedAfter n (lineGoesOn n e) l) m))
 
 pub joined-append : (n : ℕ) (j : Bool) (l m : List Entry) → joinedAfter n j (l ++ m) ≡ joinedAfter n (joinedAfter n j l) m
 unfolding joinedAfter
 joined-append n j [] m = refl
-joined-append n j (e ∷ l) m = joined-append n (goesOn n e) l m
+joined-append n j (e ∷ l) m = joined-append n (lineGoesOn n e) l m
 
 -- a layer of one record, and of none
 pub layer-one : (b : Day) (n : ℕ) (j : Bool) (e : Entry) → layerText b n j (e ∷ []) ≡ partText b n j e
 unfolding layerText
 layer-one b n j e = append-nil (partText b n j e)
 
-pub joined-one : (n : ℕ) (j : Bool) (e : Entry) → joinedAfter n j (e ∷ []) ≡ goesOn n e
+pub joined-one : (n : ℕ) (j : Bool) (e : Entry) → joinedAfter n j (e ∷ []) ≡ lineGoesOn n e
 unfolding joinedAfter
 joined-one n j e = refl
 
@@ -88,7 +88,7 @@ pub adds-none : (b : Day) (pair layer : ℕ) (joined : Bool) (m : List Entry) (o
 adds-none b pair layer joined m out at e =
     (nothing-put (sym (ap (layerText b layer joined) e ∙ layer-none b layer joined)), sym (ap (joinedAfter layer joined) e ∙ joined-none layer joined))
 
-pub adds-one : (b : Day) (pair layer : ℕ) (joined : Bool) (e : Entry) (out : List ℕ) (at end : ℕ) (goes : Bool) (after : List ℕ) → pairIn e ≡ pair → Puts (partText b layer joined e) 104 out at end after → goes ≡ goesOn layer e → Adds b pair layer joined (e ∷ []) out at end goes after
+pub adds-one : (b : Day) (pair layer : ℕ) (joined : Bool) (e : Entry) (out : List ℕ) (at end : ℕ) (goes : Bool) (after : List ℕ) → pairIn e ≡ pair → Puts (partText b layer joined e) 104 out at end after → goes ≡ lineGoesOn layer e → Adds b pair layer joined (e ∷ []) out at end goes after
 adds-one b pair layer joined e out at end goes after own put q =
     let is = of-pair pair e own in (
       at-most (omega (arith, ap length is)) (text-is (sym (ap (layerText b layer joined) is ∙ layer-one b layer joined e)) put),

@@ -68,11 +68,11 @@ unfoldable pub partText : Day → ℕ → Bool → Entry → List ℕ
 partText begin layer joined e =
     pick (ltb layer 2) (pointText joined (e .minute) (valueIn layer (replyIn e))) (markText begin layer (e .minute) (replyIn e))
 
-unfoldable pub goesOn : ℕ → Entry → Bool
-goesOn layer e = pick (ltb layer 2) (valueIn layer (replyIn e) .there) false
+unfoldable pub lineGoesOn : ℕ → Entry → Bool
+lineGoesOn layer e = pick (ltb layer 2) (valueIn layer (replyIn e) .there) false
 
 -- A layer of some records, in their order.
 unfoldable pub layerText : Day → ℕ → Bool → List Entry → List ℕ
-unfolding partText goesOn
+unfolding partText lineGoesOn
 layerText begin layer joined [] = []
-layerText begin layer joined (e ∷ l) = partText begin layer joined e ++ layerText begin layer (goesOn layer e) l
+layerText begin layer joined (e ∷ l) = partText begin layer joined e ++ layerText begin layer (lineGoesOn layer e) l

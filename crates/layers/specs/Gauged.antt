@@ -16,10 +16,10 @@ use Rattle.layers.specs.declared.parts.Value.{Value}
 use Rattle.layers.specs.Drawing.{valueIn}
 
 -- The count of a reply: 0 of a good one, its number of a refused one, 10 more than its place of an unreadable digit. No place is above 5.
-abbrev pub kindIn : Reply → ℕ
-kindIn (Read r) = 0
-kindIn (Refused n) = pick (ltb n 10) n 0
-kindIn (Unreadable place) = pick (ltb place 6) (10 + place) 7
+abbrev pub replyKind : Reply → ℕ
+replyKind (Read r) = 0
+replyKind (Refused n) = pick (ltb n 10) n 0
+replyKind (Unreadable place) = pick (ltb place 6) (10 + place) 7
 
 -- The count of a temperature: 16 of one above the scale, 17 of one below it, 18 of any other, and where there is none.
 abbrev pub sideOf : Temperature → ℕ
@@ -55,7 +55,7 @@ withReply g minute reply =
       when = pick (valueIn 0 reply .there) minute (g .when);
       cold = colder (valueIn 1 reply) (g .cold);
       warm = warmer (valueIn 1 reply) (g .warm);
-      counts = oneMore (oneMore (g .counts) (kindIn reply)) (sideIn reply);
+      counts = oneMore (oneMore (g .counts) (replyKind reply)) (sideIn reply);
     }
 
 unfoldable pub gaugedWith : Gauged → List Entry → Gauged

@@ -17,7 +17,7 @@ ghost use Rattle.frame.specs.Pick.{pick};
 ghost use Rattle.sheet.specs.Slots.{sizeAllowed, slots, slotAt, slotOf, recordIn, listOf};
 ghost use Rattle.sheet.specs.Look.{entryWith};
 ghost use Rattle.summary.specs.Worked.{replyIn, ofPair};
-ghost use Rattle.layers.specs.Gauged.{kindIn, sideOf, sideIn, oneMore, withReply, gaugedWith, gaugedOf};
+ghost use Rattle.layers.specs.Gauged.{replyKind, sideOf, sideIn, oneMore, withReply, gaugedWith, gaugedOf};
 ghost use Rattle.layers.specs.Gauged as said;
 
 // The last level and its minute; temperatures as they are drawn; and a count for each kind of reply: 0 good, 1 to 9 the fault's number, 11 to 15 the place
@@ -46,7 +46,7 @@ fn kind_unreadable(place: u8) -> usize
 }
 
 fn kind_in(reply: Reply) -> usize
-    ensures { λ r. ⌜ r ≡ kindIn reply ⌝ }
+    ensures { λ r. ⌜ r ≡ replyKind reply ⌝ }
     ensures { λ r. ⌜ r < 19 ⌝ }
 {
     match reply {

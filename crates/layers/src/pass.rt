@@ -16,7 +16,7 @@ ghost use Rattle.sheet.specs.Look.{entryWith};
 ghost use Rattle.summary.specs.Line.{pairBy};
 ghost use Rattle.summary.specs.Worked.{ofPair};
 ghost use Rattle.listing.specs.inside.Puts.{Puts};
-ghost use Rattle.layers.specs.Drawing.{partText, goesOn, layerText};
+ghost use Rattle.layers.specs.Drawing.{partText, lineGoesOn, layerText};
 ghost use Rattle.layers.specs.inside.Layers.{joinedAfter};
 
 // Address and settings as one number.
@@ -40,7 +40,7 @@ fn put_record(
     requires { ⌜ head .count ≤ 64 ⌝ }
     ensures { λ r. ⌜ Puts (partText begin layer joined (entryWith head (take (bytesFor (head .count)) reply))) 104
         (now (out .entry)) at (r .end) (now (out .exit)) ⌝ }
-    ensures { λ r. ⌜ r .joined ≡ goesOn layer (entryWith head (take (bytesFor (head .count)) reply)) ⌝ }
+    ensures { λ r. ⌜ r .joined ≡ lineGoesOn layer (entryWith head (take (bytesFor (head .count)) reply)) ⌝ }
 {
     let size = (head.count + 7) / 8;
     let minute = head.minute;

@@ -9,7 +9,7 @@ use Rattle.board.specs.declared.Row.{Row}
 use Rattle.board.specs.declared.value.Change.{Change}
 use Rattle.board.specs.declared.value.Found.{Found}
 use Rattle.board.specs.Rows.{boardOf, beyond}
-use Rattle.board.specs.Order.{inOrder}
+use Rattle.board.specs.Order.{ifInOrder}
 use Rattle.board.specs.inside.ByValue.{Finds, moved, FitsIn, Changes, ChangesOn}
 use Rattle.board.proofs.Carried.{within-more, carry-front}
 use Rattle.board.proofs.LentRows.{length-counted, counted-le}
@@ -24,7 +24,7 @@ module _ (rows : List Row) where
   board-within = omega (arith, length-counted rows, counted-le (length rows))
 
   module _ (address : ℕ) (f : Found) (finds : Finds (boardOf rows) address f) (Number : List Row → ℕ) (After : List Row → List Row) (c : Change) (made : ChangesOn f address Number After c) where
-    changes : Changes (boardOf rows) (inOrder (boardOf rows) (Number (boardOf rows)) 38) (inOrder (boardOf rows) (After (boardOf rows)) (boardOf rows)) c
+    changes : Changes (boardOf rows) (ifInOrder (boardOf rows) (Number (boardOf rows)) 38) (ifInOrder (boardOf rows) (After (boardOf rows)) (boardOf rows)) c
     changes = made .on (boardOf rows) finds
 
     -- the places of the change are among the lent rows
@@ -32,6 +32,6 @@ module _ (rows : List Row) where
     within = within-more board-within (changes .fits)
 
     -- what a call answers and leaves: its change is of what was found, and `put` made it
-    pub settles : (answer : ℕ) (zs : List Row) → (answer ≡ c .number) × (zs ≡ moved c rows) → (answer ≡ inOrder (boardOf rows) (Number (boardOf rows)) 38) × (zs ≡ inOrder (boardOf rows) (After (boardOf rows)) (boardOf rows) ++ beyond rows)
+    pub settles : (answer : ℕ) (zs : List Row) → (answer ≡ c .number) × (zs ≡ moved c rows) → (answer ≡ ifInOrder (boardOf rows) (Number (boardOf rows)) 38) × (zs ≡ ifInOrder (boardOf rows) (After (boardOf rows)) (boardOf rows) ++ beyond rows)
     settles answer zs e =
         (e .0 ∙ changes .answers, e .1 ∙ put-on-board c (changes .fits) ∙ ap (λ (bs : List Row). bs ++ beyond rows) (changes .leaves))

@@ -14,8 +14,8 @@ use Rattle.lines.specs.Sample.{sampleOf}
 use Rattle.lines.specs.Timing.{Timing}
 use Rattle.lines.specs.SoFar.{soFar, spoiltBy, atRest, isOpen}
 use Rattle.lines.specs.Step.{withBit, runEnded, longerIdle, afterIdle, afterLow, afterBoth, after, closes}
-use Rattle.lines.specs.Hearing.{heard, toldOf, later, hear}
-use Rattle.lines.specs.inside.Runs.{Alike, never, wantedOf, grown}
+use Rattle.lines.specs.Hearing.{hearing, toldOf, later, hear}
+use Rattle.lines.specs.inside.Runs.{Alike, endless, wantedOf, grown}
 use Rattle.lines.specs.inside.Safe.{Safe}
 use Rattle.lines.proofs.Cases.{of-pick}
 use Rattle.lines.proofs.Steps.{next-closed, next-open, low-sample, foreign-sample}
@@ -159,16 +159,16 @@ module _ (t : Timing) (x : ℕ) (s : SoFar) (gap : t .gap ≤ 10000) (safe : Saf
       ∙ (λ j. later (place j) (hear t (grown x (count j) s) (drop (place j) xs)))
 
   -- the last one wanted closes, and tells what is open
-  at-last : (k : Kind t x s) (n : ℕ) → n + 1 ≡ wanted → n + 1 < never → (closes t (grown x (n + 1) s) ≡ true) × (toldOf (grown x (n + 1) s) ≡ toldOf s)
+  at-last : (k : Kind t x s) (n : ℕ) → n + 1 ≡ wanted → n + 1 < endless → (closes t (grown x (n + 1) s) ≡ true) × (toldOf (grown x (n + 1) s) ≡ toldOf s)
   unfolding grown wantedOf
   at-last (still w same e) n h l =
-      let far : n + 1 ≡ never = h ∙ simp w in
+      let far : n + 1 ≡ endless = h ∙ simp w in
       absurd (omega arith)
   at-last (idles z line o) n h l =
       let last : n + 1 ≡ t .gap - s .run = h ∙ simp (eq-eqb x 0 z, o) in
       (simp (eq-eqb x 0 z, o, le-leb (t .gap) (min (s .run + (n + 1)) 10000) (omega arith)), simp (eq-eqb x 0 z, o))
   at-last (lows h l line fault r) n e w =
-      let far : n + 1 ≡ never = e ∙ simp (ne-eqb x 0 (omega arith)) in
+      let far : n + 1 ≡ endless = e ∙ simp (ne-eqb x 0 (omega arith)) in
       absurd (omega arith)
 
   -- as many as are wanted are some
@@ -181,8 +181,8 @@ module _ (t : Timing) (x : ℕ) (s : SoFar) (gap : t .gap ≤ 10000) (safe : Saf
   some-wanted (lows h l line fault r) = simp (ne-eqb x 0 (omega arith)) (omega arith)
 
   -- As many as are wanted close.
-  pub enough-more : (xs : List ℕ) (i n : ℕ) → n ≡ wanted → n < never → i + n ≤ length xs → Alike xs i (i + n) x
-      → later i (hear t s (drop i xs)) ≡ heard (toldOf s) atRest (i + n)
+  pub enough-more : (xs : List ℕ) (i n : ℕ) → n ≡ wanted → n < endless → i + n ≤ length xs → Alike xs i (i + n) x
+      → later i (hear t s (drop i xs)) ≡ hearing (toldOf s) atRest (i + n)
   enough-more xs i zero e l h alike = absurd (omega (arith, some-wanted own, e))
   enough-more xs i (suc k) e l h alike =
       let place : i + k + 1 ≡ i + suc k = omega arith in
@@ -192,4 +192,4 @@ module _ (t : Timing) (x : ℕ) (s : SoFar) (gap : t .gap ≤ 10000) (safe : Saf
       let last = at-last own k (omega (arith, e)) (omega arith) in
       many-more xs i k (omega (arith, e)) (omega arith) (λ j a b. alike j a (omega arith))
       ∙ next-closed t (grown x k s) (grown x (k + 1) s) xs (i + k) (omega arith) step (last .0)
-      ∙ (λ j. heard (last .1 j) atRest (place j))
+      ∙ (λ j. hearing (last .1 j) atRest (place j))

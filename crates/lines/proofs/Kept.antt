@@ -7,10 +7,10 @@ use native.Mathlib.Nat.{zero-mod}
 use lib.Dec.{eqb, leb, ltb}
 use borrow.Author.Tests.{eqb-true, leb-true, leb-false, ltb-true}
 use Rattle.frame.specs.Line as frame
-use Rattle.frame.specs.Pick.{pick}
+use Rattle.frame.specs.Pick.{pick, within}
 use Rattle.lines.specs.declared.SoFar.{SoFar}
 use Rattle.lines.specs.Sample.{Sample, idle, mark, space, both, foreign}
-use Rattle.lines.specs.Timing.{Timing, within}
+use Rattle.lines.specs.Timing.{Timing}
 use Rattle.lines.specs.SoFar.{soFar, spoiltBy, noBits, padsClear, isRest, isBetween, isInRun, isSpoilt, isOpen, legal}
 use Rattle.lines.specs.Step.{withBit, runEnded, longerIdle, afterIdle, afterLow, afterBoth, after, closes}
 use Rattle.lines.specs.inside.Safe.{Safe}

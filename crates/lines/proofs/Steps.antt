@@ -15,7 +15,7 @@ use Rattle.lines.specs.Sample.{sampleOf}
 use Rattle.lines.specs.Timing.{Timing}
 use Rattle.lines.specs.SoFar.{atRest}
 use Rattle.lines.specs.Step.{afterLow, afterBoth, after, closes}
-use Rattle.lines.specs.Hearing.{Heard, nothing, heard, toldOf, later, hear}
+use Rattle.lines.specs.Hearing.{Hearing, nothing, hearing, toldOf, later, hear}
 
 -- Which step a byte makes.
 pub low-sample : (t : Timing) (s : SoFar) (b : ℕ) → 1 ≤ b → b ≤ 2 → afterLow b s ≡ after t s (sampleOf b)
@@ -28,21 +28,21 @@ pub foreign-sample : (t : Timing) (s : SoFar) (b : ℕ) → 3 < b → afterBoth 
 foreign-sample t s b h =
     simp (ne-eqb b 0 (omega arith), ne-eqb b 1 (omega arith), ne-eqb b 2 (omega arith), ne-eqb b 3 (omega arith))
 
-pub later-later : (i j : ℕ) (h : Heard) → later i (later j h) ≡ later (i + j) h
-later-later i j h = ap (heard (h .told) (h .left)) (sym (add-assoc i j (h .taken)))
+pub later-later : (i j : ℕ) (h : Hearing) → later i (later j h) ≡ later (i + j) h
+later-later i j h = ap (hearing (h .told) (h .left)) (sym (add-assoc i j (h .taken)))
 
 module _ (t : Timing) (s n : SoFar) (xs : List ℕ) (i : ℕ) (more : i < length xs) (step : n ≡ after t s (sampleOf (getD xs i 0))) where
   next : (b : Bool) → closes t n ≡ b
-      → later i (hear t s (drop i xs)) ≡ later i (pick b (heard (toldOf n) atRest 1) (later 1 (hear t n (drop (i + 1) xs))))
+      → later i (hear t s (drop i xs)) ≡ later i (pick b (hearing (toldOf n) atRest 1) (later 1 (hear t n (drop (i + 1) xs))))
   unfolding hear
   next b e = rw (drop-cons xs i 0 more, ← step, e, add-one i)
 
-  pub next-closed : closes t n ≡ true → later i (hear t s (drop i xs)) ≡ heard (toldOf n) atRest (i + 1)
+  pub next-closed : closes t n ≡ true → later i (hear t s (drop i xs)) ≡ hearing (toldOf n) atRest (i + 1)
   next-closed e = next true e
 
   pub next-open : closes t n ≡ false → later i (hear t s (drop i xs)) ≡ later (i + 1) (hear t n (drop (i + 1) xs))
   next-open e = next false e ∙ later-later i 1 (hear t n (drop (i + 1) xs))
 
-pub at-end : (t : Timing) (s : SoFar) (xs : List ℕ) (i : ℕ) → length xs ≤ i → later i (hear t s (drop i xs)) ≡ heard nothing s i
+pub at-end : (t : Timing) (s : SoFar) (xs : List ℕ) (i : ℕ) → length xs ≤ i → later i (hear t s (drop i xs)) ≡ hearing nothing s i
 unfolding hear
-at-end t s xs i h = rw (drop-of-length-le xs h) (ap (heard nothing s) (add-zero i))
+at-end t s xs i h = rw (drop-of-length-le xs h) (ap (hearing nothing s) (add-zero i))

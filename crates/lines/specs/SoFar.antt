@@ -3,9 +3,9 @@
 use mathlib.Core.Bool.{Bool, _&&_, _||_, not}
 use Prim.Native.Nat.{ℕ, _-_, _%_, _^_}
 use lib.Dec.{eqb, leb}
-use Rattle.frame.specs.Pick.{pick}
+use Rattle.frame.specs.Pick.{pick, within}
 use Rattle.lines.specs.declared.SoFar.{SoFar}
-use Rattle.lines.specs.Timing.{within, tooLong}
+use Rattle.lines.specs.Timing.{tooLong}
 
 abbrev pub soFar : (bits run count line fault : ℕ) → SoFar
 soFar bits run count line fault = record { bits = bits; run = run; count = count; line = line; fault = fault }

@@ -2,11 +2,11 @@
 use mathlib.Core.Bool.{Bool, _&&_}
 use Prim.Native.Nat.{ℕ, _+_, min}
 use lib.Dec.{eqb, leb, ltb}
-use Rattle.frame.specs.Pick.{pick}
+use Rattle.frame.specs.Pick.{pick, within}
 use Rattle.frame.specs.Line as frame
 use Rattle.lines.specs.declared.SoFar.{SoFar}
 use Rattle.lines.specs.Sample.{Sample, idle, mark, space, both, foreign}
-use Rattle.lines.specs.Timing.{Timing, within, tooLong}
+use Rattle.lines.specs.Timing.{Timing, tooLong}
 use Rattle.lines.specs.SoFar.{soFar, spoiltBy, isOpen}
 
 -- The pulse that an idle sample ends is one bit more: 1 where the mark line was low, 0 where the space line was.

@@ -1,9 +1,10 @@
 -- Document 02, request 01: the timing numbers, in samples.
-use mathlib.Core.Bool.{Bool, _&&_, _||_, not}
+use mathlib.Core.Bool.{Bool, _||_, not}
 use mathlib.Core.List.{[], _∷_}
 use Prim.Native.Nat.{ℕ}
-use lib.Dec.{leb, ltb}
+use lib.Dec.{ltb}
 use Rattle.frame.specs.Faults.{_gives_, firstOf}
+use Rattle.frame.specs.Pick.{within}
 
 -- A pulse has least to most samples; an idle run of gap samples closes a message.
 pub record Timing : Type 0 where
@@ -13,9 +14,6 @@ pub record Timing : Type 0 where
 
 abbrev pub timing : (least most gap : ℕ) → Timing
 timing least most gap = record { least = least; most = most; gap = gap }
-
-abbrev pub within : (low high n : ℕ) → Bool
-within low high n = leb low n && leb n high
 
 -- Bad timing numbers: least above most, or out of range.
 abbrev pub badTiming : Timing → Bool

@@ -6,7 +6,8 @@ mod step;
 
 ghost use mathlib.Core.Path.{_≡_};
 ghost use Prim.Native.Nat.{_≤_};
-ghost use Rattle.lines.specs.Timing.{timing, within, badTiming};
+ghost use Rattle.frame.specs.Pick.{within};
+ghost use Rattle.lines.specs.Timing.{timing, badTiming};
 ghost use Rattle.lines.specs.Hearing.{hear};
 ghost use Rattle.lines.specs.Calls.{answered, HearsLines};
 ghost use Rattle.lines.specs.inside.Safe.{Safe};

@@ -1,12 +1,12 @@
 // What was heard so far: which states a call leaves, what any other is heard as, and how it is told.
 use crate::LinesTold;
 use crate::SoFar;
+use frame::bytes_of;
 ghost use mathlib.Core.Path.{_≡_};
 ghost use Prim.Native.Nat.{_≤_};
 ghost use lib.ListN.{length};
-ghost use Rattle.frame.specs.Line.{firstBytes};
 ghost use Rattle.lines.specs.SoFar.{atRest, spoiltBy, noBits, padsClear, isRest, isBetween, isInRun, isSpoilt, legal, meant};
-ghost use Rattle.lines.specs.Hearing.{nothing, heard, toldOf};
+ghost use Rattle.lines.specs.Hearing.{nothing, hearing, toldOf};
 ghost use Rattle.lines.specs.Calls.{answerOf, answered};
 ghost use Rattle.lines.specs.inside.Safe.{Safe};
 
@@ -93,25 +93,9 @@ pub fn meant(s: SoFar) -> SoFar
     if legal(s) { s } else { spoilt_by(21, 0) }
 }
 
-// The bytes of a word, the highest first. The compiler makes one store of them.
-fn bytes_of(word: u64) -> [u8; 8]
-    ensures { λ r. ⌜ r ≡ firstBytes 8 word ⌝ }
-{
-    [
-        ((word >> 56) % 256) as u8,
-        ((word >> 48) % 256) as u8,
-        ((word >> 40) % 256) as u8,
-        ((word >> 32) % 256) as u8,
-        ((word >> 24) % 256) as u8,
-        ((word >> 16) % 256) as u8,
-        ((word >> 8) % 256) as u8,
-        (word % 256) as u8,
-    ]
-}
-
 // Nothing is told, and so many samples were taken.
 fn untold(s: SoFar, taken: usize, number: u8) -> LinesTold
-    ensures { λ r. ⌜ r ≡ answerOf (heard nothing s taken) number ⌝ }
+    ensures { λ r. ⌜ r ≡ answerOf (hearing nothing s taken) number ⌝ }
 {
     LinesTold {
         so_far: s,
@@ -124,14 +108,14 @@ fn untold(s: SoFar, taken: usize, number: u8) -> LinesTold
 
 // Bad timing: the state as it was handed in.
 pub(crate) fn refused(s: SoFar) -> LinesTold
-    ensures { λ r. ⌜ r ≡ answerOf (heard nothing s 0) 20 ⌝ }
+    ensures { λ r. ⌜ r ≡ answerOf (hearing nothing s 0) 20 ⌝ }
 {
     untold(s, 0, 20)
 }
 
 // All samples are taken, and no message is closed.
 pub(crate) fn left_open(s: SoFar, taken: usize) -> LinesTold
-    ensures { λ r. ⌜ r ≡ answered (heard nothing s taken) ⌝ }
+    ensures { λ r. ⌜ r ≡ answered (hearing nothing s taken) ⌝ }
 {
     untold(s, taken, 0)
 }
@@ -139,7 +123,7 @@ pub(crate) fn left_open(s: SoFar, taken: usize) -> LinesTold
 // The last sample taken closed what was open.
 pub(crate) fn closed(s: SoFar, taken: usize) -> LinesTold
     requires { ⌜ s .count ≤ 64 ⌝ }
-    ensures { λ r. ⌜ r ≡ answered (heard (toldOf s) atRest taken) ⌝ }
+    ensures { λ r. ⌜ r ≡ answered (hearing (toldOf s) atRest taken) ⌝ }
 {
     if s.fault != 0 {
         return untold(at_rest(), taken, s.fault);

@@ -8,10 +8,10 @@ use Rattle.sheet.specs.declared.view.Counted.{Counted}
 use Rattle.sheet.specs.declared.view.Counted.the-variants.{Slots, Refused}
 use Rattle.frame.specs.Pick.{pick}
 use Rattle.sheet.specs.Slots.{sizeAllowed, slots}
-use Rattle.sheet.specs.View.{Counts, countOf}
+use Rattle.sheet.specs.View.{Counts, slotsCounted}
 
-by-size : (s : List ℕ) (a : Bool) → sizeAllowed s ≡ a → countOf s ≡ pick a (Slots (slots s)) (Refused 12)
-unfolding countOf
+by-size : (s : List ℕ) (a : Bool) → sizeAllowed s ≡ a → slotsCounted s ≡ pick a (Slots (slots s)) (Refused 12)
+unfolding slotsCounted
 by-size s a e = simp e
 
 module _ (s : List ℕ) (answer : Counted) (n : ℕ) (counts : Counts s answer) where

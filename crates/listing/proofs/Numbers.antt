@@ -8,7 +8,7 @@ use native.Mathlib.Omega.{arith}
 use borrow.Author.Tests.{lt-ltb, le-ltb}
 use lib.Dec.{lit<}
 use lib.ListN.{length, length-append}
-use Rattle.listing.specs.Text.{digit, digitsUpTo, decimal}
+use Rattle.listing.specs.Text.{digit, digitsUpTo, inDecimal}
 
 pub one-of : (most n : ℕ) → n < 10 → digitsUpTo (suc most) n ≡ digit n ∷ []
 unfolding digitsUpTo
@@ -59,17 +59,17 @@ counted-of (suc j) (suc most) n h from small =
     let rest : length (digitsUpTo (suc most) (n / 10)) ≡ suc j = counted-of j most (n / 10) (omega arith) (λ _. omega arith) (less (suc j) n small) in
     rw (more-of (suc most) n (omega arith)) (simp length-append (omega arith))
 
-pub one-digit : (n : ℕ) → n < 10 → decimal n ≡ digit n ∷ []
+pub one-digit : (n : ℕ) → n < 10 → inDecimal n ≡ digit n ∷ []
 one-digit n small = one-of 9 n small
 
-pub more-digits : (n : ℕ) → 10 ≤ n → n < 2 ^ 32 → decimal n ≡ decimal (n / 10) ++ digit (n % 10) ∷ []
+pub more-digits : (n : ℕ) → 10 ≤ n → n < 2 ^ 32 → inDecimal n ≡ inDecimal (n / 10) ++ digit (n % 10) ∷ []
 more-digits n large small =
     more-of 9 n large ∙ ap (λ (t : List ℕ). t ++ digit (n % 10) ∷ []) (sym (enough 8 (n / 10) (omega arith)))
 
-pub few-digits : (k n : ℕ) → n < 10 ^ suc k → length (decimal n) ≤ suc k
+pub few-digits : (k n : ℕ) → n < 10 ^ suc k → length (inDecimal n) ≤ suc k
 few-digits k n small = few-of k 10 n small
 
-pub digits-are : (k n : ℕ) → k ≤ 9 → (0 < k → 10 ^ k ≤ n) → n < 10 ^ suc k → suc k ≡ length (decimal n)
+pub digits-are : (k n : ℕ) → k ≤ 9 → (0 < k → 10 ^ k ≤ n) → n < 10 ^ suc k → suc k ≡ length (inDecimal n)
 digits-are k n h from small = sym (counted-of k 9 n h from small)
 
 pub some-of : (most n : ℕ) → 0 < length (digitsUpTo (suc most) n)
@@ -79,5 +79,5 @@ some-of most n = go (decLt n 10)
     go (yes p) = rw (one-of most n p) (omega arith)
     go (no q) = rw (more-of most n (omega arith)) (simp length-append (omega arith))
 
-pub some-digit : (n : ℕ) → 0 < length (decimal n)
+pub some-digit : (n : ℕ) → 0 < length (inDecimal n)
 some-digit n = some-of 9 n

@@ -18,18 +18,18 @@ use Rattle.sheet.specs.declared.Looked.{Looked}
 use Rattle.sheet.specs.Bytes.{FF, allBlank}
 use Rattle.sheet.specs.Record.{isRecord, fieldsOf}
 use Rattle.sheet.specs.Slots.{Slot, blank, spoiled, foreign, holds, sizeAllowed, slots, slotAt, slotOf, recordIn}
-use Rattle.sheet.specs.Look.{Looks, told, headOf, entryWith, recordTold}
+use Rattle.sheet.specs.Look.{Looks, lookTold, headOf, entryWith, recordTold}
 use Rattle.sheet.proofs.Records.{record-passes, passes-formed, formed-few}
 use Rattle.sheet.proofs.SlotParts.{look-within}
-use Rattle.listing.specs.Text.{ascii, decimal}
-use Rattle.listing.specs.Lines.{recordText, lineOf, slotLine}
+use Rattle.listing.specs.Text.{ascii, inDecimal}
+use Rattle.listing.specs.Lines.{recordText, listedLine, slotLine}
 
 -- the line, the records and the count of bits that an answer tells
 abbrev pub lineFound : ℕ → Found → List ℕ → List ℕ
 lineFound k Blank reply = []
-lineFound k Spoiled reply = decimal k ++ ascii " spoiled\n"
-lineFound k Foreign reply = decimal k ++ ascii " foreign\n"
-lineFound k (Record h) reply = decimal k ++ ascii " " ++ recordText (entryWith h (take (bytesFor (h .count)) reply)) ++ ascii "\n"
+lineFound k Spoiled reply = inDecimal k ++ ascii " spoiled\n"
+lineFound k Foreign reply = inDecimal k ++ ascii " foreign\n"
+lineFound k (Record h) reply = inDecimal k ++ ascii " " ++ recordText (entryWith h (take (bytesFor (h .count)) reply)) ++ ascii "\n"
 lineFound k (Refused n) reply = []
 
 abbrev pub recordsFound : Found → ℕ
@@ -44,27 +44,27 @@ bitsFound (Refused n) = 0
 
 -- the same of a slot's answer
 record Tells (k : ℕ) (t : Slot) (looked : Looked) : Type 0 where
-  line : lineFound k (looked .found) (looked .reply) ≡ lineOf k t
+  line : lineFound k (looked .found) (looked .reply) ≡ listedLine k t
   records : recordsFound (looked .found) ≡ length (recordIn t)
   bits : bitsFound (looked .found) ≤ 64
 
 -- a record that is in form
-in-form : (k : ℕ) (x : List ℕ) → isRecord x ≡ true → Tells k (holds (fieldsOf x)) (told (holds (fieldsOf x)))
+in-form : (k : ℕ) (x : List ℕ) → isRecord x ≡ true → Tells k (holds (fieldsOf x)) (lookTold (holds (fieldsOf x)))
 in-form k x is =
     let y = fieldsOf x in
     let few = formed-few (y .count) (y .reply) (passes-formed y (record-passes x is)) in
     let reply : take (bytesFor (y .count)) (y .reply ++ replicate (8 - length (y .reply)) 0) ≡ y .reply = take-at (y .reply) (replicate (8 - length (y .reply)) 0) (bytesFor (y .count)) (few .1) in
     record {
-      line = ap (λ (r : List ℕ). decimal k ++ ascii " " ++ recordText (entryWith (headOf y) r) ++ ascii "\n") reply;
+      line = ap (λ (r : List ℕ). inDecimal k ++ ascii " " ++ recordText (entryWith (headOf y) r) ++ ascii "\n") reply;
       records = refl;
       bits = few .0;
     }
 
-tells : (k : ℕ) (x : List ℕ) → Tells k (slotOf x) (told (slotOf x))
+tells : (k : ℕ) (x : List ℕ) → Tells k (slotOf x) (lookTold (slotOf x))
 unfolding slotOf
 tells k x = go (allBlank x) (eqb (getD x 0 0) FF) (isRecord x) refl
   where
-    go : (a f r : Bool) → isRecord x ≡ r → let t : Slot = pick a blank (pick f spoiled (pick r (holds (fieldsOf x)) foreign)) in Tells k t (told t)
+    go : (a f r : Bool) → isRecord x ≡ r → let t : Slot = pick a blank (pick f spoiled (pick r (holds (fieldsOf x)) foreign)) in Tells k t (lookTold t)
     go true f r e = record { line = refl; records = refl; bits = omega arith }
     go false true r e = record { line = refl; records = refl; bits = omega arith }
     go false false true e = in-form k x e

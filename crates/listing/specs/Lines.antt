@@ -14,50 +14,50 @@ use Rattle.frame.specs.Temperature.{isPlus, magnitude}
 use Rattle.frame.specs.Reply.{replyOf}
 use Rattle.sheet.specs.Record.{Entry}
 use Rattle.sheet.specs.Slots.{Slot, blank, spoiled, foreign, holds, sizeAllowed, slots, slotAt, slotOf, listOf}
-use Rattle.listing.specs.Text.{ascii, decimal}
+use Rattle.listing.specs.Text.{ascii, inDecimal}
 
 -- The first line counts slots.
 unfoldable pub headLine : List ℕ → List ℕ
-headLine s = ascii "sheet " ++ decimal (slots s) ++ ascii "\n"
+headLine s = ascii "sheet " ++ inDecimal (slots s) ++ ascii "\n"
 
 -- Degrees in tenths, "above", "below", and "-" where it is absent.
 abbrev pub temperatureText : Temperature → List ℕ
-temperatureText (Degrees d) = pick (isPlus d) [] (ascii "-") ++ decimal (magnitude d)
+temperatureText (Degrees d) = pick (isPlus d) [] (ascii "-") ++ inDecimal (magnitude d)
 temperatureText Above = ascii "above"
 temperatureText Below = ascii "below"
 temperatureText Absent = ascii "-"
 
 abbrev pub alarmText : Bool → List ℕ
-alarmText on = decimal (mark on)
+alarmText on = inDecimal (mark on)
 
 -- Level in the mode's unit, temperature, alarm 1, alarm 0.
 unfoldable pub readingText : Reading → List ℕ
 readingText r =
-    decimal (r .level) ++ ascii " " ++ temperatureText (r .temperature) ++ ascii " "
+    inDecimal (r .level) ++ ascii " " ++ temperatureText (r .temperature) ++ ascii " "
     ++ alarmText (r .alarm1) ++ ascii " " ++ alarmText (r .alarm0)
 
 -- A faulty reply ends after the address with "fault" and its number; document 02, request 02: after 7 stands the place of the unreadable
 -- digit.
 abbrev pub replyText : Reply → List ℕ
 replyText (Read r) = readingText r
-replyText (Refused n) = ascii "fault " ++ decimal n
-replyText (Unreadable place) = ascii "fault 7 " ++ decimal place
+replyText (Refused n) = ascii "fault " ++ inDecimal n
+replyText (Unreadable place) = ascii "fault 7 " ++ inDecimal place
 
 -- Minute, address, and what the reply reads as.
 unfoldable pub recordText : Entry → List ℕ
 recordText e =
-    decimal (e .minute) ++ ascii " " ++ decimal (e .address) ++ ascii " "
+    inDecimal (e .minute) ++ ascii " " ++ inDecimal (e .address) ++ ascii " "
     ++ replyText (replyOf (e .settings) (e .address) (e .count) (e .reply))
 
 -- Each slot not blank has a line, which begins with the slot, counted from 0.
-abbrev pub lineOf : ℕ → Slot → List ℕ
-lineOf k blank = []
-lineOf k spoiled = decimal k ++ ascii " spoiled\n"
-lineOf k foreign = decimal k ++ ascii " foreign\n"
-lineOf k (holds e) = decimal k ++ ascii " " ++ recordText e ++ ascii "\n"
+abbrev pub listedLine : ℕ → Slot → List ℕ
+listedLine k blank = []
+listedLine k spoiled = inDecimal k ++ ascii " spoiled\n"
+listedLine k foreign = inDecimal k ++ ascii " foreign\n"
+listedLine k (holds e) = inDecimal k ++ ascii " " ++ recordText e ++ ascii "\n"
 
 abbrev pub slotLine : List ℕ → ℕ → List ℕ
-slotLine s k = lineOf k (slotOf (slotAt s k))
+slotLine s k = listedLine k (slotOf (slotAt s k))
 
 -- The lines of the first k slots, in slot order.
 unfoldable pub linesUpTo : List ℕ → ℕ → List ℕ
@@ -66,7 +66,7 @@ linesUpTo s (suc k) = linesUpTo s k ++ slotLine s k
 
 -- The last line counts the records, faulty replies included.
 unfoldable pub countLine : ℕ → List ℕ
-countLine n = ascii "records " ++ decimal n ++ ascii "\n"
+countLine n = ascii "records " ++ inDecimal n ++ ascii "\n"
 
 abbrev pub lastLine : List ℕ → List ℕ
 lastLine s = countLine (length (listOf s))

@@ -22,5 +22,5 @@ digitsUpTo zero n = list.[]
 digitsUpTo (suc most) n = pick (ltb n 10) (list._∷_ (digit n) list.[]) (digitsUpTo most (n / 10) ++ list._∷_ (digit (n % 10)) list.[])
 
 -- A number in decimal. The largest that a sheet can hold is the minute 4,294,967,295: ten digits.
-abbrev pub decimal : ℕ → List ℕ
-decimal n = digitsUpTo 10 n
+abbrev pub inDecimal : ℕ → List ℕ
+inDecimal n = digitsUpTo 10 n

@@ -20,7 +20,7 @@ ghost use lib.ListN.{length, take};
 ghost use Rattle.frame.specs.Line.{bytesFor, mark};
 ghost use Rattle.sheet.specs.Slots.{sizeAllowed, slots, slotAt, slotOf, recordIn};
 ghost use Rattle.sheet.specs.Look.{entryWith};
-ghost use Rattle.listing.specs.Text.{ascii, decimal, digit};
+ghost use Rattle.listing.specs.Text.{ascii, inDecimal, digit};
 ghost use Rattle.listing.specs.Lines.{temperatureText, readingText, replyText, recordText, slotLine};
 ghost use Rattle.listing.specs.inside.Puts.{Puts};
 
@@ -107,7 +107,7 @@ fn put_record(out: &mut [u8], at: usize, head: Head, reply: &[u8]) -> usize
 fn put_line(out: &mut [u8], at: usize, slot: u16, head: Head, reply: [u8; 8]) -> usize
     requires { ⌜ at + 40 ≤ length (now out) ⌝ }
     requires { ⌜ head .count ≤ 64 ⌝ }
-    ensures { λ r. ⌜ Puts (decimal slot ++ ascii " " ++ recordText (entryWith head (take (bytesFor (head .count)) reply)) ++ ascii "\n") 40
+    ensures { λ r. ⌜ Puts (inDecimal slot ++ ascii " " ++ recordText (entryWith head (take (bytesFor (head .count)) reply)) ++ ascii "\n") 40
         (now (out .entry)) at r (now (out .exit)) ⌝ }
 {
     let size = (head.count + 7) / 8;
@@ -120,7 +120,7 @@ fn put_line(out: &mut [u8], at: usize, slot: u16, head: Head, reply: [u8; 8]) ->
 // The line of a slot that holds no record.
 fn put_other(out: &mut [u8], at: usize, slot: u16, word: &[u8]) -> usize
     requires { ⌜ at + 5 + length (now word) ≤ length (now out) ⌝ }
-    ensures { λ r. ⌜ Puts (decimal slot ++ now (word .entry)) (5 + length (now (word .entry))) (now (out .entry)) at r (now (out .exit)) ⌝ }
+    ensures { λ r. ⌜ Puts (inDecimal slot ++ now (word .entry)) (5 + length (now (word .entry))) (now (out .entry)) at r (now (out .exit)) ⌝ }
 {
     let number = put_short(out, at, slot);
     put_word(out, number, word)
@@ -165,7 +165,7 @@ pub(crate) fn put_slot(out: &mut [u8], at: usize, sheet: &[u8], slot: usize) -> 
 // The first line and the last: a word, a number, and the line's end.
 pub(crate) fn put_count(out: &mut [u8], at: usize, word: &[u8], n: u16) -> usize
     requires { ⌜ at + length (now word) + 6 ≤ length (now out) ⌝ }
-    ensures { λ r. ⌜ Puts (now (word .entry) ++ decimal n ++ ascii "\n") (length (now (word .entry)) + 6) (now (out .entry)) at r (now (out .exit)) ⌝ }
+    ensures { λ r. ⌜ Puts (now (word .entry) ++ inDecimal n ++ ascii "\n") (length (now (word .entry)) + 6) (now (out .entry)) at r (now (out .exit)) ⌝ }
 {
     let number = put_word(out, at, word);
     let end = put_short(out, number, n);

@@ -4,7 +4,7 @@ ghost use mathlib.Core.Path.{_≡_};
 ghost use mathlib.Core.List.{[], _∷_};
 ghost use Prim.Native.Nat.{_+_, _≤_, _<_};
 ghost use lib.ListN.{length};
-ghost use Rattle.listing.specs.Text.{decimal};
+ghost use Rattle.listing.specs.Text.{inDecimal};
 ghost use Rattle.listing.specs.inside.Puts.{Puts};
 
 pub fn put_byte(out: &mut [u8], at: usize, byte: u8) -> usize
@@ -29,7 +29,7 @@ pub fn put_word(out: &mut [u8], at: usize, word: &[u8]) -> usize
 
 // How many digits a number has.
 fn digits_in(n: u32) -> usize
-    ensures { λ r. ⌜ r ≡ length (decimal n) ⌝ }
+    ensures { λ r. ⌜ r ≡ length (inDecimal n) ⌝ }
 {
     match n {
         0..=9 => 1,
@@ -47,8 +47,8 @@ fn digits_in(n: u32) -> usize
 
 // A number in decimal, put from its last digit forward.
 pub fn put_number(out: &mut [u8], at: usize, n: u32) -> usize
-    requires { ⌜ at + length (decimal n) ≤ length (now out) ⌝ }
-    ensures { λ r. ⌜ Puts (decimal n) 10 (now (out .entry)) at r (now (out .exit)) ⌝ }
+    requires { ⌜ at + length (inDecimal n) ≤ length (now out) ⌝ }
+    ensures { λ r. ⌜ Puts (inDecimal n) 10 (now (out .entry)) at r (now (out .exit)) ⌝ }
 {
     let end = at + digits_in(n);
     let mut left = n;
@@ -65,7 +65,7 @@ pub fn put_number(out: &mut [u8], at: usize, n: u32) -> usize
 // A number of 16 bits: at most five digits.
 pub fn put_short(out: &mut [u8], at: usize, n: u16) -> usize
     requires { ⌜ at + 5 ≤ length (now out) ⌝ }
-    ensures { λ r. ⌜ Puts (decimal n) 5 (now (out .entry)) at r (now (out .exit)) ⌝ }
+    ensures { λ r. ⌜ Puts (inDecimal n) 5 (now (out .entry)) at r (now (out .exit)) ⌝ }
 {
     put_number(out, at, n as u32)
 }

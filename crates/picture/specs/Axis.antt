@@ -5,8 +5,8 @@ use Rattle.calendar.specs.declared.counting.Day.{Day}
 use Rattle.picture.specs.declared.axis.Axis.{Axis}
 
 -- How many days there are, and how many of them lie between two that are said.
-abbrev pub daysIn : ℕ → ℕ → ℕ
-daysIn first last = last / 1440 - first / 1440 + 1
+abbrev pub daysShown : ℕ → ℕ → ℕ
+daysShown first last = last / 1440 - first / 1440 + 1
 
 abbrev pub stepOf : ℕ → ℕ
 stepOf days = (days + 4) / 5
@@ -15,7 +15,7 @@ stepOf days = (days + 4) / 5
 unfoldable pub axisOf : Day → ℕ → ℕ → Axis
 axisOf begin first last =
     let d = first / 1440 in
-    let days = daysIn first last in
+    let days = daysShown first last in
     let step = stepOf days in
     record {
       begin = begin;

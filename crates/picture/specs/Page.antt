@@ -11,7 +11,7 @@ use Rattle.cards.specs.declared.counting.Tally.{Tally}
 use Rattle.cards.specs.Tally.{tallyOf}
 use Rattle.summary.specs.declared.Line.{Line}
 use Rattle.summary.specs.Line.{noLevel, pairOf}
-use Rattle.summary.specs.Worked.{ofPair, lineFor, keptPairs, inOrder, outside}
+use Rattle.summary.specs.Worked.{ofPair, lineFor, keptPairs, inOrder, otherRecords}
 use Rattle.listing.specs.Text.{ascii}
 use Rattle.forms.specs.Form.{fill, choice}
 use Rattle.calendar.specs.declared.counting.Day.{Day}
@@ -217,4 +217,4 @@ pageOf s name begin =
     let l = listOf s in
     let t = tallyOf s in
     let a = axisOf begin (t .first) (t .last) in
-    styleText name ++ topText name t (outside (keptPairs l) l) a ++ sectionsText l a (linesFor l) ++ ascii "</main></body></html>\n"
+    styleText name ++ topText name t (otherRecords (keptPairs l) l) a ++ sectionsText l a (linesFor l) ++ ascii "</main></body></html>\n"

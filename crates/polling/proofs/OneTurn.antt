@@ -13,7 +13,7 @@ use Rattle.frame.specs.Pick.{pick}
 use Rattle.lines.specs.declared.SoFar.{SoFar}
 use Rattle.lines.specs.declared.LinesTold.{LinesTold}
 use Rattle.lines.specs.SoFar.{atRest, isRest}
-use Rattle.lines.specs.Hearing.{Told, nothing, message, spoiled, Heard, numberTold, countTold, bytesTold, hear}
+use Rattle.lines.specs.Hearing.{MessageTold, nothing, message, spoiled, Hearing, numberTold, countTold, bytesTold, hear}
 use Rattle.lines.specs.Calls.{answered}
 use Rattle.lines.proofs.Cases.{of-pick}
 use Rattle.polling.specs.declared.Pace.{Pace}
@@ -56,7 +56,7 @@ module _ (p : Pace) (g : Good p) (s : SoFar) (before i k : ℕ) (xs : List ℕ) 
   cut-so = cut-facts (length xs - i) (limitOf p s) (before + i) k (ltb (before + i) (limitOf p s)) refl (omega arith) (omega (arith, limit-most p g s, g .longest)) cut
 
 -- What the lines told of it is told of the try.
-told-ear : (t : Told) (n : ℕ) → (not (eqb (countTold t) 0) || not (eqb (numberTold t) 0)) ≡ true
+told-ear : (t : MessageTold) (n : ℕ) → (not (eqb (countTold t) 0) || not (eqb (numberTold t) 0)) ≡ true
     → pick (eqb (numberTold t) 0) (earBy atRest n (bytesTold t) (countTold t) 0 true true) (noMessage n (numberTold t)) ≡ earOf (settledBy t n)
 told-ear nothing n e = absurd (true≢false (sym e))
 told-ear (message count bits) n e = refl
@@ -66,7 +66,7 @@ pub closed-settled : (told : LinesTold) (n : ℕ) → closedBy told n .settled �
 closed-settled told n =
     of-pick (λ (e : Ear). e .settled ≡ true) (eqb (told .number) 0) (earBy atRest n (told .message) (told .count) 0 true true) (noMessage n (told .number)) (λ e. refl) (λ e. refl)
 
-none-told : (t : Told) → (not (eqb (countTold t) 0) || not (eqb (numberTold t) 0)) ≡ false → untold t ≡ true
+none-told : (t : MessageTold) → (not (eqb (countTold t) 0) || not (eqb (numberTold t) 0)) ≡ false → untold t ≡ true
 none-told t e = go (eqb (countTold t) 0) (eqb (numberTold t) 0) e
   where
     go : (a b : Bool) → (not a || not b) ≡ false → (a && b) ≡ true
@@ -111,7 +111,7 @@ module _ (p : Pace) (g : Good p) (s : SoFar) (r : Ready s) (before i k : ℕ) (x
       go [] e = absurd (omega (arith, cuts .0))
       go (x ∷ l) e = part p g s r (before + i) x l zs (λ j a b. cuts .2 j a (omega arith))
 
-  module _ (h : Heard) where
+  module _ (h : Hearing) where
     abbrev all : Listened
     all = later i (listen p s (before + i) (drop i xs))
 
@@ -135,7 +135,7 @@ module _ (p : Pace) (g : Good p) (s : SoFar) (r : Ready s) (before i k : ℕ) (x
         record {
           few = omega (arith, size, cuts .1);
           small = omega (arith, size, cuts .3);
-          closes = λ e. absurd (true≢false (sym e ∙ ap (λ (t : Told). not (eqb (countTold t) 0) || not (eqb (numberTold t) 0)) told));
+          closes = λ e. absurd (true≢false (sym e ∙ ap (λ (t : MessageTold). not (eqb (countTold t) 0) || not (eqb (numberTold t) 0)) told));
           some = λ e. omega (arith, size, cuts .0);
           ready = λ e. left;
           ends = λ e b. start

@@ -4,8 +4,9 @@ use mathlib.Core.Bool.{false, _||_, not}
 use Prim.Native.Nat.{_≤_}
 use lib.Dec.{leb, ltb}
 use borrow.Author.Tests.{leb-true, ltb-false, not-false}
+use Rattle.frame.specs.Pick.{within}
 use Rattle.frame.proofs.Both.{both}
-use Rattle.lines.specs.Timing.{within, badTiming}
+use Rattle.lines.specs.Timing.{badTiming}
 use Rattle.lines.proofs.Cases.{none-of}
 use Rattle.drawing.specs.Pulses.{badPulse}
 use Rattle.drawing.proofs.Answers.{good-pulse}

@@ -14,7 +14,7 @@ use Rattle.lines.specs.declared.SoFar.{SoFar}
 use Rattle.lines.specs.Sample.{sampleOf}
 use Rattle.lines.specs.SoFar.{atRest, isRest}
 use Rattle.lines.specs.Step.{after, closes}
-use Rattle.lines.specs.Hearing.{Told, nothing, message, spoiled, Heard, heard, toldOf, numberTold, countTold, hear}
+use Rattle.lines.specs.Hearing.{MessageTold, nothing, message, spoiled, Hearing, hearing, toldOf, numberTold, countTold, hear}
 use Rattle.lines.specs.Hearing as lines
 use Rattle.polling.specs.declared.Pace.{Pace}
 use Rattle.polling.specs.Pace.{timingOf}
@@ -32,7 +32,7 @@ later-pick i true x y = refl
 later-pick i false x y = refl
 
 -- Nothing is told by count and number 0.
-abbrev pub untold : Told → Bool
+abbrev pub untold : MessageTold → Bool
 untold told = eqb (countTold told) 0 && eqb (numberTold told) 0
 
 module _ (p : Pace) (g : Good p) where
@@ -78,7 +78,7 @@ module _ (p : Pace) (g : Good p) where
   Behind n passed many zs = pick (leb (limitOf p n) (passed + many)) (settledBy (endOf n) many) (later many (listen p n (passed + many) zs))
 
   -- How a piece ends.
-  pub data Part (s : SoFar) (passed : ℕ) (ys zs : List ℕ) (h : Heard) : Type 0 where
+  pub data Part (s : SoFar) (passed : ℕ) (ys zs : List ℕ) (h : Hearing) : Type 0 where
     shut : untold (h .told) ≡ false → h .taken ≤ length ys → listen p s passed (ys ++ zs) ≡ settledBy (h .told) (h .taken) → Part s passed ys zs h
     onward : h .told ≡ nothing → h .taken ≡ length ys → Ready (h .left) → listen p s passed (ys ++ zs) ≡ Behind (h .left) passed (length ys) zs → Part s passed ys zs h
 
@@ -93,7 +93,7 @@ module _ (p : Pace) (g : Good p) where
     closed-here : closes (timingOf p) n ≡ true → Part s passed (x ∷ ys) zs (hear (timingOf p) s (x ∷ ys))
     unfolding hear listen
     closed-here e =
-        let h : hear (timingOf p) s (x ∷ ys) ≡ heard (toldOf n) atRest 1 = ap (λ (z : Bool). pick z (heard (toldOf n) atRest 1) (lines.later 1 (hear (timingOf p) n ys))) e in
+        let h : hear (timingOf p) s (x ∷ ys) ≡ hearing (toldOf n) atRest 1 = ap (λ (z : Bool). pick z (hearing (toldOf n) atRest 1) (lines.later 1 (hear (timingOf p) n ys))) e in
         subst (Part s passed (x ∷ ys) zs) (sym h)
         (shut (told-some n (eqb (n .fault) 0) refl (closes-some (timingOf p) s r (g .some-gap) (sampleOf x) e)) (omega arith)
         (at-close n (passed + 1) (later 1 (listen p n (passed + 1) (ys ++ zs))) e))
@@ -102,7 +102,7 @@ module _ (p : Pace) (g : Good p) where
         × (listen p s passed (x ∷ ys ++ zs) ≡ pick (leb (limitOf p n) (passed + 1)) (settledBy (endOf n) 1) (later 1 (listen p n (passed + 1) (ys ++ zs))))
     unfolding hear listen
     open-here e = (
-      ap (λ (z : Bool). pick z (heard (toldOf n) atRest 1) (lines.later 1 (hear (timingOf p) n ys))) e,
+      ap (λ (z : Bool). pick z (hearing (toldOf n) atRest 1) (lines.later 1 (hear (timingOf p) n ys))) e,
       at-limit n (passed + 1) (later 1 (listen p n (passed + 1) (ys ++ zs))) e,
     )
 

@@ -6,11 +6,11 @@ use Prim.Native.Nat.{ℕ, _+_, _≤_, min}
 use native.Mathlib.Omega.{arith}
 use lib.Dec.{eqb, leb, ltb}
 use borrow.Author.Tests.{eqb-true, ne-eqb, leb-true, not-true}
-use Rattle.frame.specs.Pick.{pick}
+use Rattle.frame.specs.Pick.{pick, within}
 use Rattle.frame.proofs.Both.{both}
 use Rattle.lines.specs.declared.SoFar.{SoFar}
 use Rattle.lines.specs.Sample.{Sample, idle, mark, space, both as bothLow, foreign}
-use Rattle.lines.specs.Timing.{Timing, within}
+use Rattle.lines.specs.Timing.{Timing}
 use Rattle.lines.specs.SoFar.{soFar, atRest, spoiltBy, noBits, isRest, isBetween, isInRun, isSpoilt, padsClear, isOpen, legal, meant}
 use Rattle.lines.specs.Step.{withBit, runEnded, longerIdle, afterIdle, afterLow, afterBoth, after, closes}
 use Rattle.lines.specs.inside.Safe.{Safe}

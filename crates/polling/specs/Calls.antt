@@ -8,7 +8,7 @@ use Rattle.frame.specs.Pick.{pick}
 use Rattle.frame.specs.Line.{mark}
 use Rattle.board.specs.declared.Row.{Row}
 use Rattle.board.specs.Rows.{boardOf}
-use Rattle.board.specs.Order.{inOrder}
+use Rattle.board.specs.Order.{ifInOrder}
 use Rattle.polling.specs.declared.Begun.{Begun}
 use Rattle.polling.specs.declared.Pace.{Pace}
 use Rattle.polling.specs.declared.Polling.{Polling}
@@ -24,7 +24,7 @@ begun w number = record { polling = w; number = number }
 
 -- Beginning: 38 of a board that is not kept in order, with nothing begun.
 pub record BeginsPolling (rows : List Row) (minute : ℕ) (answer : Begun) : Type 0 where
-  pub answers : answer ≡ inOrder (boardOf rows) (begun (beginning minute (boardOf rows)) 0) (begun nothingBegun 38)
+  pub answers : answer ≡ ifInOrder (boardOf rows) (begun (beginning minute (boardOf rows)) 0) (begun nothingBegun 38)
 
 -- Drawing: 20 before all else, and then the state stays bit for bit and all else is 0. Only the samples' bytes change, and none where it refuses.
 pub record DrawsPolling (w : Polling) (p : Pace) (out : List ℕ) (answer : LeftByDrawing) (after : List ℕ) : Type 0 where

@@ -8,14 +8,14 @@ use Rattle.lines.specs.declared.SoFar.{SoFar}
 use Rattle.lines.specs.Sample.{sampleOf}
 use Rattle.lines.specs.SoFar.{isRest}
 use Rattle.lines.specs.Step.{after, closes}
-use Rattle.lines.specs.Hearing.{Told, nothing, spoiled, toldOf}
+use Rattle.lines.specs.Hearing.{MessageTold, nothing, spoiled, toldOf}
 use Rattle.polling.specs.declared.Pace.{Pace}
 use Rattle.polling.specs.Pace.{timingOf}
 
 -- A try after some samples: it goes on, and the lines are left so; or it is settled by what was told, `nothing` being silence, at the last sample taken.
 pub data Listened : Type 0 where
   goesOn : (left : SoFar) (taken : ℕ) → Listened
-  settledBy : (told : Told) (taken : ℕ) → Listened
+  settledBy : (told : MessageTold) (taken : ℕ) → Listened
 
 -- The same after so many samples more.
 abbrev pub later : ℕ → Listened → Listened
@@ -23,7 +23,7 @@ later n (goesOn left taken) = goesOn left (n + taken)
 later n (settledBy told taken) = settledBy told (n + taken)
 
 -- Given up: 22 where a byte above 3 came, else 21.
-abbrev pub givenUp : SoFar → Told
+abbrev pub givenUp : SoFar → MessageTold
 givenUp s = spoiled (pick (eqb (s .fault) 22) 22 21)
 
 -- What one sample more leaves, the lines being so after it and so many samples having been heard, is settled by the first of these: a message closes, or a

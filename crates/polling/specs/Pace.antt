@@ -3,8 +3,9 @@ use mathlib.Core.Bool.{Bool, _||_, not}
 use mathlib.Core.List.{[], _∷_}
 use Prim.Native.Nat.{ℕ}
 use lib.Dec.{ltb}
+use Rattle.frame.specs.Pick.{within}
 use Rattle.frame.specs.Faults.{_gives_, firstOf}
-use Rattle.lines.specs.Timing.{Timing, timing, within, badTiming}
+use Rattle.lines.specs.Timing.{Timing, timing, badTiming}
 use Rattle.drawing.specs.Pulses.{badPulse}
 use Rattle.polling.specs.declared.Pace.{Pace}
 

@@ -6,7 +6,7 @@ use lib.ListN.{set}
 use Rattle.frame.specs.Pick.{pick}
 use Rattle.frame.specs.Line.{mark}
 use Rattle.lines.specs.SoFar.{atRest}
-use Rattle.lines.specs.Hearing.{Told, nothing, message, spoiled, numberTold, countTold, bytesTold}
+use Rattle.lines.specs.Hearing.{MessageTold, nothing, message, spoiled, numberTold, countTold, bytesTold}
 use Rattle.round.specs.declared.Polled.{Polled}
 use Rattle.round.specs.declared.Round.{Round}
 use Rattle.polling.specs.declared.Pace.{Pace}
@@ -16,7 +16,7 @@ use Rattle.polling.specs.Beginning.{polled}
 use Rattle.polling.specs.Meant.{isOver, turnOf, turnBy, listens}
 use Rattle.polling.specs.Listening.{Listened, goesOn, settledBy}
 
-abbrev pub isMessage : Told → Bool
+abbrev pub isMessage : MessageTold → Bool
 isMessage nothing = false
 isMessage (message count bits) = true
 isMessage (spoiled number) = false
@@ -26,7 +26,7 @@ abbrev pub isLast : Pace → Polling → Bool
 isLast p w = leb (p .tries) (w .tried + 1)
 
 -- After silence, 21, 22 or giving up the same transmitter is polled again, up to `tries` polls in all. A message is never asked again for, faulty or not.
-abbrev pub isAnswered : Pace → Polling → Told → Bool
+abbrev pub isAnswered : Pace → Polling → MessageTold → Bool
 isAnswered p w told = isMessage told || isLast p w
 
 -- Polled again, from its delay on.
@@ -34,14 +34,14 @@ abbrev pub askedAgain : Polling → Polling
 askedAgain w = turnBy w atRest 0 (w .tried + 1) 0
 
 -- The reply of a transmitter: the message's bits, or 0 bits, and the minute; its address, settings and `unused` stay.
-abbrev pub replied : (minute : ℕ) → Told → Polled → Polled
+abbrev pub replied : (minute : ℕ) → MessageTold → Polled → Polled
 replied minute told r = polled minute (r .address) (r .settings) (r .unused) (countTold told) (bytesTold told)
 
 abbrev pub roundWith : Round → ℕ → Polled → Round
 roundWith r at entry = record { replies = set (r .replies) at entry; count = r .count }
 
 -- It stands in the round, and the next transmitter's turn comes.
-abbrev pub answeredWith : (minute : ℕ) → Told → Polling → Polling
+abbrev pub answeredWith : (minute : ℕ) → MessageTold → Polling → Polling
 answeredWith minute told w =
     record {
       round = roundWith (w .round) (w .at) (replied minute told (turnOf w));

@@ -9,7 +9,7 @@ ghost use mathlib.Core.List.{_++_, map};
 ghost use Prim.Native.Nat.{_-_, _≤_};
 ghost use lib.ListN.{take, replicate};
 ghost use Rattle.polling.specs.Beginning.{noReply, unanswered, replyFor};
-ghost use Rattle.polling.specs.inside.Boards.{begunBy, Holds, BeginsOn};
+ghost use Rattle.polling.specs.inside.Boards.{begunBy, HoldsBoard, BeginsOn};
 
 // A reply before it is polled.
 fn unanswered(minute: u32, address: u16, settings: u8) -> Polled
@@ -72,7 +72,7 @@ fn replies_of(held: [Row; 30], count: usize, minute: u32) -> [Polled; 30]
 
 // The board's own search tells whether its rows are kept in order and, where they are, the place of the first free one: those before it are in use.
 pub(crate) fn begin(held: [Row; 30], len: usize, minute: u32) -> Begun
-    requires { ⌜ Holds held len ⌝ }
+    requires { ⌜ HoldsBoard held len ⌝ }
     ensures { λ r. ⌜ BeginsOn held len minute r ⌝ }
 {
     let found = board::value::find(held, len, 0);

@@ -1,7 +1,7 @@
 // The ranges of a pace.
 use crate::Pace;
 ghost use mathlib.Core.Path.{_≡_};
-ghost use Rattle.lines.specs.Timing.{within};
+ghost use Rattle.frame.specs.Pick.{within};
 ghost use Rattle.polling.specs.Pace.{badPace};
 
 fn within(low: u32, high: u32, n: u32) -> bool

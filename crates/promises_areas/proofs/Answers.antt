@@ -10,7 +10,7 @@ use lib.ListN.{length}
 use Rattle.frame.specs.Pick.{pick}
 use Rattle.areas.specs.declared.Plan.{Plan}
 use Rattle.areas.specs.Check.{keeps, ChecksAreas}
-use Rattle.areas.specs.Plan.{greedy, rest, planFault, told, refused, PlansAreas}
+use Rattle.areas.specs.Plan.{greedy, rest, planFault, planTold, refused, PlansAreas}
 use Rattle.areas.proofs.Cutting.{check-by, plan-by}
 
 accepted-so : (x y z : Bool) → _≡_ {A = ℕ} (pick x 34 (pick (not (y && z)) 36 0)) 0 → (x ≡ false) × (y ≡ true) × (z ≡ true)
@@ -38,7 +38,7 @@ check-kept s p answer c a =
 pub plan-number : (s : List ℕ) (got : Plan) → PlansAreas s got → got .number ≡ planFault s
 plan-number s got r = ap (λ (p : Plan). p .number) (r .answers) ∙ go (eqb (planFault s) 0) refl
   where
-    go : (b : Bool) → eqb (planFault s) 0 ≡ b → pick b (told (greedy 8 s)) (refused (planFault s)) .number ≡ planFault s
+    go : (b : Bool) → eqb (planFault s) 0 ≡ b → pick b (planTold (greedy 8 s)) (refused (planFault s)) .number ≡ planFault s
     go true e = sym (eqb-true (planFault s) 0 e)
     go false e = refl
 
@@ -61,7 +61,7 @@ empty (t ∷ l) e =
 pub record Planned (s : List ℕ) (got : Plan) : Type 0 where
   pub sized : length s ≤ 120
   pub none-over : rest 8 s ≡ []
-  pub is : got ≡ told (greedy 8 s)
+  pub is : got ≡ planTold (greedy 8 s)
 
 pub plan-made : (s : List ℕ) (got : Plan) → PlansAreas s got → got .number ≡ 0 → Planned s got
 plan-made s got r e =
@@ -71,7 +71,7 @@ plan-made s got r e =
     record {
       sized = ltb-false 120 (length s) (so .0);
       none-over = empty (rest 8 s) (so .1);
-      is = r .answers ∙ ap (λ (n : ℕ). pick (eqb n 0) (told (greedy 8 s)) (refused n)) fault;
+      is = r .answers ∙ ap (λ (n : ℕ). pick (eqb n 0) (planTold (greedy 8 s)) (refused n)) fault;
     }
 
 pub plan-refused : (s : List ℕ) (got : Plan) → PlansAreas s got → got .number ≡ 35 → ¬ (rest 8 s ≡ [])

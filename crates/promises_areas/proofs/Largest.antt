@@ -12,7 +12,7 @@ use lib.Seq.{drop-drop, take-add, length-take-le, drop-nil}
 use Rattle.frame.specs.Pick.{pick}
 use Rattle.areas.specs.Site.{feet, tenths, total, isArea}
 use Rattle.areas.specs.Check.{keeps}
-use Rattle.areas.specs.Plan.{joins, joining, first, greedy, rest}
+use Rattle.areas.specs.Plan.{joins, joining, firstArea, greedy, rest}
 use Rattle.areas.proofs.Joining.{joins-so, joins-by}
 use Rattle.areas.proofs.Totals.{total-append}
 use Rattle.promises_frame.proofs.Cases.{by-lt}
@@ -57,16 +57,16 @@ most many far ohms (t ∷ s) (suc m) a b c d =
     rw does (omega arith)
 
 -- The first area is one, unless it has none.
-pub first-area : (s : List ℕ) → ¬ (first s ≡ 0) → isArea (take (first s) s) ≡ true
+pub first-area : (s : List ℕ) → ¬ (firstArea s ≡ 0) → isArea (take (firstArea s) s) ≡ true
 first-area s some =
     let j = joined 0 0 0 s (omega arith) (omega arith) (omega arith) in
-    let long = length-take-le (first s) s (j .there) in
+    let long = length-take-le (firstArea s) s (j .there) in
     let p = j .count in
     let q = j .far-enough in
     let r = j .ohms-enough in
-    allowed-area (take (first s) s) (record { not-empty = omega arith; at-most-30 = omega arith; feet-within = omega arith; ohms-within = omega arith })
+    allowed-area (take (firstArea s) s) (record { not-empty = omega arith; at-most-30 = omega arith; feet-within = omega arith; ohms-within = omega arith })
 
-pub first-there : (s : List ℕ) → first s ≤ length s
+pub first-there : (s : List ℕ) → firstArea s ≤ length s
 first-there s = joined 0 0 0 s (omega arith) (omega arith) (omega arith) .there
 
 -- A run that begins within an area and ends with it stays within the limits.
@@ -75,7 +75,7 @@ within f s j m =
     let e = ap (total f) (take-add j m s) ∙ total-append f (take j s) (take m (drop j s)) in
     omega arith
 
-pub reaches : (s : List ℕ) (j n : ℕ) → j ≤ n → n ≤ length s → isArea (take n s) ≡ true → n - j ≤ first (drop j s)
+pub reaches : (s : List ℕ) (j n : ℕ) → j ≤ n → n ≤ length s → isArea (take n s) ≡ true → n - j ≤ firstArea (drop j s)
 reaches s j n h there is =
     let a = area-allowed (take n s) is in
     let all : j + (n - j) ≡ n = omega arith in
@@ -91,21 +91,21 @@ reaches s j n h there is =
     most 0 0 0 (drop j s) (n - j) (omega arith) (omega arith) (omega arith) (omega arith)
 
 -- One step of both, by whether the first area has any.
-rest-some : (k : ℕ) (s : List ℕ) → eqb (first s) 0 ≡ false → rest (suc k) s ≡ rest k (drop (first s) s)
+rest-some : (k : ℕ) (s : List ℕ) → eqb (firstArea s) 0 ≡ false → rest (suc k) s ≡ rest k (drop (firstArea s) s)
 unfolding rest
-rest-some k s e = ap (λ (b : Bool). pick b s (rest k (drop (first s) s))) e
+rest-some k s e = ap (λ (b : Bool). pick b s (rest k (drop (firstArea s) s))) e
 
-rest-none : (k : ℕ) (s : List ℕ) → eqb (first s) 0 ≡ true → rest (suc k) s ≡ s
+rest-none : (k : ℕ) (s : List ℕ) → eqb (firstArea s) 0 ≡ true → rest (suc k) s ≡ s
 unfolding rest
-rest-none k s e = ap (λ (b : Bool). pick b s (rest k (drop (first s) s))) e
+rest-none k s e = ap (λ (b : Bool). pick b s (rest k (drop (firstArea s) s))) e
 
-greedy-some : (k : ℕ) (s : List ℕ) → eqb (first s) 0 ≡ false → greedy (suc k) s ≡ first s ∷ greedy k (drop (first s) s)
+greedy-some : (k : ℕ) (s : List ℕ) → eqb (firstArea s) 0 ≡ false → greedy (suc k) s ≡ firstArea s ∷ greedy k (drop (firstArea s) s)
 unfolding greedy
-greedy-some k s e = ap (λ (b : Bool). pick b [] (first s ∷ greedy k (drop (first s) s))) e
+greedy-some k s e = ap (λ (b : Bool). pick b [] (firstArea s ∷ greedy k (drop (firstArea s) s))) e
 
-greedy-none : (k : ℕ) (s : List ℕ) → eqb (first s) 0 ≡ true → greedy (suc k) s ≡ []
+greedy-none : (k : ℕ) (s : List ℕ) → eqb (firstArea s) 0 ≡ true → greedy (suc k) s ≡ []
 unfolding greedy
-greedy-none k s e = ap (λ (b : Bool). pick b [] (first s ∷ greedy k (drop (first s) s))) e
+greedy-none k s e = ap (λ (b : Bool). pick b [] (firstArea s ∷ greedy k (drop (firstArea s) s))) e
 
 rest-empty : (k : ℕ) → rest k [] ≡ []
 unfolding rest joining
@@ -128,9 +128,9 @@ greedy-zero s = refl
 -- Where nothing is left over, one area more leaves nothing over, and so do any number more.
 one-more : (k : ℕ) (s : List ℕ) → rest k s ≡ [] → rest (suc k) s ≡ []
 one-more zero s e = ap (rest 1) (sym (rest-zero s) ∙ e) ∙ rest-empty 1
-one-more (suc k) s e = go (eqb (first s) 0) refl (one-more k (drop (first s) s))
+one-more (suc k) s e = go (eqb (firstArea s) 0) refl (one-more k (drop (firstArea s) s))
   where
-    go : (b : Bool) → eqb (first s) 0 ≡ b → (rest k (drop (first s) s) ≡ [] → rest (suc k) (drop (first s) s) ≡ []) → rest (suc (suc k)) s ≡ []
+    go : (b : Bool) → eqb (firstArea s) 0 ≡ b → (rest k (drop (firstArea s) s) ≡ [] → rest (suc k) (drop (firstArea s) s) ≡ []) → rest (suc (suc k)) s ≡ []
     go true z ih = rest-none (suc k) s z ∙ sym (rest-none k s z) ∙ e
     go false z ih = rest-some (suc k) s z ∙ ih (sym (rest-some k s z) ∙ e)
 
@@ -146,7 +146,7 @@ more (suc d) k s e =
 module _ (n : ℕ) (plan s : List ℕ) (j : ℕ) (f : First s n plan) (ih : (i : ℕ) → rest (length plan) (drop i (drop n s)) ≡ []) where
   inside : j < n → rest (suc (length plan)) (drop j s) ≡ []
   inside small =
-      let m = first (drop j s) in
+      let m = firstArea (drop j s) in
       let far : n - j ≤ m = reaches s j n (omega arith) (f .there) (f .area) in
       let some : eqb m 0 ≡ false = ne-eqb m 0 (λ e. omega arith) in
       let place : n + (j + m - n) ≡ j + m = omega arith in
@@ -175,9 +175,9 @@ few zero m s e =
 few (suc k) zero s e =
     let z = ap length (greedy-zero s) in
     omega arith
-few (suc k) (suc m) s e = go (eqb (first s) 0) refl (few k m (drop (first s) s))
+few (suc k) (suc m) s e = go (eqb (firstArea s) 0) refl (few k m (drop (firstArea s) s))
   where
-    go : (b : Bool) → eqb (first s) 0 ≡ b → (rest k (drop (first s) s) ≡ [] → length (greedy m (drop (first s) s)) ≤ k) → length (greedy (suc m) s) ≤ suc k
+    go : (b : Bool) → eqb (firstArea s) 0 ≡ b → (rest k (drop (firstArea s) s) ≡ [] → length (greedy m (drop (firstArea s) s)) ≤ k) → length (greedy (suc m) s) ≤ suc k
     go true z ih =
         let l = ap length (greedy-none m s z) in
         omega arith
@@ -190,9 +190,9 @@ pub at-most : (k : ℕ) (s : List ℕ) → length (greedy k s) ≤ k
 at-most zero s =
     let z = ap length (greedy-zero s) in
     omega arith
-at-most (suc k) s = go (eqb (first s) 0) refl (at-most k (drop (first s) s))
+at-most (suc k) s = go (eqb (firstArea s) 0) refl (at-most k (drop (firstArea s) s))
   where
-    go : (b : Bool) → eqb (first s) 0 ≡ b → length (greedy k (drop (first s) s)) ≤ k → length (greedy (suc k) s) ≤ suc k
+    go : (b : Bool) → eqb (firstArea s) 0 ≡ b → length (greedy k (drop (firstArea s) s)) ≤ k → length (greedy (suc k) s) ≤ suc k
     go true z ih =
         let l = ap length (greedy-none k s z) in
         omega arith
@@ -206,15 +206,15 @@ nothing-kept s e = ap (λ (l : List ℕ). eqb (length l) 0) e
 
 pub greedy-kept : (k : ℕ) (s : List ℕ) → rest k s ≡ [] → keeps s (greedy k s) ≡ true
 greedy-kept zero s e = ap (keeps s) (greedy-zero s) ∙ nothing-kept s (sym (rest-zero s) ∙ e)
-greedy-kept (suc k) s e = go (eqb (first s) 0) refl (greedy-kept k (drop (first s) s))
+greedy-kept (suc k) s e = go (eqb (firstArea s) 0) refl (greedy-kept k (drop (firstArea s) s))
   where
-    go : (b : Bool) → eqb (first s) 0 ≡ b → (rest k (drop (first s) s) ≡ [] → keeps (drop (first s) s) (greedy k (drop (first s) s)) ≡ true)
+    go : (b : Bool) → eqb (firstArea s) 0 ≡ b → (rest k (drop (firstArea s) s) ≡ [] → keeps (drop (firstArea s) s) (greedy k (drop (firstArea s) s)) ≡ true)
         → keeps s (greedy (suc k) s) ≡ true
     go true z ih = ap (keeps s) (greedy-none k s z) ∙ nothing-kept s (sym (rest-none k s z) ∙ e)
     go false z ih =
         ap (keeps s) (greedy-some k s z)
-        ∙ kept-first s (first s) (greedy k (drop (first s) s))
-        (record { there = first-there s; area = first-area s (eqb-false (first s) 0 z); behind = ih (sym (rest-some k s z) ∙ e) })
+        ∙ kept-first s (firstArea s) (greedy k (drop (firstArea s) s))
+        (record { there = first-there s; area = first-area s (eqb-false (firstArea s) 0 z); behind = ih (sym (rest-some k s z) ∙ e) })
 
 -- What is left over, at most 8 areas being taken, where some plan has at most 8.
 pub none-over : (plan s : List ℕ) → keeps s plan ≡ true → length plan ≤ 8 → rest 8 s ≡ []

@@ -6,16 +6,16 @@ use lib.ListN.{length, getD}
 use Rattle.areas.specs.Check.{ChecksAreas}
 
 -- Where the k-th area of a plan begins: behind the transmitters of those before it.
-abbrev pub begins : List ℕ → ℕ → ℕ
-begins plan zero = 0
-begins [] (suc k) = 0
-begins (n ∷ plan) (suc k) = n + begins plan k
+abbrev pub areaBegins : List ℕ → ℕ → ℕ
+areaBegins plan zero = 0
+areaBegins [] (suc k) = 0
+areaBegins (n ∷ plan) (suc k) = n + areaBegins plan k
 
 -- Place i of the site lies in the k-th area.
 pub record LiesIn (plan : List ℕ) (i k : ℕ) : Type 0 where
   pub there : k < length plan
-  pub from : begins plan k ≤ i
-  pub before : i < begins plan k + getD plan k 0
+  pub from : areaBegins plan k ≤ i
+  pub before : i < areaBegins plan k + getD plan k 0
 
 pub record InOne (plan : List ℕ) (i : ℕ) : Type 0 where
   pub area : ℕ

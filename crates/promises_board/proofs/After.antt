@@ -19,7 +19,7 @@ use Rattle.frame.specs.Reply.{ReadsReply, modeIn, replyTests, replyFault, refus
 use Rattle.board.specs.declared.Row.{Row}
 use Rattle.board.specs.Row.{freeRow, newRow, withReading, withFault, setsFault, heardAt}
 use Rattle.board.specs.Rows.{placeOf, placeFree, rowOf}
-use Rattle.board.specs.Calls.{enrolNumber, faultBy, outsideAt, hearNumber, hearPlace, hearRows, findNumber, lookedAt, told, refusedLook}
+use Rattle.board.specs.Calls.{enrolNumber, faultBy, outsideAt, hearNumber, hearPlace, hearRows, findNumber, lookedAt, rowTold, refusedLook}
 use Rattle.promises_order.proofs.Order.{first-small}
 use Rattle.promises_order.specs.OldBoard.{oldEnrolRows as enrolRows, oldRemoveRows as removeRows}
 
@@ -43,11 +43,11 @@ module _ (board : List Row) (address : ℕ) where
 
   pub look-refused : (n : ℕ) → findNumber board address ≡ n → eqb n 0 ≡ false → lookedAt board address ≡ refusedLook n
   unfolding lookedAt
-  look-refused n e z = ap (λ (m : ℕ). pick (eqb m 0) (told (rowOf address board)) (refusedLook m)) e ∙ ap (λ (t : Bool). pick t (told (rowOf address board)) (refusedLook n)) z
+  look-refused n e z = ap (λ (m : ℕ). pick (eqb m 0) (rowTold (rowOf address board)) (refusedLook m)) e ∙ ap (λ (t : Bool). pick t (rowTold (rowOf address board)) (refusedLook n)) z
 
-  pub look-told : findNumber board address ≡ 0 → lookedAt board address ≡ told (rowOf address board)
+  pub look-told : findNumber board address ≡ 0 → lookedAt board address ≡ rowTold (rowOf address board)
   unfolding lookedAt
-  look-told e = ap (λ (m : ℕ). pick (eqb m 0) (told (rowOf address board)) (refusedLook m)) e
+  look-told e = ap (λ (m : ℕ). pick (eqb m 0) (rowTold (rowOf address board)) (refusedLook m)) e
 
 -- The number of a hearing, by whether the address is on the board and by its row.
 abbrev pub numberBy : (address count : ℕ) → List ℕ → Bool → Row → ℕ

@@ -24,7 +24,7 @@ use Rattle.board.specs.declared.Row.{Row}
 use Rattle.board.specs.Gauge.{is6500, outsideBy, unmarked, atOnce}
 use Rattle.board.specs.Row.{withReading, withFault, setsFault, heardAt}
 use Rattle.board.specs.Rows.{boardOf, beyond, placeOf, rowOf}
-use Rattle.board.specs.Calls.{heardAs, outsideAt, hearNumber, hearPlace, told, rowPollBytes}
+use Rattle.board.specs.Calls.{heardAs, outsideAt, hearNumber, hearPlace, rowTold, rowPollBytes}
 use Rattle.promises_order.specs.OldBoard.{OldHears as Hears, OldLooksUp as LooksUp, OldPollsRow as PollsRow}
 use Rattle.board.specs.inside.ByValue.{mayPoll, orPoll}
 use Rattle.board.proofs.Faults.{sets-by, sets-7, sets-26, not-10, not-11, not-14, not-17}
@@ -71,7 +71,7 @@ module _ (rows : List Row) (address : ℕ) (answer : Looked) (e : LooksUp rows a
       record {
         bad-address = λ a. e .answers ∙ look-refused (boardOf rows) address 11 (find-11 (boardOf rows) address a) refl;
         unknown = λ a u. e .answers ∙ look-refused (boardOf rows) address 17 (find-17 (boardOf rows) address a (unknown-off rows address u)) refl;
-        found = λ a i p. tells (rowAt rows i) answer (e .answers ∙ look-told (boardOf rows) address (find-0 (boardOf rows) address a (row-on rows address i p)) ∙ ap told (row-is rows address i p));
+        found = λ a i p. tells (rowAt rows i) answer (e .answers ∙ look-told (boardOf rows) address (find-0 (boardOf rows) address a (row-on rows address i p)) ∙ ap rowTold (row-is rows address i p));
       }
 
 module _ (rows : List Row) (minute address count : ℕ) (reply : List ℕ) (answer : Heard) (after : List Row) (e : Hears rows minute address count reply answer after) where

@@ -18,13 +18,13 @@ use Rattle.frame.specs.Reply.{modeIn, readingAt}
 use Rattle.board.specs.declared.Row.{Row}
 use Rattle.board.specs.Row.{isFree, inUse, freeRow, newRow, withReading, withFault, setsFault, heardAt}
 use Rattle.board.specs.Rows.{boardOf, beyond, holds, placeBy, placeOf, placeFree, rowOf, onBoard, hasFree}
-use Rattle.board.specs.Order.{allFree, keptFrom, kept, inOrder, pushed, insertRow, closed, withoutRow}
+use Rattle.board.specs.Order.{allFree, inAddressOrderFrom, inAddressOrder, ifInOrder, pushed, insertRow, closedUp, withoutRow}
 use Rattle.board.specs.Calls.{enrolNumber, enrolRows, removeRows, hearNumber, hearPlace, hearRows, findNumber}
 use Rattle.board.proofs.Places.{place-at}
 use Rattle.promises_order.specs.Calls.{Call, enrol, hear, remove, look-up, poll, refused38}
 use Rattle.promises_order.proofs.Boards.{same-find as find-same, same-enrol as enrol-same, same-hear as hear-same}
 use Rattle.promises_order.proofs.Order.{pick-length, said, made, now, same-said, made-length}
-use Rattle.promises_board.specs.Free.{cleared, Alike, BoardFree}
+use Rattle.promises_board.specs.Free.{cleared, AlikeButFree, BoardFree}
 
 -- A row cleared is free where the row is, and holds an address where the row does.
 clear-by : (t : Bool) (row : Row) → isFree row ≡ t → isFree (pick t freeRow row) ≡ t
@@ -86,13 +86,13 @@ insert-clear row own (next ∷ rows) =
     go true h = pushed-clear row (next ∷ rows) ∙ ap (λ (r : Row). pushed r (cleared next ∷ map cleared rows)) own
     go false h = ap (λ (zs : List Row). cleared next ∷ zs) h
 
-closed-clear : (rows : List Row) → map cleared (closed rows) ≡ closed (map cleared rows)
-unfolding closed
+closed-clear : (rows : List Row) → map cleared (closedUp rows) ≡ closedUp (map cleared rows)
+unfolding closedUp
 closed-clear [] = refl
 closed-clear (row ∷ rows) =
-    go (isFree row) (closed-clear rows) ∙ ap (λ (t : Bool). pick t (freeRow ∷ cleared row ∷ map cleared rows) (cleared row ∷ closed (map cleared rows))) (sym (clear-free row))
+    go (isFree row) (closed-clear rows) ∙ ap (λ (t : Bool). pick t (freeRow ∷ cleared row ∷ map cleared rows) (cleared row ∷ closedUp (map cleared rows))) (sym (clear-free row))
   where
-    go : (t : Bool) → map cleared (closed rows) ≡ closed (map cleared rows) → map cleared (pick t (freeRow ∷ row ∷ rows) (row ∷ closed rows)) ≡ pick t (freeRow ∷ cleared row ∷ map cleared rows) (cleared row ∷ closed (map cleared rows))
+    go : (t : Bool) → map cleared (closedUp rows) ≡ closedUp (map cleared rows) → map cleared (pick t (freeRow ∷ row ∷ rows) (row ∷ closedUp rows)) ≡ pick t (freeRow ∷ cleared row ∷ map cleared rows) (cleared row ∷ closedUp (map cleared rows))
     go true h = refl
     go false h = ap (λ (zs : List Row). cleared row ∷ zs) h
 
@@ -100,10 +100,10 @@ without-clear : (address : ℕ) (rows : List Row) → map cleared (withoutRow ad
 unfolding withoutRow
 without-clear address [] = refl
 without-clear address (row ∷ rows) =
-    go (holds address row) (without-clear address rows) ∙ ap (λ (t : Bool). pick t (closed (map cleared rows)) (cleared row ∷ withoutRow address (map cleared rows))) (sym (clear-holds address row))
+    go (holds address row) (without-clear address rows) ∙ ap (λ (t : Bool). pick t (closedUp (map cleared rows)) (cleared row ∷ withoutRow address (map cleared rows))) (sym (clear-holds address row))
   where
     go : (t : Bool) → map cleared (withoutRow address rows) ≡ withoutRow address (map cleared rows)
-        → map cleared (pick t (closed rows) (row ∷ withoutRow address rows)) ≡ pick t (closed (map cleared rows)) (cleared row ∷ withoutRow address (map cleared rows))
+        → map cleared (pick t (closedUp rows) (row ∷ withoutRow address rows)) ≡ pick t (closedUp (map cleared rows)) (cleared row ∷ withoutRow address (map cleared rows))
     go true h = closed-clear rows
     go false h = ap (λ (zs : List Row). cleared row ∷ zs) h
 
@@ -113,19 +113,19 @@ unfolding allFree
 all-clear [] = refl
 all-clear (row ∷ rows) = ap (λ (t : Bool). t && allFree (map cleared rows)) (clear-free row) ∙ ap (λ (t : Bool). isFree row && t) (all-clear rows)
 
-kept-clear : (least : ℕ) (rows : List Row) → keptFrom least (map cleared rows) ≡ keptFrom least rows
-unfolding keptFrom
+kept-clear : (least : ℕ) (rows : List Row) → inAddressOrderFrom least (map cleared rows) ≡ inAddressOrderFrom least rows
+unfolding inAddressOrderFrom
 kept-clear least [] = refl
 kept-clear least (row ∷ rows) = go (isFree row) refl (kept-clear (suc (row .address)) rows)
   where
-    go : (t : Bool) → isFree row ≡ t → keptFrom (suc (row .address)) (map cleared rows) ≡ keptFrom (suc (row .address)) rows
-        → pick (isFree (pick t freeRow row)) (allFree (map cleared rows)) (leb least (pick t freeRow row .address) && keptFrom (suc (pick t freeRow row .address)) (map cleared rows))
-        ≡ pick (isFree row) (allFree rows) (leb least (row .address) && keptFrom (suc (row .address)) rows)
-    go true e h = all-clear rows ∙ sym (ap (λ (t : Bool). pick t (allFree rows) (leb least (row .address) && keptFrom (suc (row .address)) rows)) e)
+    go : (t : Bool) → isFree row ≡ t → inAddressOrderFrom (suc (row .address)) (map cleared rows) ≡ inAddressOrderFrom (suc (row .address)) rows
+        → pick (isFree (pick t freeRow row)) (allFree (map cleared rows)) (leb least (pick t freeRow row .address) && inAddressOrderFrom (suc (pick t freeRow row .address)) (map cleared rows))
+        ≡ pick (isFree row) (allFree rows) (leb least (row .address) && inAddressOrderFrom (suc (row .address)) rows)
+    go true e h = all-clear rows ∙ sym (ap (λ (t : Bool). pick t (allFree rows) (leb least (row .address) && inAddressOrderFrom (suc (row .address)) rows)) e)
     go false e h =
-        ap (λ (t : Bool). pick t (allFree (map cleared rows)) (leb least (row .address) && keptFrom (suc (row .address)) (map cleared rows))) e
+        ap (λ (t : Bool). pick t (allFree (map cleared rows)) (leb least (row .address) && inAddressOrderFrom (suc (row .address)) (map cleared rows))) e
         ∙ ap (λ (t : Bool). leb least (row .address) && t) h
-        ∙ sym (ap (λ (t : Bool). pick t (allFree rows) (leb least (row .address) && keptFrom (suc (row .address)) rows)) e)
+        ∙ sym (ap (λ (t : Bool). pick t (allFree rows) (leb least (row .address) && inAddressOrderFrom (suc (row .address)) rows)) e)
 
 -- Two boards alike.
 module _ (x y : List Row) (alike : map cleared x ≡ map cleared y) where
@@ -138,15 +138,15 @@ module _ (x y : List Row) (alike : map cleared x ≡ map cleared y) where
   same-room : hasFree x ≡ hasFree y
   same-room = ap (λ (k : ℕ). ltb k (length x)) same-free ∙ ap (ltb (placeFree y)) same-length
 
-  same-kept : kept x ≡ kept y
-  same-kept = sym (kept-clear 0 x) ∙ ap kept alike ∙ kept-clear 0 y
+  same-kept : inAddressOrder x ≡ inAddressOrder y
+  same-kept = sym (kept-clear 0 x) ∙ ap inAddressOrder alike ∙ kept-clear 0 y
 
   -- what each call answers and leaves, with 38 asked first
-  same-answer : {A : Type 0} (p q r : A) → p ≡ q → inOrder x p r ≡ inOrder y q r
-  same-answer p q r e = ap (λ (t : Bool). pick t p r) same-kept ∙ ap (λ z. pick (kept y) z r) e
+  same-answer : {A : Type 0} (p q r : A) → p ≡ q → ifInOrder x p r ≡ ifInOrder y q r
+  same-answer p q r e = ap (λ (t : Bool). pick t p r) same-kept ∙ ap (λ z. pick (inAddressOrder y) z r) e
 
-  ordered-alike : (p q : List Row) → map cleared p ≡ map cleared q → map cleared (inOrder x p x) ≡ map cleared (inOrder y q y)
-  ordered-alike p q e = go (kept x) ∙ ap (λ (t : Bool). map cleared (pick t q y)) same-kept
+  ordered-alike : (p q : List Row) → map cleared p ≡ map cleared q → map cleared (ifInOrder x p x) ≡ map cleared (ifInOrder y q y)
+  ordered-alike p q e = go (inAddressOrder x) ∙ ap (λ (t : Bool). map cleared (pick t q y)) same-kept
     where
       go : (t : Bool) → map cleared (pick t p x) ≡ map cleared (pick t q y)
       go true = e
@@ -258,14 +258,14 @@ board-of rows now e = go (ltb (length rows) 30) refl
         take-at now (beyond rows) 30 (omega (arith, few))
 
 -- The boards after two calls are alike where what the calls made of the boards is, and is as long.
-after-alike : (Made : List Row → List Row) → ((board : List Row) → length (Made board) ≡ length board) → (rows others after later : List Row) → after ≡ Made (boardOf rows) ++ beyond rows → later ≡ Made (boardOf others) ++ beyond others → map cleared (Made (boardOf rows)) ≡ map cleared (Made (boardOf others)) → Alike after later
+after-alike : (Made : List Row → List Row) → ((board : List Row) → length (Made board) ≡ length board) → (rows others after later : List Row) → after ≡ Made (boardOf rows) ++ beyond rows → later ≡ Made (boardOf others) ++ beyond others → map cleared (Made (boardOf rows)) ≡ map cleared (Made (boardOf others)) → AlikeButFree after later
 after-alike Made long rows others after later e f same =
     ap (λ (zs : List Row). map cleared (boardOf zs)) e ∙ ap (map cleared) (board-of rows (Made (boardOf rows)) (long (boardOf rows))) ∙ same ∙ sym (ap (map cleared) (board-of others (Made (boardOf others)) (long (boardOf others))))
     ∙ sym (ap (λ (zs : List Row). map cleared (boardOf zs)) f)
 
 -- as many rows, with the order asked first
-ordered-length : (Made : List Row → List Row) → ((board : List Row) → length (Made board) ≡ length board) → (board : List Row) → length (inOrder board (Made board) board) ≡ length board
-ordered-length Made long board = pick-length (kept board) (Made board) board (long board)
+ordered-length : (Made : List Row → List Row) → ((board : List Row) → length (Made board) ≡ length board) → (board : List Row) → length (ifInOrder board (Made board) board) ≡ length board
+ordered-length Made long board = pick-length (inAddressOrder board) (Made board) board (long board)
 
 pub board-free : BoardFree
 board-free =
@@ -277,7 +277,7 @@ board-free =
                 ∙ same-answer (boardOf rows) (boardOf others) same (said (boardOf rows) c) (said (boardOf others) c) (refused38 c)
                 (same-said (boardOf rows) (boardOf others) (same-on (boardOf rows) (boardOf others) same) (same-row (boardOf rows) (boardOf others) same) (same-room (boardOf rows) (boardOf others) same) c)
                 ∙ sym (q .answers),
-            after-alike (λ board. inOrder board (made board c) board) (ordered-length (λ board. made board c) (λ board. made-length board c)) rows others after later (p .leaves) (q .leaves)
+            after-alike (λ board. ifInOrder board (made board c) board) (ordered-length (λ board. made board c) (λ board. made-length board c)) rows others after later (p .leaves) (q .leaves)
                 (ordered-alike (boardOf rows) (boardOf others) same (made (boardOf rows) c) (made (boardOf others) c) (made-alike (boardOf rows) (boardOf others) same c)),
           );
     }

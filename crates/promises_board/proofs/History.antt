@@ -20,7 +20,7 @@ use Rattle.board.proofs.Numbers.{enrol-19, enrol-0}
 use Rattle.promises_order.specs.Places.{rowAt, OnBoard, Empty}
 use Rattle.promises_board.specs.Calls.{Holds, Unknown, OnlyRow}
 use Rattle.promises_order.specs.Calls.{asItWas, Call, enrol, hear, remove, look-up, poll, Answer, Does}
-use Rattle.promises_board.specs.History.{History, begun, called, NoneTwice, takenBy, givenBy, taken, given, BoardHistory}
+use Rattle.promises_board.specs.History.{History, begun, called, NoneTwice, takenBy, givenBy, rowsTaken, given, BoardHistory}
 use Rattle.promises_board.proofs.Places.{on-board, board-on, same-row, unknown-off}
 use Rattle.promises_order.proofs.Count.{used, used-set, used-none, used-full, used-room}
 use Rattle.promises_frame.proofs.Cases.{by-lt}
@@ -204,22 +204,22 @@ call-balance rows (remove address) answer after e g k b =
 call-balance rows (look-up address) answer after e g k b = ap (λ (zs : List Row). used (boardOf zs) + g) (e .1) ∙ b
 call-balance rows (poll address raise reset out) answer after e g k b = ap (λ (zs : List Row). used (boardOf zs) + g) (e .1) ∙ b
 
-balance : (start now : List Row) → Empty start → (h : History asItWas start now) → used (boardOf now) + given h ≡ taken h
-unfolding taken given
+balance : (start now : List Row) → Empty start → (h : History asItWas start now) → used (boardOf now) + given h ≡ rowsTaken h
+unfolding rowsTaken given
 balance start now empty begun = let z = used-none (boardOf start) (λ i l. ap isFree (same-row start i l) ∙ empty i (board-on start i l)) in omega arith
-balance start now empty (called {rows} c answer h e) = call-balance rows c answer now e (given h) (taken h) (balance start rows empty h)
+balance start now empty (called {rows} c answer h e) = call-balance rows c answer now e (given h) (rowsTaken h) (balance start rows empty h)
 
 -- A new address, while there is room, and when the board is full.
 module _ (start rows after : List Row) (h : History asItWas start rows) (settings address gauge answer : ℕ) (empty : Empty start) (s : settings ≤ 15) (a : address ≤ 999) (m : profileMisplaced settings gauge ≡ false) (u : Unknown rows address) (e : Enrols rows settings address gauge answer after) where
   size : length (boardOf rows) ≡ min 30 (length start)
   size = length-take 30 rows ∙ ap (λ (n : ℕ). min 30 n) (as-many start rows h)
 
-  room : taken h < given h + min 30 (length start) → answer ≡ 0
+  room : rowsTaken h < given h + min 30 (length start) → answer ≡ 0
   room l =
       by-lt (placeFree (boardOf rows)) (length (boardOf rows)) (λ f. e .answers ∙ enrol-0 (boardOf rows) settings address gauge s a m (unknown-off rows address u) f)
       (λ f. absurd (omega (arith, balance start rows empty h, used-full (boardOf rows) f, size)))
 
-  full : given h + min 30 (length start) ≤ taken h → answer ≡ 19
+  full : given h + min 30 (length start) ≤ rowsTaken h → answer ≡ 19
   full l =
       by-lt (placeFree (boardOf rows)) (length (boardOf rows)) (λ f. absurd (omega (arith, balance start rows empty h, used-room (boardOf rows) f, size)))
       (λ f. e .answers ∙ enrol-19 (boardOf rows) settings address gauge s a m (unknown-off rows address u) f)

@@ -20,7 +20,7 @@ use Rattle.promises_order.proofs.Order.{said, left-then, has-then, board-order}
 use Rattle.promises_frame.proofs.Cases.{by-lt}
 use Rattle.promises_order.specs.Calls.{today, Call, enrol, Answer, Does}
 use Rattle.promises_board.specs.Calls.{Unknown}
-use Rattle.promises_board.specs.History.{History, begun, called, NoneTwice, taken, given, BoardHistory}
+use Rattle.promises_board.specs.History.{History, begun, called, NoneTwice, rowsTaken, given, BoardHistory}
 use Rattle.promises_board.specs.Kept.{NoneIs38, BoardStaysKept}
 use Rattle.promises_board.proofs.Places.{unknown-off}
 use Rattle.promises_board.proofs.Done.{off-unknown}
@@ -86,12 +86,12 @@ module _ (start others after : List Row) (h : History today start others) (setti
   unknown : Unknown (b .rows) address
   unknown = unknown-then (b .rows) others (same-in-use start others empty h) address u
 
-  room : taken h < given h + min 30 (length start) → answer ≡ 0
+  room : rowsTaken h < given h + min 30 (length start) → answer ≡ 0
   room l =
       board-history .room start (b .rows) (left-then (b .rows) (enrol settings address gauge)) (b .then) settings address gauge answer empty s a m unknown (does-then start (b .rows) others empty (b .calls) (enrol settings address gauge) answer after e)
       (omega (arith, l, b .same-taken, b .same-given))
 
-  full : given h + min 30 (length start) ≤ taken h → answer ≡ 19
+  full : given h + min 30 (length start) ≤ rowsTaken h → answer ≡ 19
   full l =
       board-history .full start (b .rows) (left-then (b .rows) (enrol settings address gauge)) (b .then) settings address gauge answer empty s a m unknown (does-then start (b .rows) others empty (b .calls) (enrol settings address gauge) answer after e)
       (omega (arith, l, b .same-taken, b .same-given))

@@ -14,7 +14,7 @@ use Rattle.board.specs.declared.Looked.{Looked}
 use Rattle.board.specs.declared.Row.{Row}
 use Rattle.board.specs.Row.{isFree, inUse, newRow, setsFault}
 use Rattle.board.specs.Rows.{boardOf, beyond}
-use Rattle.board.specs.Order.{kept, insertRow, withoutRow}
+use Rattle.board.specs.Order.{inAddressOrder, insertRow, withoutRow}
 use Rattle.board.specs.Calls.{Enrols, Hears, Removes, LooksUp, heardAs, enrolNumber, enrolRows, findNumber, removeRows}
 use Rattle.board.proofs.Order.{neither}
 use Rattle.board.proofs.Numbers.{enrol-10, enrol-11, enrol-27, enrol-18, enrol-19, enrol-0, find-11, find-17, find-0}
@@ -36,9 +36,9 @@ use Rattle.promises_board.proofs.Readings.{board-readings}
 
 -- Rows are so kept or not.
 pub by-order : {A : Type 0} (rows : List Row) → (SoKept rows → A) → ((SoKept rows → ⊥) → A) → A
-by-order {A} rows f g = go (kept (boardOf rows)) refl
+by-order {A} rows f g = go (inAddressOrder (boardOf rows)) refl
   where
-    go : (t : Bool) → kept (boardOf rows) ≡ t → A
+    go : (t : Bool) → inAddressOrder (boardOf rows) ≡ t → A
     go true k = f (so-kept rows k)
     go false k = g (λ so. neither (kept-so rows so) k)
 
@@ -128,10 +128,10 @@ readings-now =
 
 -- The cases of an enrolment and of a removal: the number is the one that was asked, and beside a refusal the board is left.
 module _ (rows : List Row) (so : SoKept rows) where
-  k : kept (boardOf rows) ≡ true
+  k : inAddressOrder (boardOf rows) ≡ true
   k = kept-so rows so
 
-  left : (now after : List Row) → now ≡ boardOf rows → after ≡ pick (kept (boardOf rows)) now (boardOf rows) ++ beyond rows → after ≡ rows
+  left : (now after : List Row) → now ≡ boardOf rows → after ≡ pick (inAddressOrder (boardOf rows)) now (boardOf rows) ++ beyond rows → after ≡ rows
   left now after is e = e ∙ ap (λ (zs : List Row). zs ++ beyond rows) (in-order (boardOf rows) now (boardOf rows) k ∙ is) ∙ take-append-drop 30 rows
 
   front-free : (n : ℕ) → IsFirstFree rows n → Front rows n

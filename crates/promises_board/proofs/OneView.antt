@@ -21,7 +21,7 @@ use Rattle.board.specs.declared.Row.{Row}
 use Rattle.board.specs.Gauge.{Profile, is6500, outside, outsideBy, profileMisplaced, gaugeTold, atOnce}
 use Rattle.board.specs.Row.{freeRow, newRow, heardAt, withReading, withFault, setsFault, more}
 use Rattle.board.specs.Rows.{boardOf, placeOf, placeFree, rowOf}
-use Rattle.board.specs.Calls.{rowPollNumber, rowPollBytes, heardAs, enrolNumber, hearNumber, hearPlace, findNumber, lookedAt, told, refusedLook}
+use Rattle.board.specs.Calls.{rowPollNumber, rowPollBytes, heardAs, enrolNumber, hearNumber, hearPlace, findNumber, lookedAt, rowTold, refusedLook}
 use Rattle.promises_order.specs.OldBoard.{OldEnrols as Enrols, OldHears as Hears, OldRemoves as Removes, OldPollsRow as PollsRow}
 use Rattle.board.specs.inside.ByValue.{mayPoll, orPoll}
 use Rattle.board.proofs.Gauges.{profile-told, mark-told}
@@ -44,7 +44,7 @@ view-number : (rows : List Row) (address : ℕ) → view rows address .number �
 unfolding lookedAt
 view-number rows address = go (findNumber (boardOf rows) address) (eqb (findNumber (boardOf rows) address) 0) refl
   where
-    go : (n : ℕ) (t : Bool) → eqb n 0 ≡ t → pick t (told (rowOf address (boardOf rows))) (refusedLook n) .number ≡ n
+    go : (n : ℕ) (t : Bool) → eqb n 0 ≡ t → pick t (rowTold (rowOf address (boardOf rows))) (refusedLook n) .number ≡ n
     go n true e = sym (eqb-true n 0 e)
     go n false e = refl
 
@@ -56,7 +56,7 @@ module _ (rows others : List Row) (same : SameView rows others) (address : ℕ) 
   on-other : address ≤ 999 → placeOf address (boardOf rows) < length (boardOf rows) → placeOf address (boardOf others) < length (boardOf others)
   on-other a l = found-on others address (sym same-find ∙ find-0 (boardOf rows) address a l) .1
 
-  same-told : address ≤ 999 → placeOf address (boardOf rows) < length (boardOf rows) → told (rowOf address (boardOf rows)) ≡ told (rowOf address (boardOf others))
+  same-told : address ≤ 999 → placeOf address (boardOf rows) < length (boardOf rows) → rowTold (rowOf address (boardOf rows)) ≡ rowTold (rowOf address (boardOf others))
   same-told a l =
       sym (look-told (boardOf rows) address (find-0 (boardOf rows) address a l))
       ∙ same address
@@ -161,12 +161,12 @@ module _ (address count : ℕ) (reply : List ℕ) where
           (λ l. both-refused x y 17 refl (hear-17 x address count reply a f l) (hear-17 y address count reply a f (off-other rows others same address a l)))
 
 -- What a look tells of a row on the board, and after that row alone was set to one that holds the address.
-row-view : (rows : List Row) (address : ℕ) → address ≤ 999 → (i : ℕ) → IsRowOf rows address i → view rows address ≡ told (rowAt rows i)
+row-view : (rows : List Row) (address : ℕ) → address ≤ 999 → (i : ℕ) → IsRowOf rows address i → view rows address ≡ rowTold (rowAt rows i)
 row-view rows address = looked-row rows address (view rows address) (record { answers = refl })
 
 set-view : (rows after : List Row) (address i : ℕ) (row : Row) → OnlyRow rows i row after → address ≤ 999 → OnBoard rows i → Holds row address
-    → ((j : ℕ) → j < i → Holds (rowAt rows j) address → ⊥) → view after address ≡ told row
-set-view rows after address i row only a p h first = row-view after address a i (still rows after address i row only p h first) ∙ ap told (only .own)
+    → ((j : ℕ) → j < i → Holds (rowAt rows j) address → ⊥) → view after address ≡ rowTold row
+set-view rows after address i row only a p h first = row-view after address a i (still rows after address i row only p h first) ∙ ap rowTold (only .own)
 
 -- A look after a hearing of its address, from the look before and what was heard: a fault with its place, or a good reply.
 abbrev faultBy : Looked → Bool → (minute fault place : ℕ) → Looked
@@ -191,8 +191,8 @@ faultBy l none minute fault place =
 abbrev faultView : Looked → (minute fault place : ℕ) → Looked
 faultView l minute fault place = faultBy l (eqb (l .kind) 0) minute fault place
 
-fault-view : (row : Row) (minute fault place : ℕ) → told (withFault (heardAt row minute) fault place) ≡ faultView (told row) minute fault place
-fault-view row minute fault place = ap (λ (t : Bool). faultBy (told row) t minute fault place) (sym (kind-zero row))
+fault-view : (row : Row) (minute fault place : ℕ) → rowTold (withFault (heardAt row minute) fault place) ≡ faultView (rowTold row) minute fault place
+fault-view row minute fault place = ap (λ (t : Bool). faultBy (rowTold row) t minute fault place) (sym (kind-zero row))
 
 -- the same with this gauge
 abbrev gauged : ℕ → Looked → Looked
@@ -216,7 +216,7 @@ gauged gauge l =
 
 abbrev goodView : Looked → (minute count : ℕ) → List ℕ → Looked
 goodView l minute count reply =
-    gauged (l .gauge) (told (withReading (heardAt (newRow (l .settings) (l .address) 0) minute) (readingAt (l .settings) count (line reply)) minute))
+    gauged (l .gauge) (rowTold (withReading (heardAt (newRow (l .settings) (l .address) 0) minute) (readingAt (l .settings) count (line reply)) minute))
 
 abbrev heardView : Looked → (minute count : ℕ) → List ℕ → Heard → Looked
 heardView l minute count reply answer =
@@ -247,7 +247,7 @@ module _ (rows after : List Row) (address : ℕ) where
       (set-view rows after address i next (set-only rows after i next (p .place) e) x (p .place) (record { used = p .here .used; same = p .here .same }) (p .first)
       ∙ ap (λ (l : Looked). goodView l minute count reply) (sym (row-view rows address x i p)))
 
-  pub enrol-view : (settings gauge answer : ℕ) → Enrolled rows settings address gauge answer after → view after address ≡ pick (eqb answer 0) (told (newRow settings address gauge)) (view rows address)
+  pub enrol-view : (settings gauge answer : ℕ) → Enrolled rows settings address gauge answer after → view after address ≡ pick (eqb answer 0) (rowTold (newRow settings address gauge)) (view rows address)
   enrol-view settings gauge answer (not-enrolled z e) = rw z (unmoved e)
   enrol-view settings gauge answer (took z x u p e) =
       let i : ℕ = placeFree (boardOf rows) in
@@ -276,8 +276,8 @@ module _ (rows others after later : List Row) (same : SameView rows others) (add
   enrol-same settings gauge a b is e f =
       view-after
       (enrol-view rows after address settings gauge a (enrol-done rows settings address gauge a after e)
-      ∙ ap (λ (l : Looked). pick (eqb a 0) (told (newRow settings address gauge)) l) (same address)
-      ∙ ap (λ (n : ℕ). pick (eqb n 0) (told (newRow settings address gauge)) (view others address)) is
+      ∙ ap (λ (l : Looked). pick (eqb a 0) (rowTold (newRow settings address gauge)) l) (same address)
+      ∙ ap (λ (n : ℕ). pick (eqb n 0) (rowTold (newRow settings address gauge)) (view others address)) is
       ∙ sym (enrol-view others later address settings gauge b (enrol-done others settings address gauge b later f)))
       (λ k ne. board-readings .enrol-apart rows after settings k gauge address a (view rows k) (view after k) ne (record { answers = refl }) e (record { answers = refl }))
       (λ k ne. board-readings .enrol-apart others later settings k gauge address b (view others k) (view later k) ne (record { answers = refl }) f (record { answers = refl }))

@@ -14,11 +14,11 @@ use Rattle.board.specs.declared.Looked.{Looked}
 use Rattle.board.specs.declared.Row.{Row}
 use Rattle.board.specs.Gauge.{unmarked, atOnce}
 use Rattle.board.specs.Rows.{boardOf, onBoard, rowOf}
-use Rattle.board.specs.Order.{kept, inOrder}
-use Rattle.board.specs.Calls.{outsideAt, enrolNumber, hearNumber, findNumber, lookedAt, told, refusedLook, rowPollNumber}
+use Rattle.board.specs.Order.{inAddressOrder, ifInOrder}
+use Rattle.board.specs.Calls.{outsideAt, enrolNumber, hearNumber, findNumber, lookedAt, rowTold, refusedLook, rowPollNumber}
 use Rattle.promises_frame.specs.FirstFault.{applies, replyTable}
 use Rattle.promises_frame.proofs.FirstFault.{asked, given}
-use Rattle.promises_board.specs.Orders.{enrolTable, enrolOrder, hearTable, hearOrder, findTable, findOrder, pollTable, pollOrder, BoardOrders}
+use Rattle.promises_board.specs.Orders.{enrolTable, enrolOrder, hearTable, hearOrder, findTable, findOrder, rowPollTable, pollOrder, BoardOrders}
 
 -- The orders after 38.
 abbrev pub enrolRest : List ℕ
@@ -38,7 +38,7 @@ unfolding enrolNumber
 enrol-asks rows settings address gauge = refl
 
 -- the two tests that give 28 are one line of the table
-pub poll-asks : (rows : List Row) (address raise reset : ℕ) (out : List ℕ) → rowPollNumber (boardOf rows) address raise reset out ≡ firstOf (asked (pollTable rows address raise reset out) pollRest)
+pub poll-asks : (rows : List Row) (address raise reset : ℕ) (out : List ℕ) → rowPollNumber (boardOf rows) address raise reset out ≡ firstOf (asked (rowPollTable rows address raise reset out) pollRest)
 unfolding rowPollNumber firstOf
 poll-asks rows address raise reset out = go (ltb 999 address) (not (onBoard address (boardOf rows))) (unmarked (rowOf address (boardOf rows) .gauge) raise reset) (atOnce raise reset)
   where
@@ -84,25 +84,25 @@ first-38 : (t : Bool) (n : ℕ) → pick t n 38 ≡ pick (not t) 38 n
 first-38 true n = refl
 first-38 false n = refl
 
-enrol-first : (rows : List Row) (settings address gauge : ℕ) → inOrder (boardOf rows) (enrolNumber (boardOf rows) settings address gauge) 38 ≡ firstOf (asked (enrolTable rows settings address gauge) enrolOrder)
+enrol-first : (rows : List Row) (settings address gauge : ℕ) → ifInOrder (boardOf rows) (enrolNumber (boardOf rows) settings address gauge) 38 ≡ firstOf (asked (enrolTable rows settings address gauge) enrolOrder)
 unfolding firstOf
 enrol-first rows settings address gauge =
-    first-38 (kept (boardOf rows)) (enrolNumber (boardOf rows) settings address gauge) ∙ ap (pick (not (kept (boardOf rows))) 38) (enrol-asks rows settings address gauge)
+    first-38 (inAddressOrder (boardOf rows)) (enrolNumber (boardOf rows) settings address gauge) ∙ ap (pick (not (inAddressOrder (boardOf rows))) 38) (enrol-asks rows settings address gauge)
 
-poll-first : (rows : List Row) (address raise reset : ℕ) (out : List ℕ) → inOrder (boardOf rows) (rowPollNumber (boardOf rows) address raise reset out) 38 ≡ firstOf (asked (pollTable rows address raise reset out) pollOrder)
+poll-first : (rows : List Row) (address raise reset : ℕ) (out : List ℕ) → ifInOrder (boardOf rows) (rowPollNumber (boardOf rows) address raise reset out) 38 ≡ firstOf (asked (rowPollTable rows address raise reset out) pollOrder)
 unfolding firstOf
 poll-first rows address raise reset out =
-    first-38 (kept (boardOf rows)) (rowPollNumber (boardOf rows) address raise reset out) ∙ ap (pick (not (kept (boardOf rows))) 38) (poll-asks rows address raise reset out)
+    first-38 (inAddressOrder (boardOf rows)) (rowPollNumber (boardOf rows) address raise reset out) ∙ ap (pick (not (inAddressOrder (boardOf rows))) 38) (poll-asks rows address raise reset out)
 
-hear-first : (rows : List Row) (address count : ℕ) (reply : List ℕ) → inOrder (boardOf rows) (hearNumber (boardOf rows) address count reply) 38 ≡ firstOf (asked (hearTable rows address count reply) hearOrder)
+hear-first : (rows : List Row) (address count : ℕ) (reply : List ℕ) → ifInOrder (boardOf rows) (hearNumber (boardOf rows) address count reply) 38 ≡ firstOf (asked (hearTable rows address count reply) hearOrder)
 unfolding firstOf
 hear-first rows address count reply =
-    first-38 (kept (boardOf rows)) (hearNumber (boardOf rows) address count reply) ∙ ap (pick (not (kept (boardOf rows))) 38) (hear-asks rows address count reply)
+    first-38 (inAddressOrder (boardOf rows)) (hearNumber (boardOf rows) address count reply) ∙ ap (pick (not (inAddressOrder (boardOf rows))) 38) (hear-asks rows address count reply)
 
-find-first : (rows : List Row) (address : ℕ) → inOrder (boardOf rows) (findNumber (boardOf rows) address) 38 ≡ firstOf (asked (findTable rows address) findOrder)
+find-first : (rows : List Row) (address : ℕ) → ifInOrder (boardOf rows) (findNumber (boardOf rows) address) 38 ≡ firstOf (asked (findTable rows address) findOrder)
 unfolding firstOf
 find-first rows address =
-    first-38 (kept (boardOf rows)) (findNumber (boardOf rows) address) ∙ ap (pick (not (kept (boardOf rows))) 38) (find-asks rows address)
+    first-38 (inAddressOrder (boardOf rows)) (findNumber (boardOf rows) address) ∙ ap (pick (not (inAddressOrder (boardOf rows))) 38) (find-asks rows address)
 
 -- the numbers of what a hearing and a look answer
 heard-number : (t : Bool) (a b : Heard) → pick t a b .number ≡ pick t (a .number) (b .number)
@@ -117,21 +117,21 @@ look-number : (board : List Row) (address : ℕ) → lookedAt board address .num
 unfolding lookedAt
 look-number board address = go (eqb (findNumber board address) 0) refl
   where
-    go : (t : Bool) → eqb (findNumber board address) 0 ≡ t → pick (eqb (findNumber board address) 0) (told (rowOf address board)) (refusedLook (findNumber board address)) .number ≡ findNumber board address
-    go true e = ap (λ (t : Bool). pick t (told (rowOf address board)) (refusedLook (findNumber board address)) .number) e ∙ sym (eqb-true (findNumber board address) 0 e)
-    go false e = ap (λ (t : Bool). pick t (told (rowOf address board)) (refusedLook (findNumber board address)) .number) e
+    go : (t : Bool) → eqb (findNumber board address) 0 ≡ t → pick (eqb (findNumber board address) 0) (rowTold (rowOf address board)) (refusedLook (findNumber board address)) .number ≡ findNumber board address
+    go true e = ap (λ (t : Bool). pick t (rowTold (rowOf address board)) (refusedLook (findNumber board address)) .number) e ∙ sym (eqb-true (findNumber board address) 0 e)
+    go false e = ap (λ (t : Bool). pick t (rowTold (rowOf address board)) (refusedLook (findNumber board address)) .number) e
 
-look-first : (rows : List Row) (address : ℕ) → inOrder (boardOf rows) (lookedAt (boardOf rows) address) (refusedLook 38) .number ≡ firstOf (asked (findTable rows address) findOrder)
+look-first : (rows : List Row) (address : ℕ) → ifInOrder (boardOf rows) (lookedAt (boardOf rows) address) (refusedLook 38) .number ≡ firstOf (asked (findTable rows address) findOrder)
 look-first rows address =
-    looked-number (kept (boardOf rows)) (lookedAt (boardOf rows) address) (refusedLook 38) ∙ ap (λ (n : ℕ). inOrder (boardOf rows) n 38) (look-number (boardOf rows) address)
+    looked-number (inAddressOrder (boardOf rows)) (lookedAt (boardOf rows) address) (refusedLook 38) ∙ ap (λ (n : ℕ). ifInOrder (boardOf rows) n 38) (look-number (boardOf rows) address)
     ∙ find-first rows address
 
 pub board-orders : BoardOrders
 board-orders =
     record {
       enrol = λ rows settings address gauge answer after e. given (enrolTable rows settings address gauge) enrolOrder answer (e .answers ∙ enrol-first rows settings address gauge);
-      hear = λ rows minute address count reply answer after e. given (hearTable rows address count reply) hearOrder (answer .number) (ap (λ (h : Heard). h .number) (e .answers) ∙ heard-number (kept (boardOf rows)) _ _ ∙ hear-first rows address count reply);
+      hear = λ rows minute address count reply answer after e. given (hearTable rows address count reply) hearOrder (answer .number) (ap (λ (h : Heard). h .number) (e .answers) ∙ heard-number (inAddressOrder (boardOf rows)) _ _ ∙ hear-first rows address count reply);
       remove = λ rows address answer after e. given (findTable rows address) findOrder answer (e .answers ∙ find-first rows address);
       look = λ rows address answer e. given (findTable rows address) findOrder (answer .number) (ap (λ (l : Looked). l .number) (e .answers) ∙ look-first rows address);
-      poll = λ rows address raise reset out answer after e. given (pollTable rows address raise reset out) pollOrder answer (e .answers ∙ poll-first rows address raise reset out);
+      poll = λ rows address raise reset out answer after e. given (rowPollTable rows address raise reset out) pollOrder answer (e .answers ∙ poll-first rows address raise reset out);
     }

@@ -31,7 +31,7 @@ use Rattle.promises_order.specs.Places.{rowAt, OnBoard, Empty}
 use Rattle.promises_board.specs.Calls.{IsRowOf, OnlyRow}
 use Rattle.promises_order.specs.Calls.{asItWas, Call, enrol, hear, remove, look-up, poll, Answer, Does}
 use Rattle.promises_board.specs.History.{History, begun, called}
-use Rattle.promises_board.specs.Orders.{pollTable}
+use Rattle.promises_board.specs.Orders.{rowPollTable}
 use Rattle.promises_board.specs.Polls.{gaugeBy, Marked, gaugeGiven, BoardPoll}
 use Rattle.promises_board.proofs.Tests.{differs, and-false, neither-of}
 use Rattle.promises_board.proofs.Places.{place-row, row-is}
@@ -47,8 +47,8 @@ pollIn p (Refused n) = p
 
 -- A poll that was written.
 module _ (rows : List Row) (address raise reset : ℕ) (out after : List ℕ) (e : PollsRow rows address raise reset out 0 after) where
-  clear : AllClear (pollTable rows address raise reset out) pollRest
-  clear = all-clear (pollTable rows address raise reset out) pollRest (omega arith, (omega arith, (omega arith, (omega arith, tt)))) (sym (poll-asks rows address raise reset out) ∙ sym (e .answers))
+  clear : AllClear (rowPollTable rows address raise reset out) pollRest
+  clear = all-clear (rowPollTable rows address raise reset out) pollRest (omega arith, (omega arith, (omega arith, (omega arith, tt)))) (sym (poll-asks rows address raise reset out) ∙ sym (e .answers))
 
   in-range : address ≤ 999
   in-range = ltb-false 999 address (clear .0)

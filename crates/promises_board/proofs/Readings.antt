@@ -18,12 +18,12 @@ use Rattle.board.specs.Gauge.{gaugeTold}
 use Rattle.board.specs.Row.{none, good, isFree, lastOf, never, at, more, heardAt, heardOf, freeRow, newRow, withReading, withFault, placeTold, setsFault}
 use Rattle.board.specs.Rows.{boardOf, placeOf, placeFree}
 use Rattle.frame.specs.Pick.{pick}
-use Rattle.board.specs.Calls.{heardAs, told, refusedLook, lastTold, minuteTold}
+use Rattle.board.specs.Calls.{heardAs, rowTold, refusedLook, lastTold, minuteTold}
 use Rattle.promises_order.specs.OldBoard.{OldHears as Hears, OldLooksUp as LooksUp}
 use Rattle.board.proofs.Faults.{sets-some, not-0}
 use Rattle.board.proofs.Numbers.{find-11, find-17, find-0}
 use Rattle.promises_order.specs.Places.{rowAt, OnBoard}
-use Rattle.promises_board.specs.Calls.{Holds, IsRowOf, Unknown, OnlyRow, Tells}
+use Rattle.promises_board.specs.Calls.{Holds, IsRowOf, Unknown, OnlyRow, TellsRow}
 use Rattle.promises_order.specs.Calls.{asItWas}
 use Rattle.promises_board.specs.Readings.{Reads, BoardReadings}
 use Rattle.promises_board.proofs.Tests.{differs}
@@ -48,8 +48,8 @@ module _ (rows after : List Row) (address i : ℕ) (row : Row) (only : OnlyRow r
 
 -- What a look at the row of an address answers.
 module _ (rows : List Row) (address : ℕ) (answer : Looked) (e : LooksUp rows address answer) where
-  pub looked-row : address ≤ 999 → (i : ℕ) → IsRowOf rows address i → answer ≡ told (rowAt rows i)
-  looked-row a i p = e .answers ∙ look-told (boardOf rows) address (find-0 (boardOf rows) address a (row-on rows address i p)) ∙ ap told (row-is rows address i p)
+  pub looked-row : address ≤ 999 → (i : ℕ) → IsRowOf rows address i → answer ≡ rowTold (rowAt rows i)
+  looked-row a i p = e .answers ∙ look-told (boardOf rows) address (find-0 (boardOf rows) address a (row-on rows address i p)) ∙ ap rowTold (row-is rows address i p)
 
   pub looked-unknown : address ≤ 999 → Unknown rows address → answer ≡ refusedLook 17
   looked-unknown a u = e .answers ∙ look-refused (boardOf rows) address 17 (find-17 (boardOf rows) address a (unknown-off rows address u)) refl
@@ -81,7 +81,7 @@ module _ (rows after : List Row) (address : ℕ) where
       by-lt 999 address (λ a. looked-bad after address answer f a ∙ sym (looked-bad rows address before e a))
       (λ a. by-lt (placeOf address (boardOf rows)) (length (boardOf rows))
       (λ l. let p : IsRowOf rows address (placeOf address (boardOf rows)) = place-row rows address l in
-      looked-row after address answer f a (placeOf address (boardOf rows)) (apart-row s (placeOf address (boardOf rows)) p) ∙ ap told (s .kept (placeOf address (boardOf rows)) (p .here)) ∙ sym (looked-row rows address before e a (placeOf address (boardOf rows)) p))
+      looked-row after address answer f a (placeOf address (boardOf rows)) (apart-row s (placeOf address (boardOf rows)) p) ∙ ap rowTold (s .kept (placeOf address (boardOf rows)) (p .here)) ∙ sym (looked-row rows address before e a (placeOf address (boardOf rows)) p))
       (λ l. let u : Unknown rows address = off-unknown rows address l in
       looked-unknown after address answer f a (apart-unknown s u) ∙ sym (looked-unknown rows address before e a u)))
 
@@ -105,7 +105,7 @@ module _ (rows after : List Row) (address i : ℕ) (row : Row) (answer : Looked)
   told-set : OnlyRow rows i row after → address ≤ 999 → OnBoard rows i → Holds row address → ((j : ℕ) → j < i → Holds (rowAt rows j) address → ⊥) → LooksUp after address answer
       → (answer .number ≡ 0) × (answer .fault ≡ row .fault) × (answer .settings ≡ row .settings) × (lastTold answer ≡ lastOf row) × (answer .place ≡ placeTold row) × (answer .faulty ≡ row .faulty) × (minuteTold answer ≡ heardOf row) × (answer .gauge ≡ gaugeTold (row .gauge))
   told-set only a p h first e =
-      let t : Tells (rowAt after i) answer = tells (rowAt after i) answer (looked-row after address answer e a i (still rows after address i row only p h first)) in
+      let t : TellsRow (rowAt after i) answer = tells (rowAt after i) answer (looked-row after address answer e a i (still rows after address i row only p h first)) in
       (t .number, t .fault ∙ ap (λ (r : Row). r .fault) (only .own), t .settings ∙ ap (λ (r : Row). r .settings) (only .own), t .reading ∙ ap lastOf (only .own), t .place ∙ ap placeTold (only .own), t .faulty ∙ ap (λ (r : Row). r .faulty) (only .own), t .heard ∙ ap heardOf (only .own), t .gauge ∙ ap (λ (r : Row). gaugeTold (r .gauge)) (only .own))
 
 -- A hearing that answered 0.
@@ -172,7 +172,7 @@ module _ (rows after : List Row) (minute address count fault place : ℕ) (reply
       let next : Row = withFault (heardAt (rowAt rows i) minute) fault place in
       let only : OnlyRow rows i next after = set-only rows after i next (p .place) e in
       let t = told-set rows after address i next answer only a (p .place) (record { used = p .here .used; same = p .here .same }) (p .first) looks in
-      let b : Tells (rowAt rows i) before = tells (rowAt rows i) before (looked-row rows address before looked a i p) in
+      let b : TellsRow (rowAt rows i) before = tells (rowAt rows i) before (looked-row rows address before looked a i p) in
       (t .0, t .1, t .4 ∙ told-place (eqb fault 7) refl n, t .5 ∙ ap more (sym (b .faulty)), t .6 ∙ fault-minute (rowAt rows i) minute fault place (sets-some fault set), t .2 ∙ sym (b .settings), t .3 ∙ fault-keeps (heardAt (rowAt rows i) minute) fault place ∙ sym (b .reading))
 
 -- An enrolment that answered 0.

@@ -11,7 +11,7 @@ use Rattle.promises_order.specs.Order.{SameCalls, begin, call, SameInUse}
 use Rattle.promises_order.proofs.Held.{row-of, on-held, first, some}
 use Rattle.promises_order.proofs.Order.{said, left-then, has-then, board-order}
 use Rattle.promises_order.specs.Calls.{today, asItWas, Call, Answer, Does}
-use Rattle.promises_board.specs.History.{History, begun, called, takenBy, givenBy, taken, given}
+use Rattle.promises_board.specs.History.{History, begun, called, takenBy, givenBy, rowsTaken, given}
 use Rattle.promises_board.specs.Since.{sinceBy, latestBy, since, latest}
 use Rattle.promises_board.specs.Polls.{gaugeBy, gaugeGiven}
 
@@ -27,14 +27,14 @@ pub record Beside (start others : List Row) (h : History today start others) : T
   pub rows : List Row
   pub then : History asItWas start rows
   pub calls : SameCalls start rows others
-  pub same-taken : taken then ≡ taken h
+  pub same-taken : rowsTaken then ≡ rowsTaken h
   pub same-given : given then ≡ given h
   pub same-since : (address : ℕ) → since then address ≡ since h address
   pub same-latest : (address : ℕ) → latest then address ≡ latest h address
   pub same-gauge : (address : ℕ) → gaugeGiven then address ≡ gaugeGiven h address
 
 pub beside : (start others : List Row) → Empty start → (h : History today start others) → Beside start others h
-unfolding taken given since latest gaugeGiven
+unfolding rowsTaken given since latest gaugeGiven
 beside start others empty begun =
     record { rows = start; then = begun; calls = begin; same-taken = refl; same-given = refl; same-since = λ a. refl; same-latest = λ a. refl; same-gauge = λ a. refl }
 beside start after empty (called {rows} c answer h e) =

@@ -22,7 +22,7 @@ use Rattle.promises_order.specs.Places.{rowAt, OnBoard, Empty}
 use Rattle.promises_board.specs.Calls.{Holds, IsRowOf, Unknown, OnlyRow}
 use Rattle.promises_order.specs.Calls.{asItWas, Call, enrol, hear, remove, look-up, poll, Answer, Does}
 use Rattle.promises_board.specs.History.{History, begun, called, NoneTwice}
-use Rattle.promises_board.specs.Since.{sinceBy, latestBy, counted, since, latest, BoardSince}
+use Rattle.promises_board.specs.Since.{sinceBy, latestBy, faultsSince, since, latest, BoardSince}
 use Rattle.promises_frame.proofs.Cases.{by-lt}
 use Rattle.promises_board.proofs.Places.{place-row}
 use Rattle.promises_board.proofs.Done.{set-only, off-unknown, Enrolled, not-enrolled, took, enrol-done, Removed, not-removed, gave, remove-done, HearDone, not-heard, faulty, good, hear-done}
@@ -142,10 +142,10 @@ module _ (rows after : List Row) (count : ℕ → ℕ) (minute : ℕ → Minute)
       rw (nonzero (answer .number) (sets-some (answer .number) f), f) (g .3 ∙ ap more (old .0) ∙ one-more (count address), g .4)
 
   hear-so : (m a k : ℕ) (y : List ℕ) (answer : Heard) → Hears rows m a k y answer after
-      → Told after (λ address. pick (eqb a address) (counted (answer .number) (count address)) (count address)) (λ address. pick (eqb a address && (eqb (answer .number) 0 || setsFault (answer .number))) (at m) (minute address))
+      → Told after (λ address. pick (eqb a address) (faultsSince (answer .number) (count address)) (count address)) (λ address. pick (eqb a address && (eqb (answer .number) 0 || setsFault (answer .number))) (at m) (minute address))
   hear-so m a k y answer e address told looks z = go (eqb a address) refl
     where
-      go : (s : Bool) → eqb a address ≡ s → (told .faulty ≡ min 65535 (pick s (counted (answer .number) (count address)) (count address))) × (minuteTold told ≡ pick (s && (eqb (answer .number) 0 || setsFault (answer .number))) (at m) (minute address))
+      go : (s : Bool) → eqb a address ≡ s → (told .faulty ≡ min 65535 (pick s (faultsSince (answer .number) (count address)) (count address))) × (minuteTold told ≡ pick (s && (eqb (answer .number) 0 || setsFault (answer .number))) (at m) (minute address))
       go true s =
           let mine : Hears rows m address k y answer after = subst (λ (x : ℕ). Hears rows m x k y answer after) (eqb-true a address s) e in
           hear-own m address k y answer told mine looks z (hear-done rows m address k y answer after mine)

@@ -15,8 +15,8 @@ use Rattle.frame.proofs.ToldBack.{reading-back}
 use Rattle.board.specs.declared.Looked.{Looked}
 use Rattle.board.specs.declared.Row.{Row}
 use Rattle.board.specs.Row.{Last, none, good, never, at, heardOf, heardAt, heardTold, keptAs, lastBy, lastOf, withReading, withFault}
-use Rattle.board.specs.Calls.{told, lastTold, minuteTold}
-use Rattle.promises_board.specs.Calls.{Tells}
+use Rattle.board.specs.Calls.{rowTold, lastTold, minuteTold}
+use Rattle.promises_board.specs.Calls.{TellsRow}
 
 -- no temperature's kind is 0
 a-kind : (t : Temperature) → eqb (kindOf t) 0 ≡ false
@@ -45,12 +45,12 @@ minute-by : (t : Bool) (heard : ℕ) → pick t never (at (pick t 0 heard)) ≡ 
 minute-by true heard = refl
 minute-by false heard = refl
 
-minute-back : (row : Row) → minuteTold (told row) ≡ heardOf row
+minute-back : (row : Row) → minuteTold (rowTold row) ≡ heardOf row
 minute-back row =
     ap (λ (t : Bool). pick (t && eqb (row .fault) 0) never (at (heardTold row))) (kind-zero row)
     ∙ minute-by (eqb (row .kind) 0 && eqb (row .fault) 0) (row .heard)
 
-pub tells : (row : Row) (answer : Looked) → answer ≡ told row → Tells row answer
+pub tells : (row : Row) (answer : Looked) → answer ≡ rowTold row → TellsRow row answer
 tells row answer e =
     record {
       number = ap (λ (a : Looked). a .number) e;

@@ -14,7 +14,7 @@ use Rattle.board.specs.declared.Looked.{Looked}
 use Rattle.board.specs.declared.Row.{Row}
 use Rattle.board.specs.Row.{isFree, inUse, freeRow}
 use Rattle.board.specs.Rows.{boardOf, beyond, placeOf, rowOf, placeFree, hasFree}
-use Rattle.board.specs.Calls.{told, refusedLook}
+use Rattle.board.specs.Calls.{rowTold, refusedLook}
 use Rattle.board.proofs.Numbers.{find-0}
 use Rattle.promises_order.specs.Places.{rowAt, Empty}
 use Rattle.promises_board.specs.Calls.{Unknown}
@@ -210,7 +210,7 @@ wherever rows others same address =
     by-lt 999 address (both-bad rows others address)
     (λ a. by-lt (placeOf address (boardOf rows)) (length (boardOf rows))
     (λ l. let m = on-used others address (sym (ap inUse (same address a)) ∙ used-on rows address l) in
-    look-told (boardOf rows) address (find-0 (boardOf rows) address a l) ∙ ap told (same address a) ∙ sym (look-told (boardOf others) address (find-0 (boardOf others) address a m)))
+    look-told (boardOf rows) address (find-0 (boardOf rows) address a l) ∙ ap rowTold (same address a) ∙ sym (look-told (boardOf others) address (find-0 (boardOf others) address a m)))
     (λ l. both-unknown rows others address a (off-unknown rows address l)
     (off-unknown others address
     (by-lt (placeOf address (boardOf others)) (length (boardOf others))

@@ -113,7 +113,7 @@ pub record RemovePromise (rows : List Row) (address answer : ℕ) (after : List 
   pub removed : address ≤ 999 → (i : ℕ) → IsRowOf rows address i → (answer ≡ 0) × ((n : ℕ) → Front rows n → Closed rows i n after)
 
 -- What is told of a row.
-pub record Tells (row : Row) (answer : Looked) : Type 0 where
+pub record TellsRow (row : Row) (answer : Looked) : Type 0 where
   pub number : answer .number ≡ 0
   pub address : answer .address ≡ row .address
   pub settings : answer .settings ≡ row .settings
@@ -130,7 +130,7 @@ pub record Tells (row : Row) (answer : Looked) : Type 0 where
 pub record LookPromise (rows : List Row) (address : ℕ) (answer : Looked) : Type 0 where
   pub bad-address : 999 < address → answer ≡ refusedLook 11
   pub unknown : address ≤ 999 → Unknown rows address → answer ≡ refusedLook 17
-  pub found : address ≤ 999 → (i : ℕ) → IsRowOf rows address i → Tells (rowAt rows i) answer
+  pub found : address ≤ 999 → (i : ℕ) → IsRowOf rows address i → TellsRow (rowAt rows i) answer
 
 -- What a row may be asked: neither raise nor reset, or one of them where it is marked.
 pub data MayAsk (row : Row) (raise reset : ℕ) : Type 0 where

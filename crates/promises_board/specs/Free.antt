@@ -13,9 +13,9 @@ abbrev pub cleared : Row → Row
 cleared row = pick (isFree row) freeRow row
 
 -- Two boards alike but for what stands in free rows.
-abbrev pub Alike : List Row → List Row → Type 0
-Alike rows others = map cleared (boardOf rows) ≡ map cleared (boardOf others)
+abbrev pub AlikeButFree : List Row → List Row → Type 0
+AlikeButFree rows others = map cleared (boardOf rows) ≡ map cleared (boardOf others)
 
 pub record BoardFree : Type 0 where
-  pub any-call : (rows others after later : List Row) (c : Call) (a b : Answer c) → Alike rows others → Does today rows c a after
-      → Does today others c b later → (a ≡ b) × Alike after later
+  pub any-call : (rows others after later : List Row) (c : Call) (a b : Answer c) → AlikeButFree rows others → Does today rows c a after
+      → Does today others c b later → (a ≡ b) × AlikeButFree after later

@@ -38,9 +38,9 @@ givenBy (remove a) answer n = pick (eqb answer 0) (suc n) n
 givenBy (look-up a) answer n = n
 givenBy (poll a raise reset out) answer n = n
 
-unfoldable pub taken : {calls : Records} {start rows : List Row} → History calls start rows → ℕ
-taken begun = 0
-taken (called c answer h e) = takenBy c answer (taken h)
+unfoldable pub rowsTaken : {calls : Records} {start rows : List Row} → History calls start rows → ℕ
+rowsTaken begun = 0
+rowsTaken (called c answer h e) = takenBy c answer (rowsTaken h)
 
 unfoldable pub given : {calls : Records} {start rows : List Row} → History calls start rows → ℕ
 given begun = 0
@@ -54,7 +54,7 @@ pub record BoardHistory (calls : Records) : Type 0 where
   -- A new address is enrolled while fewer are on the board than it has rows, 30 at most, and else refused by 19.
   pub room : (start rows after : List Row) (h : History calls start rows) (settings address gauge answer : ℕ) → Empty start → settings ≤ 15 → address ≤ 999
       → profileMisplaced settings gauge ≡ false → Unknown rows address → calls .enrols rows settings address gauge answer after
-      → taken h < given h + min 30 (length start) → answer ≡ 0
+      → rowsTaken h < given h + min 30 (length start) → answer ≡ 0
   pub full : (start rows after : List Row) (h : History calls start rows) (settings address gauge answer : ℕ) → Empty start → settings ≤ 15 → address ≤ 999
       → profileMisplaced settings gauge ≡ false → Unknown rows address → calls .enrols rows settings address gauge answer after
-      → given h + min 30 (length start) ≤ taken h → answer ≡ 19
+      → given h + min 30 (length start) ≤ rowsTaken h → answer ≡ 19

@@ -11,7 +11,7 @@ use Rattle.board.specs.declared.Looked.{Looked}
 use Rattle.board.specs.declared.Row.{Row}
 use Rattle.board.specs.Gauge.{profileMisplaced, unmarked, atOnce}
 use Rattle.board.specs.Rows.{boardOf, onBoard, rowOf, hasFree}
-use Rattle.board.specs.Order.{kept}
+use Rattle.board.specs.Order.{inAddressOrder}
 use Rattle.board.specs.Calls.{outsideAt, Enrols, Hears, Removes, LooksUp, PollsRow}
 use Rattle.promises_frame.specs.FirstFault.{FirstThatApplies, replyTable}
 
@@ -22,7 +22,7 @@ enrolTable rows settings address gauge =
     ∷ onBoard address (boardOf rows) gives 18
     ∷ not (hasFree (boardOf rows)) gives 19
     ∷ profileMisplaced settings gauge gives 27
-    ∷ not (kept (boardOf rows)) gives 38
+    ∷ not (inAddressOrder (boardOf rows)) gives 38
     ∷ []
 
 abbrev pub enrolOrder : List ℕ
@@ -33,7 +33,7 @@ abbrev pub hearTable : List Row → (address count : ℕ) → List ℕ → List 
 hearTable rows address count reply =
     not (onBoard address (boardOf rows)) gives 17
     ∷ outsideAt (rowOf address (boardOf rows)) count reply gives 26
-    ∷ not (kept (boardOf rows)) gives 38
+    ∷ not (inAddressOrder (boardOf rows)) gives 38
     ∷ replyTable (rowOf address (boardOf rows) .settings) address count reply
 
 abbrev pub hearOrder : List ℕ
@@ -42,18 +42,18 @@ hearOrder = 38 ∷ 11 ∷ 14 ∷ 17 ∷ 10 ∷ 1 ∷ 2 ∷ 3 ∷ 4 ∷ 5 ∷ 6 �
 -- A removal, and a look.
 abbrev pub findTable : List Row → ℕ → List Test
 findTable rows address =
-    ltb 999 address gives 11 ∷ not (onBoard address (boardOf rows)) gives 17 ∷ not (kept (boardOf rows)) gives 38 ∷ []
+    ltb 999 address gives 11 ∷ not (onBoard address (boardOf rows)) gives 17 ∷ not (inAddressOrder (boardOf rows)) gives 38 ∷ []
 
 abbrev pub findOrder : List ℕ
 findOrder = 38 ∷ 11 ∷ 17 ∷ []
 
-abbrev pub pollTable : List Row → (address raise reset : ℕ) → List ℕ → List Test
-pollTable rows address raise reset out =
+abbrev pub rowPollTable : List Row → (address raise reset : ℕ) → List ℕ → List Test
+rowPollTable rows address raise reset out =
     ltb 999 address gives 11
     ∷ ltb (length out) 2 gives 15
     ∷ not (onBoard address (boardOf rows)) gives 17
     ∷ (unmarked (rowOf address (boardOf rows) .gauge) raise reset || atOnce raise reset) gives 28
-    ∷ not (kept (boardOf rows)) gives 38
+    ∷ not (inAddressOrder (boardOf rows)) gives 38
     ∷ []
 
 abbrev pub pollOrder : List ℕ
@@ -67,4 +67,4 @@ pub record BoardOrders : Type 0 where
   pub remove : (rows : List Row) (address answer : ℕ) (after : List Row) → Removes rows address answer after → FirstThatApplies (findTable rows address) findOrder answer
   pub look : (rows : List Row) (address : ℕ) (answer : Looked) → LooksUp rows address answer → FirstThatApplies (findTable rows address) findOrder (answer .number)
   pub poll : (rows : List Row) (address raise reset : ℕ) (out : List ℕ) (answer : ℕ) (after : List ℕ) → PollsRow rows address raise reset out answer after
-      → FirstThatApplies (pollTable rows address raise reset out) pollOrder answer
+      → FirstThatApplies (rowPollTable rows address raise reset out) pollOrder answer

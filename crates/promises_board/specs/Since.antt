@@ -17,12 +17,12 @@ use Rattle.promises_board.specs.History.{History, begun, called}
 
 -- The hearings of an address in a history that answered a fault of the row, since the last one that answered 0 or since its enrolment. A hearing
 -- that did not reach the row is not counted.
-abbrev pub counted : ℕ → ℕ → ℕ
-counted number n = pick (eqb number 0) 0 (pick (setsFault number) (suc n) n)
+abbrev pub faultsSince : ℕ → ℕ → ℕ
+faultsSince number n = pick (eqb number 0) 0 (pick (setsFault number) (suc n) n)
 
 abbrev pub sinceBy : (c : Call) → Answer c → (address n : ℕ) → ℕ
 sinceBy (enrol settings a gauge) answer address n = pick (eqb a address && eqb answer 0) 0 n
-sinceBy (hear minute a count reply) answer address n = pick (eqb a address) (counted (answer .number) n) n
+sinceBy (hear minute a count reply) answer address n = pick (eqb a address) (faultsSince (answer .number) n) n
 sinceBy (remove a) answer address n = n
 sinceBy (look-up a) answer address n = n
 sinceBy (poll a raise reset out) answer address n = n

@@ -12,7 +12,7 @@ use Rattle.frame.specs.Pick.{pick}
 use Rattle.frame.specs.Reply.{is1800, modeIn, replyFault, readingAt}
 use Rattle.board.specs.declared.Heard.{Heard}
 use Rattle.board.specs.declared.Row.{Row}
-use Rattle.board.specs.Row.{rowBy, ownerOf, keptOf, heardAt, withReading, withFault}
+use Rattle.board.specs.Row.{rowBy, ownerOf, readingKept, heardAt, withReading, withFault}
 use Rattle.board.specs.Rows.{boardOf, beyond, placeOf, onBoard, rowOf}
 use Rattle.board.specs.Calls.{Hears, heardAs}
 use Rattle.promises_order.specs.Places.{rowAt}
@@ -52,7 +52,7 @@ pub data Unchecked (row : Row) (count : ℕ) : Type 0 where
 -- A row with another number for its fault, and nothing else changed.
 abbrev pub withNumber : ℕ → Row → Row
 withNumber number row =
-    rowBy (ownerOf row) (keptOf row) (record { fault = number; place = row .place; faulty = row .faulty; heard = row .heard })
+    rowBy (ownerOf row) (readingKept row) (record { fault = number; place = row .place; faulty = row .faulty; heard = row .heard })
 
 pub record BoardProfiles : Type 0 where
   -- Of rows so kept a hearing of a row that is not checked answers and leaves what it did before the request; so does every hearing on a board whose rows name

@@ -11,7 +11,7 @@ use Rattle.board.specs.declared.Looked.{Looked}
 use Rattle.board.specs.declared.Row.{Row}
 use Rattle.board.specs.Row.{isFree}
 use Rattle.board.specs.Rows.{boardOf, rowOf, hasFree}
-use Rattle.board.specs.Order.{inOrder}
+use Rattle.board.specs.Order.{ifInOrder}
 use Rattle.board.specs.Calls.{LooksUp, lookedAt, refusedLook}
 use Rattle.promises_order.specs.Places.{Empty}
 use Rattle.promises_order.specs.Order.{SoKept}
@@ -19,7 +19,7 @@ use Rattle.promises_order.specs.Calls.{today, Call, enrol, hear, remove, look-u
 
 -- What a look tells of an address, and two boards of which every look tells the same.
 abbrev pub view : List Row → ℕ → Looked
-view rows address = inOrder (boardOf rows) (lookedAt (boardOf rows) address) (refusedLook 38)
+view rows address = ifInOrder (boardOf rows) (lookedAt (boardOf rows) address) (refusedLook 38)
 
 abbrev pub SameView : List Row → List Row → Type 0
 SameView rows others = (address : ℕ) → view rows address ≡ view others address

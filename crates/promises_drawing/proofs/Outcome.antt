@@ -9,11 +9,11 @@ use borrow.Author.Tests.{leb-true, leb-false, le-ltb, lt-ltb}
 use lib.Dec.{leb, ltb}
 use lib.ListN.{length, getD, take, drop, length-append, length-take, length-drop}
 use lib.Seq.{getD-append-add, getD-drop}
-use Rattle.frame.specs.Pick.{pick}
+use Rattle.frame.specs.Pick.{pick, within}
 use Rattle.frame.specs.Line.{formed}
 use Rattle.frame.specs.Faults.{firstOf}
 use Rattle.drawing.specs.declared.Done.{Done}
-use Rattle.drawing.specs.Pulses.{within, badPulse, drawing}
+use Rattle.drawing.specs.Pulses.{badPulse, drawing}
 use Rattle.drawing.specs.Calls.{drawFault, portion}
 use Rattle.promises_frame.proofs.FirstFault.{asked, given}
 use Rattle.promises_drawing.specs.Outcome.{DrawOutcome, drawTable, drawOrder, DrawFirstFault, DrawOnlyItsBytes}

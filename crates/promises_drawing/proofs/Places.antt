@@ -6,7 +6,7 @@ use native.Mathlib.Omega.{arith}
 use native.Mathlib.Nat.{add-zero, zero-add, mul-zero, mod-lt, div-lt-iff-lt-mul}
 use lib.ListN.{length, getD, drop, replicate, length-replicate, length-drop, getD-replicate, List·getD-append}
 use lib.Seq.{ext-getD, getD-drop, getD-append-add}
-use Rattle.drawing.specs.Pulses.{lineOf, bitAfter, bitsAfter, drawing}
+use Rattle.drawing.specs.Pulses.{lowSample, bitAfter, bitsAfter, drawing}
 use Rattle.drawing.proofs.Rest.{one, one-long, bits-after-long, restOf, from-sample, next-bit}
 pub use Rattle.drawing.proofs.Rest.{drawing-long}
 use Rattle.promises_frame.specs.Bits.{bitAt}
@@ -37,16 +37,16 @@ bits-are count m =
     bit-after-in 0 count m i less ∙ ap (bitAfter m) (zero-add i) ∙ bit-at m i ∙ ap (bitAt m) next ∙ sym (bit-in count m i less))
 
 -- Within a bit.
-pub in-pulse : (low still bit p d : ℕ) → p < low → getD (one low still bit) p d ≡ lineOf bit
+pub in-pulse : (low still bit p d : ℕ) → p < low → getD (one low still bit) p d ≡ lowSample bit
 in-pulse low still bit p d h =
-    List·getD-append (replicate low (lineOf bit)) (replicate still 0) d p (omega (arith, length-replicate low (lineOf bit)))
-    ∙ getD-replicate low p (lineOf bit) d h
+    List·getD-append (replicate low (lowSample bit)) (replicate still 0) d p (omega (arith, length-replicate low (lowSample bit)))
+    ∙ getD-replicate low p (lowSample bit) d h
 
 pub in-idle : (low still bit p d : ℕ) → low ≤ p → p < low + still → getD (one low still bit) p d ≡ 0
 in-idle low still bit p d a b =
-    let place : p ≡ length (replicate low (lineOf bit)) + (p - low) = omega (arith, length-replicate low (lineOf bit)) in
+    let place : p ≡ length (replicate low (lowSample bit)) + (p - low) = omega (arith, length-replicate low (lowSample bit)) in
     ap (λ (k : ℕ). getD (one low still bit) k d) place
-    ∙ getD-append-add (replicate low (lineOf bit)) (replicate still 0) (p - low) d
+    ∙ getD-append-add (replicate low (lowSample bit)) (replicate still 0) (p - low) d
     ∙ getD-replicate still (p - low) 0 d (omega arith)
 
 -- Where there is a sample, a bit has one.

@@ -15,7 +15,7 @@ use Rattle.lines.specs.declared.LinesTold.{LinesTold}
 use Rattle.lines.specs.Timing.{Timing, badTiming}
 use Rattle.lines.specs.SoFar.{atRest}
 use Rattle.lines.specs.Calls.{HearsLines}
-use Rattle.drawing.specs.Pulses.{lineOf, bitsAfter, drawn}
+use Rattle.drawing.specs.Pulses.{lowSample, bitsAfter, drawn}
 use Rattle.promises_lines.specs.History.{Said, said, tellings, History, begun, called}
 use Rattle.promises_lines.specs.Drawn as lines
 use Rattle.promises_lines.proofs.Drawn.{drawn-then-heard}
@@ -59,12 +59,12 @@ module _ (low still gap : ℕ) where
   same-samples : (b : ℕ) (bits : List ℕ) → lines.drawn (first b bits ∷ others bits) ++ replicate still 0 ≡ drawn low still (b ∷ bits) ++ replicate gap 0
   unfolding lines.drawn drawn
   same-samples b [] =
-      let l : List ℕ = replicate low (lineOf b) in
+      let l : List ℕ = replicate low (lowSample b) in
       ap (λ (x : List ℕ). x ++ replicate still 0) (append-nil (l ++ replicate gap 0)) ∙ append-assoc l (replicate gap 0) (replicate still 0)
       ∙ ap (λ (x : List ℕ). l ++ x) (runs gap still)
       ∙ sym (append-assoc l (replicate still 0) (replicate gap 0)) ∙ ap (λ (x : List ℕ). x ++ replicate gap 0) (sym (append-nil (l ++ replicate still 0)))
   same-samples b (c ∷ bits) =
-      let l : List ℕ = replicate low (lineOf b) ++ replicate still 0 in
+      let l : List ℕ = replicate low (lowSample b) ++ replicate still 0 in
       append-assoc l (lines.drawn (first c bits ∷ others bits)) (replicate still 0) ∙ ap (λ (x : List ℕ). l ++ x) (same-samples c bits)
       ∙ sym (append-assoc l (drawn low still (c ∷ bits)) (replicate gap 0))
 

@@ -7,7 +7,7 @@ use native.Mathlib.Nat.{mod-lt}
 use lib.ListN.{length, getD, take, drop, length-append, length-take, length-drop, List·getD-append}
 use lib.Seq.{getD-take, getD-drop}
 use Rattle.drawing.specs.declared.Done.{Done}
-use Rattle.drawing.specs.Pulses.{lineOf, bitAfter, drawing}
+use Rattle.drawing.specs.Pulses.{lowSample, bitAfter, drawing}
 use Rattle.drawing.specs.Calls.{portion, Draws}
 use Rattle.drawing.proofs.Rest.{drawing-long}
 use Rattle.promises_drawing.specs.Samples.{IsSample, EachSample}
@@ -25,7 +25,7 @@ sample-is low still count m k d h =
     let b = bitAfter m (k / size) in
     record {
       idle = λ l. at ∙ in-idle low still b (k % size) d l part;
-      line = λ l. at ∙ in-pulse low still b (k % size) d l ∙ ap lineOf (bit-at m (k / size));
+      line = λ l. at ∙ in-pulse low still b (k % size) d l ∙ ap lowSample (bit-at m (k / size));
     }
 
 module _ (low still count : ℕ) (message : List ℕ) (from : ℕ) (out after : List ℕ) (answer : Done) (d : Draws low still count message from out answer after) where

@@ -21,7 +21,7 @@ use Rattle.frame.specs.Poll.{ReadsPoll, WritesPoll, writePollFault, pollLine}
 use Rattle.board.specs.declared.Row.{Row}
 use Rattle.board.specs.Gauge.{unmarked, atOnce}
 use Rattle.board.specs.Rows.{boardOf, onBoard, rowOf}
-use Rattle.board.specs.Order.{kept}
+use Rattle.board.specs.Order.{inAddressOrder}
 use Rattle.board.specs.Calls.{rowPollNumber, rowPollBytes, PollsRow}
 use Rattle.promises_frame.specs.Calls.{PollLeft}
 use Rattle.promises_frame.proofs.Polls.{poll-then-read}
@@ -44,10 +44,10 @@ module _ (rows : List Row) (address raise reset : ℕ) (out after : List ℕ) (c
   abbrev board : List Row
   board = boardOf rows
 
-  tests : (kept board ≡ true) × (ltb 999 address ≡ false) × (ltb (length out) 2 ≡ false) × (rowPollNumber board address raise reset out ≡ 0)
+  tests : (inAddressOrder board ≡ true) × (ltb 999 address ≡ false) × (ltb (length out) 2 ≡ false) × (rowPollNumber board address raise reset out ≡ 0)
   unfolding rowPollNumber
   tests =
-      clear (kept board) (ltb 999 address) (not (onBoard address board)) (unmarked (rowOf address board .gauge) raise reset) (atOnce raise reset)
+      clear (inAddressOrder board) (ltb 999 address) (not (onBoard address board)) (unmarked (rowOf address board .gauge) raise reset) (atOnce raise reset)
       (ltb (length out) 2) (c .answers)
 
   left : after ≡ firstBytes 2 (pollLine address (isSet raise) (isSet reset)) ++ drop 2 out

@@ -7,7 +7,7 @@ use lib.Bits.{bitXor, xor-zero-r}
 use lib.ListN.{length, getD, set, drop}
 use lib.Pow.{pow-pos}
 use Rattle.enraf.specs.Check.{sumAfter}
-use Rattle.enraf.specs.Record.{STX, checkedOf, recordOf}
+use Rattle.enraf.specs.Record.{STX, checkedOf, itemRecord}
 use Rattle.enraf.specs.Reading.{itemIn, readFault}
 use Rattle.enraf.proofs.ByTests.{accepted, frame-signs}
 use Rattle.promises_enraf.specs.OneChange.{ItemOneChange}
@@ -17,7 +17,7 @@ use Rattle.promises_enraf.proofs.Sums.{xor-once, sum-tells, nothing-lef
 
 -- behind the STX nothing is left of the sum
 nothing : (s : List ℕ) → readFault s ≡ 0 → sumAfter 0 (drop 1 s) ≡ 0
-unfolding recordOf
+unfolding itemRecord
 nothing s ok =
     let i = itemIn s in
     sym (ap (λ (l : List ℕ). sumAfter 0 (drop 1 l)) (again s ok)) ∙ nothing-left (checkedOf i) (seven-item i (small s ok .0) (small s ok .1) (fitting s ok))

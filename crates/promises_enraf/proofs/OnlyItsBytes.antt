@@ -11,7 +11,7 @@ use borrow.Author.Tests.{eqb-true}
 use Rattle.frame.specs.Pick.{pick}
 use Rattle.enraf.specs.declared.Done.{Done}
 use Rattle.enraf.specs.Item.{Item}
-use Rattle.enraf.specs.Record.{recordOf}
+use Rattle.enraf.specs.Record.{itemRecord}
 use Rattle.enraf.specs.Writing.{writeFault, done, WritesItem}
 use Rattle.promises_enraf.specs.OnlyItsBytes.{ItemOnlyItsBytes}
 use Rattle.promises_enraf.proofs.Outcomes.{Accepted, write-made, write-number, room}
@@ -20,7 +20,7 @@ use Rattle.promises_enraf.proofs.Outcomes.{Accepted, write-made, write-
 module _ (i : Item) (out after : List ℕ) (said : Done) (w : WritesItem i out said after) where
   unmade : eqb (writeFault i out) 0 ≡ false → (after ≡ out) × (said .count ≡ 0)
   unmade e =
-      let r = recordOf i in (
+      let r = itemRecord i in (
         w .leaves ∙ ap (λ (b : Bool). pick b (r ++ drop (length r) out) out) e,
         ap (λ (d : Done). d .count) (w .answers ∙ ap (λ (b : Bool). pick b (done (length r) 0) (done 0 (writeFault i out))) e),
       )
@@ -46,9 +46,9 @@ item-only-its-bytes =
     record {
       refused = λ i out after said w no. cases i out after said w (λ a. absurd (no (write-number i out after said w ∙ a .fault))) (λ u. u);
       same-length = λ i out after said w.
-          cases i out after said w (λ a. ap length (a .left) ∙ whole (recordOf i) out (room i out (a .fault))) (λ u. ap length (u .0));
+          cases i out after said w (λ a. ap length (a .left) ∙ whole (itemRecord i) out (room i out (a .fault))) (λ u. ap length (u .0));
       others = λ i out after said w k h.
           cases i out after said w
-          (λ a. ap (λ (x : List ℕ). getD x k 0) (a .left) ∙ behind (recordOf i) out k (rw (← a .count) h))
+          (λ a. ap (λ (x : List ℕ). getD x k 0) (a .left) ∙ behind (itemRecord i) out k (rw (← a .count) h))
           (λ u. ap (λ (x : List ℕ). getD x k 0) (u .0));
     }

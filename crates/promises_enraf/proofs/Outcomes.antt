@@ -12,36 +12,36 @@ use Rattle.frame.specs.Faults.{firstOf}
 use Rattle.enraf.specs.declared.Done.{Done}
 use Rattle.enraf.specs.declared.ItemTold.{ItemTold}
 use Rattle.enraf.specs.Item.{Item, textFits}
-use Rattle.enraf.specs.Record.{recordOf}
-use Rattle.enraf.specs.Reading.{readFault, itemIn, told, refused, ReadsItem}
+use Rattle.enraf.specs.Record.{itemRecord}
+use Rattle.enraf.specs.Reading.{readFault, itemIn, toldInIntegers, refused, ReadsItem}
 use Rattle.enraf.specs.Writing.{writeFault, done, WritesItem}
 
 -- The number that is answered is the fault.
 pub read-number : (s : List ℕ) (got : ItemTold) → ReadsItem s got → got .number ≡ readFault s
 read-number s got r = ap (λ (t : ItemTold). t .number) (r .answers) ∙ go (eqb (readFault s) 0) refl
   where
-    go : (b : Bool) → eqb (readFault s) 0 ≡ b → pick b (told (itemIn s)) (refused (readFault s)) .number ≡ readFault s
+    go : (b : Bool) → eqb (readFault s) 0 ≡ b → pick b (toldInIntegers (itemIn s)) (refused (readFault s)) .number ≡ readFault s
     go true e = sym (eqb-true (readFault s) 0 e)
     go false e = refl
 
 pub write-number : (i : Item) (out after : List ℕ) (said : Done) → WritesItem i out said after → said .number ≡ writeFault i out
 write-number i out after said w = ap (λ (d : Done). d .number) (w .answers) ∙ go (eqb (writeFault i out) 0) refl
   where
-    go : (b : Bool) → eqb (writeFault i out) 0 ≡ b → pick b (done (length (recordOf i)) 0) (done 0 (writeFault i out)) .number ≡ writeFault i out
+    go : (b : Bool) → eqb (writeFault i out) 0 ≡ b → pick b (done (length (itemRecord i)) 0) (done 0 (writeFault i out)) .number ≡ writeFault i out
     go true e = sym (eqb-true (writeFault i out) 0 e)
     go false e = refl
 
-pub read-accepted : (s : List ℕ) (got : ItemTold) → ReadsItem s got → readFault s ≡ 0 → got ≡ told (itemIn s)
-read-accepted s got r e = r .answers ∙ ap (λ (n : ℕ). pick (eqb n 0) (told (itemIn s)) (refused n)) e
+pub read-accepted : (s : List ℕ) (got : ItemTold) → ReadsItem s got → readFault s ≡ 0 → got ≡ toldInIntegers (itemIn s)
+read-accepted s got r e = r .answers ∙ ap (λ (n : ℕ). pick (eqb n 0) (toldInIntegers (itemIn s)) (refused n)) e
 
 pub record Accepted (i : Item) (out after : List ℕ) (said : Done) : Type 0 where
   pub fault : writeFault i out ≡ 0
-  pub count : said .count ≡ length (recordOf i)
-  pub left : after ≡ recordOf i ++ drop (length (recordOf i)) out
+  pub count : said .count ≡ length (itemRecord i)
+  pub left : after ≡ itemRecord i ++ drop (length (itemRecord i)) out
 
 pub write-made : (i : Item) (out after : List ℕ) (said : Done) → WritesItem i out said after → writeFault i out ≡ 0 → Accepted i out after said
 write-made i out after said w e =
-    let r = recordOf i in
+    let r = itemRecord i in
     record {
       fault = e;
       count = ap (λ (d : Done). d .count) (w .answers ∙ ap (λ (n : ℕ). pick (eqb n 0) (done (length r) 0) (done 0 n)) e);
@@ -60,14 +60,14 @@ none false true z w e = absurd (omega arith)
 none true y z w e = absurd (omega arith)
 
 pub tests : (i : Item) (out : List ℕ) → writeFault i out ≡ 0
-    → (ltb 9 (i .ciu) ≡ false) × (ltb 99 (i .gauge) ≡ false) × (textFits i ≡ true) × (ltb (length out) (length (recordOf i)) ≡ false)
+    → (ltb 9 (i .ciu) ≡ false) × (ltb 99 (i .gauge) ≡ false) × (textFits i ≡ true) × (ltb (length out) (length (itemRecord i)) ≡ false)
 unfolding writeFault firstOf
-tests i out e = none (ltb 9 (i .ciu)) (ltb 99 (i .gauge)) (textFits i) (ltb (length out) (length (recordOf i))) e
+tests i out e = none (ltb 9 (i .ciu)) (ltb 99 (i .gauge)) (textFits i) (ltb (length out) (length (itemRecord i))) e
 
 pub fitting-write : (i : Item) (out : List ℕ) → writeFault i out ≡ 0 → (i .ciu ≤ 9) × (i .gauge ≤ 99) × (textFits i ≡ true)
 fitting-write i out e =
     let t = tests i out e in
     (ltb-false 9 (i .ciu) (t .0), ltb-false 99 (i .gauge) (t .1), t .2)
 
-pub room : (i : Item) (out : List ℕ) → writeFault i out ≡ 0 → length (recordOf i) ≤ length out
-room i out e = ltb-false (length out) (length (recordOf i)) (tests i out e .3)
+pub room : (i : Item) (out : List ℕ) → writeFault i out ≡ 0 → length (itemRecord i) ≤ length out
+room i out e = ltb-false (length out) (length (itemRecord i)) (tests i out e .3)

@@ -7,7 +7,7 @@ use lib.ListN.{length, drop}
 use borrow.Author.Tests.{le-ltb}
 use Rattle.enraf.specs.declared.Done.{Done}
 use Rattle.enraf.specs.Item.{Item, textFits}
-use Rattle.enraf.specs.Record.{recordOf}
+use Rattle.enraf.specs.Record.{itemRecord}
 use Rattle.enraf.specs.Reading.{readFault, itemIn, itemTold}
 use Rattle.enraf.specs.Writing.{writeFault, WritesItem}
 use Rattle.enraf.proofs.ByTests.{write-fault-by}
@@ -17,11 +17,11 @@ use Rattle.promises_enraf.proofs.Records.{small, fitting, again}
 use Rattle.promises_enraf.proofs.WrittenThenRead.{data-kept}
 
 -- Of an item whose record is these bytes.
-same : (s : List ℕ) (i : Item) → i .ciu ≤ 9 → i .gauge ≤ 99 → textFits i ≡ true → recordOf i ≡ s
+same : (s : List ℕ) (i : Item) → i .ciu ≤ 9 → i .gauge ≤ 99 → textFits i ≡ true → itemRecord i ≡ s
     → (out : List ℕ) → length s ≤ length out → (said : Done) (after : List ℕ) → WritesItem i out said after → SameBytes s out said after
 same s i low few fits is out room said after w =
-    let space : length (recordOf i) ≤ length out = rw is room in
-    let f : writeFault i out ≡ 0 = write-fault-by i out false false true false (le-ltb 9 (i .ciu) low) (le-ltb 99 (i .gauge) few) fits (le-ltb (length out) (length (recordOf i)) space) in
+    let space : length (itemRecord i) ≤ length out = rw is room in
+    let f : writeFault i out ≡ 0 = write-fault-by i out false false true false (le-ltb 9 (i .ciu) low) (le-ltb 99 (i .gauge) few) fits (le-ltb (length out) (length (itemRecord i)) space) in
     let made = write-made i out after said w f in
     record {
       taken = write-number i out after said w ∙ f;

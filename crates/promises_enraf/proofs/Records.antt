@@ -11,7 +11,7 @@ use lib.Seq.{drop-cons, drop-drop, take-at, getD-at}
 use borrow.Author.Tests.{eq-eqb, le-leb, eqb-true}
 use Rattle.enraf.specs.Check.{blockCheck}
 use Rattle.enraf.specs.Item.{Item, digit, isDigit, digitAt, textFits, tailOf, kindIn, errorIn, charactersIn}
-use Rattle.enraf.specs.Record.{STX, ETX, B, Z, checkedOf, recordOf}
+use Rattle.enraf.specs.Record.{STX, ETX, B, Z, checkedOf, itemRecord}
 use Rattle.enraf.specs.Reading.{framed, checkRight, addressed, tailIn, itemIn, readFault}
 use Rattle.enraf.proofs.ByTests.{read-fault-by, framed-by, addressed-by, accepted, frame-long, frame-signs, address-digits}
 use Rattle.enraf.proofs.SixKinds.{fits-kind}
@@ -30,35 +30,35 @@ module _ (i : Item) (low : i .ciu ≤ 9) (few : i .gauge ≤ 99) (fits : textFit
   check = blockCheck (checkedOf i)
 
   -- its last two bytes behind all others
-  ends-so : recordOf i ≡ front ++ ETX ∷ check ∷ []
-  unfolding recordOf checkedOf
+  ends-so : itemRecord i ≡ front ++ ETX ∷ check ∷ []
+  unfolding itemRecord checkedOf
   ends-so = ap (λ (l : List ℕ). STX ∷ digit (i .ciu) ∷ digit (i .gauge / 10) ∷ digit (i .gauge % 10) ∷ B ∷ Z ∷ i .first ∷ i .second ∷ l)
       (append-assoc tail (ETX ∷ []) (check ∷ []))
 
-  tail-is : tailIn (recordOf i) ≡ tail
+  tail-is : tailIn (itemRecord i) ≡ tail
   tail-is =
       let long = record-long i in
-      let n : length tail ≡ length (recordOf i) - 10 = omega arith in
-      ap (λ (s : List ℕ). take (length (recordOf i) - 10) (drop 8 s)) ends-so ∙ take-at tail (ETX ∷ check ∷ []) (length (recordOf i) - 10) n
+      let n : length tail ≡ length (itemRecord i) - 10 = omega arith in
+      ap (λ (s : List ℕ). take (length (itemRecord i) - 10) (drop 8 s)) ends-so ∙ take-at tail (ETX ∷ check ∷ []) (length (itemRecord i) - 10) n
 
-  etx-is : getD (recordOf i) (length (recordOf i) - 2) 0 ≡ ETX
+  etx-is : getD (itemRecord i) (length (itemRecord i) - 2) 0 ≡ ETX
   etx-is =
       let long = record-long i in
-      let n : length front ≡ length (recordOf i) - 2 = omega arith in
-      ap (λ (s : List ℕ). getD s (length (recordOf i) - 2) 0) ends-so ∙ getD-at front ETX (check ∷ []) 0 (length (recordOf i) - 2) n
+      let n : length front ≡ length (itemRecord i) - 2 = omega arith in
+      ap (λ (s : List ℕ). getD s (length (itemRecord i) - 2) 0) ends-so ∙ getD-at front ETX (check ∷ []) 0 (length (itemRecord i) - 2) n
 
-  as-checked : recordOf i ≡ STX ∷ checkedOf i ++ check ∷ []
-  unfolding recordOf
+  as-checked : itemRecord i ≡ STX ∷ checkedOf i ++ check ∷ []
+  unfolding itemRecord
   as-checked = refl
 
-  own-length : length (recordOf i) ≡ suc (length (checkedOf i) + 1)
+  own-length : length (itemRecord i) ≡ suc (length (checkedOf i) + 1)
   own-length = ap length as-checked ∙ ap suc (length-append (checkedOf i) (check ∷ []))
 
-  check-is : checkRight (recordOf i) ≡ true
+  check-is : checkRight (itemRecord i) ≡ true
   unfolding checkRight
   check-is =
       let long = record-long i in
-      let s = recordOf i in
+      let s = itemRecord i in
       let c = checkedOf i in
       let whole = own-length in
       let n : length (STX ∷ c) ≡ length s - 1 = omega arith in
@@ -73,8 +73,8 @@ module _ (i : Item) (low : i .ciu ≤ 9) (few : i .gauge ≤ 99) (fits : textFit
       let b : leb (digit n) 0x39 ≡ true = le-leb (digit n) 0x39 (omega arith) in
       λ k. (a k && b k)
 
-  pub says : itemIn (recordOf i) ≡ i
-  unfolding itemIn recordOf checkedOf
+  pub says : itemIn (itemRecord i) ≡ i
+  unfolding itemIn itemRecord checkedOf
   says =
       let back = read-back (i .kind) (i .error) (i .characters) (fits-kind i fits) in
       let one : 0x30 + i .ciu - 0x30 ≡ i .ciu = omega arith in
@@ -89,20 +89,20 @@ module _ (i : Item) (low : i .ciu ≤ 9) (few : i .gauge ≤ 99) (fits : textFit
         characters = (ap charactersIn tail-is ∙ back .data-back) k;
       }
 
-  in-frame : framed (recordOf i) ≡ true
-  unfolding recordOf checkedOf
+  in-frame : framed (itemRecord i) ≡ true
+  unfolding itemRecord checkedOf
   in-frame =
       let long = record-long i in
-      framed-by (recordOf i) true true true true true (le-leb 10 (length (recordOf i)) (omega arith)) refl refl refl
-      (eq-eqb (getD (recordOf i) (length (recordOf i) - 2) 0) ETX etx-is)
+      framed-by (itemRecord i) true true true true true (le-leb 10 (length (itemRecord i)) (omega arith)) refl refl refl
+      (eq-eqb (getD (itemRecord i) (length (itemRecord i) - 2) 0) ETX etx-is)
 
-  has-digits : addressed (recordOf i) ≡ true
-  unfolding recordOf checkedOf
+  has-digits : addressed (itemRecord i) ≡ true
+  unfolding itemRecord checkedOf
   has-digits =
-      addressed-by (recordOf i) true true true (digit-ok (i .ciu) low) (digit-ok (i .gauge / 10) (omega arith)) (digit-ok (i .gauge % 10) (omega arith))
+      addressed-by (itemRecord i) true true true (digit-ok (i .ciu) low) (digit-ok (i .gauge / 10) (omega arith)) (digit-ok (i .gauge % 10) (omega arith))
 
-  pub readable : readFault (recordOf i) ≡ 0
-  readable = read-fault-by (recordOf i) true true true true in-frame check-is has-digits (ap textFits says ∙ fits)
+  pub readable : readFault (itemRecord i) ≡ 0
+  readable = read-fault-by (itemRecord i) true true true true in-frame check-is has-digits (ap textFits says ∙ fits)
 
 -- Bytes of ten or more, taken apart.
 module _ (s : List ℕ) (h : 10 ≤ length s) where
@@ -187,8 +187,8 @@ module _ (s : List ℕ) (ok : readFault s ≡ 0) where
   unfolding checkRight
   right = ap blockCheck (checked-again ∙ sym (inner-is s long)) ∙ sym (eqb-true (last s long) (blockCheck (take (length s - 2) (drop 1 s))) (accepted s ok .1))
 
-  pub again : recordOf (itemIn s) ≡ s
-  unfolding recordOf
+  pub again : itemRecord (itemIn s) ≡ s
+  unfolding itemRecord
   again =
       let signs = frame-signs s (accepted s ok .0) in
       (λ k. sym (signs .0) k ∷ checked-again k ++ right k ∷ []) ∙ sym (apart s long)

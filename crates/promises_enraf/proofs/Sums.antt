@@ -13,7 +13,7 @@ use lib.ListN.{length, getD, set}
 use borrow.Author.Tests.{leb-true}
 use Rattle.frame.proofs.Both.{both}
 use Rattle.enraf.specs.Check.{sumAfter, blockCheck}
-use Rattle.enraf.specs.Item.{Item, ampersand, exclamation, digit, threeDigits, isLetter, isCharacter, allCharacters, kindFits, textFits, tailOf}
+use Rattle.enraf.specs.Item.{Item, ampersand, exclamation, digit, digitCharacters, isLetter, isCharacter, allCharacters, kindFits, textFits, tailOf}
 use Rattle.enraf.specs.Record.{ETX, checkedOf}
 use Rattle.enraf.proofs.SixKinds.{data-fits, error-few, one-of-six, fits-kind}
 use Rattle.enraf.proofs.Tails.{tail-alone, tail-setting, tail-taken, tail-setting-taken, tail-value, tail-error}
@@ -115,7 +115,7 @@ seven-tail kind error d h =
     (λ f. rw (tail-error 6 error d refl) (three error (error-few 6 error d f)))
     kind (one-of-six kind error d h .0) (one-of-six kind error d h .1) h
   where
-    three : (e : ℕ) → e ≤ 999 → Seven (exclamation ∷ threeDigits e)
+    three : (e : ℕ) → e ≤ 999 → Seven (exclamation ∷ digitCharacters e)
     three e few = (omega arith, (omega arith, (omega arith, (omega arith, tt))))
 
 letter-small : (b : ℕ) → isLetter b ≡ true → b < 2 ^ 7

@@ -10,7 +10,7 @@ use lib.ListN.{length, getD, take, drop, length-append, take-append-drop, drop-o
 use lib.Seq.{drop-cons, drop-drop, take-at, getD-at}
 use borrow.Author.Tests.{ne-eqb, le-leb, eqb-true, leb-true, not-true}
 use Rattle.frame.proofs.Both.{both}
-use Rattle.enraf.specs.Item.{equals, ampersand, exclamation, digit, isDigit, digitAt, threeDigits, isCharacter, allCharacters, isData, setting, settingTaken, value, failed, kindFits, tailOf, begins, ends, isTaken, isError, kindIn, charactersIn, errorIn}
+use Rattle.enraf.specs.Item.{equals, ampersand, exclamation, digit, isDigit, digitAt, digitCharacters, isCharacter, allCharacters, isData, setting, settingTaken, value, failed, kindFits, tailOf, begins, ends, isTaken, isError, kindIn, charactersIn, errorIn}
 use Rattle.enraf.proofs.ByTests.{kind-by, error-by, characters-by, number-by, is-alone, is-setting, is-taken, is-setting-taken, is-error, setting-taken-long, setting-long, error-long, error-begins, error-digits}
 use Rattle.enraf.proofs.SixKinds.{data-fits, error-fits, one-of-six}
 use Rattle.enraf.proofs.Tails.{tail-alone, tail-setting, tail-taken, tail-setting-taken, tail-value, tail-error}
@@ -132,9 +132,9 @@ module _ (error : ℕ) (d : List ℕ) where
         data-back = characters-by d false false true (ap (λ (n : ℕ). eqb n setting) k) (ap (λ (n : ℕ). eqb n settingTaken) k) (ap (λ (n : ℕ). eqb n value) k);
       }
 
-  error-back-6 : kindFits 6 error d ≡ true → Back 6 error d (exclamation ∷ threeDigits error)
+  error-back-6 : kindFits 6 error d ≡ true → Back 6 error d (exclamation ∷ digitCharacters error)
   error-back-6 h =
-      let t = exclamation ∷ threeDigits error in
+      let t = exclamation ∷ digitCharacters error in
       let few : error ≤ 999 = leb-true error 999 (error-fits 6 error d h) in
       let yes : isError t ≡ true =
       error-by t true true true true true refl refl (digit-is (error / 100) (omega arith)) (digit-is (error / 10 % 10) (omega arith)) (digit-is (error % 10) (omega arith)) in
@@ -219,7 +219,7 @@ digit-bounds b h =
     (leb-true 0x30 b (two .0), leb-true b 0x39 (two .1))
 
 three-again : (e a b c : ℕ) → isDigit a ≡ true → isDigit b ≡ true → isDigit c ≡ true → e ≡ (a - 0x30) * 100 + (b - 0x30) * 10 + (c - 0x30)
-    → threeDigits e ≡ a ∷ b ∷ c ∷ []
+    → digitCharacters e ≡ a ∷ b ∷ c ∷ []
 three-again e a b c ha hb hc is =
     let pa = digit-bounds a ha in
     let pb = digit-bounds b hb in
@@ -237,7 +237,7 @@ four-bytes (a ∷ b ∷ c ∷ []) e = absurd (omega arith)
 four-bytes (a ∷ b ∷ c ∷ d ∷ []) e = refl
 four-bytes (a ∷ b ∷ c ∷ d ∷ f ∷ t) e = absurd (omega arith)
 
-error-again : (t : List ℕ) → kindIn t ≡ 6 → exclamation ∷ threeDigits (errorIn t) ≡ t
+error-again : (t : List ℕ) → kindIn t ≡ 6 → exclamation ∷ digitCharacters (errorIn t) ≡ t
 error-again t k =
     let yes = is-error t k in
     let digits = error-digits t yes in

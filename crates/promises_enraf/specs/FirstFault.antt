@@ -8,7 +8,7 @@ use Rattle.frame.specs.Faults.{Test, _gives_}
 use Rattle.enraf.specs.declared.Done.{Done}
 use Rattle.enraf.specs.declared.ItemTold.{ItemTold}
 use Rattle.enraf.specs.Item.{Item, textFits}
-use Rattle.enraf.specs.Record.{STX, ETX, B, Z, recordOf}
+use Rattle.enraf.specs.Record.{STX, ETX, B, Z, itemRecord}
 use Rattle.enraf.specs.Reading.{checkRight, addressed, itemIn, ReadsItem}
 use Rattle.enraf.specs.Writing.{WritesItem}
 use Rattle.promises_frame.specs.FirstFault.{FirstThatApplies}
@@ -30,7 +30,7 @@ abbrev pub writeTable : Item → List ℕ → List Test
 writeTable i out =
     (ltb 9 (i .ciu) || ltb 99 (i .gauge)) gives 31
     ∷ not (textFits i) gives 32
-    ∷ ltb (length out) (length (recordOf i)) gives 33
+    ∷ ltb (length out) (length (itemRecord i)) gives 33
     ∷ []
 
 pub record ItemFirstFault : Type 0 where

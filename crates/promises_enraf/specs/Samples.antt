@@ -6,10 +6,10 @@ use lib.Dec.{eqb}
 use Rattle.frame.specs.Pick.{pick}
 use Rattle.enraf.specs.declared.ItemTold.{ItemTold}
 use Rattle.enraf.specs.Item.{Item, itemOf, alone, setting, taken, settingTaken, value, failed}
-use Rattle.enraf.specs.Record.{recordOf}
-use Rattle.enraf.specs.Reading.{readFault, itemIn, told, refused}
+use Rattle.enraf.specs.Record.{itemRecord}
+use Rattle.enraf.specs.Reading.{readFault, itemIn, toldInIntegers, refused}
 
-pub record Sample : Type 0 where
+pub record SampleItem : Type 0 where
   pub item : Item
   pub bytes : List ℕ
 
@@ -17,22 +17,22 @@ pub record Seen : Type 0 where
   pub written : List ℕ
   pub read : ItemTold
 
-abbrev pub shows : Item → List ℕ → Sample
+abbrev pub shows : Item → List ℕ → SampleItem
 shows i bytes = record { item = i; bytes = bytes }
 
 -- What the definitions say, and what the table says.
-abbrev pub found : Sample → Seen
+abbrev pub found : SampleItem → Seen
 found s =
     record {
-      written = recordOf (s .item);
-      read = pick (eqb (readFault (s .bytes)) 0) (told (itemIn (s .bytes))) (refused (readFault (s .bytes)));
+      written = itemRecord (s .item);
+      read = pick (eqb (readFault (s .bytes)) 0) (toldInIntegers (itemIn (s .bytes))) (refused (readFault (s .bytes)));
     }
 
-abbrev pub wanted : Sample → Seen
-wanted s = record { written = s .bytes; read = told (s .item) }
+abbrev pub wanted : SampleItem → Seen
+wanted s = record { written = s .bytes; read = toldInIntegers (s .item) }
 
 -- CIU 5, transmission address 01: BL, BL&, DF=a, DF=A&, HA, HA012.2345, QQ, QQ!051.
-abbrev pub samples : List Sample
+abbrev pub samples : List SampleItem
 samples =
     shows (itemOf 5 1 0x42 0x4c alone 0 []) (0x02 ∷ 0x35 ∷ 0x30 ∷ 0x31 ∷ 0x42 ∷ 0x5a ∷ 0x42 ∷ 0x4c ∷ 0x03 ∷ 0x21 ∷ [])
     ∷ shows (itemOf 5 1 0x42 0x4c taken 0 []) (0x02 ∷ 0x35 ∷ 0x30 ∷ 0x31 ∷ 0x42 ∷ 0x5a ∷ 0x42 ∷ 0x4c ∷ 0x26 ∷ 0x03 ∷ 0x07 ∷ [])

@@ -8,13 +8,13 @@ use lib.ListN.{getD}
 use Rattle.frame.specs.Charts.{Chart, sizeOf, placeIn, oneBit, twoBits, feetTens, decimal, inches, sixteenths}
 use Rattle.frame.proofs.Both.{and-left, and-right}
 use Rattle.frame.proofs.Tables.{allBelow, at-below}
-use Rattle.promises_frame.specs.Rows.{Sound}
+use Rattle.promises_frame.specs.Rows.{SoundChart}
 
 -- The code at a place is within the width and is found there.
 abbrev placeRight : Chart → ℕ → Bool
 placeRight c i = ltb (getD (c .codes) i 0) (2 ^ (c .width)) && eqb (placeIn (getD (c .codes) i 0) (c .codes)) i
 
-sound : (c : Chart) → T (ltb 0 (sizeOf c)) → T (allBelow (placeRight c) (sizeOf c)) → Sound c
+sound : (c : Chart) → T (ltb 0 (sizeOf c)) → T (allBelow (placeRight c) (sizeOf c)) → SoundChart c
 sound c some h =
     let code : ℕ → ℕ = λ i. getD (c .codes) i 0 in
     let inside : ℕ → Bool = λ i. ltb (code i) (2 ^ (c .width)) in
@@ -27,26 +27,26 @@ sound c some h =
       single = λ i j k l e. sym (place i k) ∙ ap (λ (x : ℕ). placeIn x (c .codes)) e ∙ place j l;
     }
 
-pub oneBit-sound : Sound oneBit
+pub oneBit-sound : SoundChart oneBit
 unfolding oneBit placeIn
 oneBit-sound = sound oneBit tt tt
 
-pub twoBits-sound : Sound twoBits
+pub twoBits-sound : SoundChart twoBits
 unfolding twoBits placeIn
 twoBits-sound = sound twoBits tt tt
 
-pub feetTens-sound : Sound feetTens
+pub feetTens-sound : SoundChart feetTens
 unfolding feetTens placeIn
 feetTens-sound = sound feetTens tt tt
 
-pub decimal-sound : Sound decimal
+pub decimal-sound : SoundChart decimal
 unfolding decimal placeIn
 decimal-sound = sound decimal tt tt
 
-pub inches-sound : Sound inches
+pub inches-sound : SoundChart inches
 unfolding inches placeIn
 inches-sound = sound inches tt tt
 
-pub sixteenths-sound : Sound sixteenths
+pub sixteenths-sound : SoundChart sixteenths
 unfolding sixteenths placeIn
 sixteenths-sound = sound sixteenths tt tt

@@ -10,7 +10,8 @@ use Rattle.frame.specs.declared.Temperature.{Temperature}
 use Rattle.frame.specs.declared.Temperature.the-variants.{Degrees, Above, Below, Absent}
 use Rattle.frame.specs.Line.{field, bit, mark}
 use Rattle.frame.specs.Temperature.{putDegrees1900, putDegrees1800, putHeat1900, putHeat1800, putHeat}
-use Rattle.promises_frame.specs.NotTold.{isError, NotTold, bit-2, bit-3, sign-of-zero, sign-beside, hundred-beside, digits-beside, isBelow, asWeWrite}
+use Rattle.promises_frame.specs.NotTold.{isRangeError, NotTold, bit-2, bit-3, sign-of-zero, sign-beside, hundred-beside, digits-beside, asWeWrite}
+use Rattle.frame.specs.Temperature.{isBelow}
 use Rattle.promises_frame.proofs.Fields.{same-within}
 
 -- The sign of a zero, of either type.
@@ -20,21 +21,21 @@ plus-zero true = refl
 plus-zero false = refl
 
 -- Sign, hundred and digits beside an error.
-sign-error : (t : Temperature) → isError t ≡ true → bit (putHeat1800 t) 41 ≡ asWeWrite t 41
+sign-error : (t : Temperature) → isRangeError t ≡ true → bit (putHeat1800 t) 41 ≡ asWeWrite t 41
 unfolding putHeat1800
 sign-error (Degrees d) e = absurd (false≢true e)
 sign-error Above e = refl
 sign-error Below e = refl
 sign-error Absent e = absurd (false≢true e)
 
-hundred-error : (t : Temperature) → isError t ≡ true → bit (putHeat1800 t) 42 ≡ asWeWrite t 42
+hundred-error : (t : Temperature) → isRangeError t ≡ true → bit (putHeat1800 t) 42 ≡ asWeWrite t 42
 unfolding putHeat1800
 hundred-error (Degrees d) e = absurd (false≢true e)
 hundred-error Above e = refl
 hundred-error Below e = refl
 hundred-error Absent e = absurd (false≢true e)
 
-digits-error : (t : Temperature) → isError t ≡ true → field (putHeat1800 t) 44 55 ≡ field 0 44 55
+digits-error : (t : Temperature) → isRangeError t ≡ true → field (putHeat1800 t) 44 55 ≡ field 0 44 55
 unfolding putHeat1800
 digits-error (Degrees d) e = absurd (false≢true e)
 digits-error Above e = refl

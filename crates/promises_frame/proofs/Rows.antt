@@ -14,7 +14,7 @@ use Rattle.frame.specs.Pick.{pick}
 use Rattle.frame.specs.Charts.{Chart, sizeOf, isOdd, turned, codeOf, placeIn}
 use Rattle.frame.specs.Level.{Level, known, lost, widthOf, valuesOf, readRow, writeRow}
 use Rattle.frame.proofs.Digits.{turned-lt}
-use Rattle.promises_frame.specs.Rows.{Sound, SoundRow, RowBothWays}
+use Rattle.promises_frame.specs.Rows.{SoundChart, SoundRow, RowBothWays}
 use Rattle.promises_frame.proofs.Narrow as wide
 use Rattle.promises_frame.proofs.Narrow.{NarrowRow, digit-lt}
 
@@ -69,14 +69,14 @@ above-unseen (c ∷ cs) hi lo odd sofar place =
     (ap (λ (x : Level). pick (ltb at (sizeOf c)) x (lost place)) (above-unseen cs (hi * 2 ^ (c .width)) lo (isOdd d) (sofar * sizeOf c + d) (suc place)))
 
 -- What is written fits its bits.
-code-lt : (c : Chart) → Sound c → (odd : Bool) (d : ℕ) → d < sizeOf c → codeOf odd c d < 2 ^ (c .width)
+code-lt : (c : Chart) → SoundChart c → (odd : Bool) (d : ℕ) → d < sizeOf c → codeOf odd c d < 2 ^ (c .width)
 code-lt c ok = wide.code-lt c (record { some = ok .some; within = ok .within })
 
 fits : (row : List Chart) → SoundRow row → (odd : Bool) (v : ℕ) → v < valuesOf row → writeRow row odd v < 2 ^ widthOf row
 fits row ok = wide.fits row (narrow row ok)
 
 -- The place of a digit's code, read back from above the digits under it.
-code-found : (c : Chart) → Sound c → (odd : Bool) (d under : ℕ) {low : ℕ} → d < sizeOf c → low < 2 ^ under
+code-found : (c : Chart) → SoundChart c → (odd : Bool) (d under : ℕ) {low : ℕ} → d < sizeOf c → low < 2 ^ under
     → placeIn ((codeOf odd c d * 2 ^ under + low) / 2 ^ under % 2 ^ (c .width)) (c .codes) ≡ turned odd (sizeOf c) d
 code-found c ok odd d under h l =
     ap (λ (x : ℕ). placeIn (x % 2 ^ (c .width)) (c .codes)) (digits-div (codeOf odd c d) l)

@@ -12,7 +12,7 @@ use Rattle.frame.specs.declared.Temperature.the-variants.{Degrees, Above, Below
 use Rattle.frame.specs.Pick.{pick}
 use Rattle.frame.specs.Line.{field, bit, mark, threeDecimal, threeDigits}
 use Rattle.frame.specs.Temperature.{limit, told, bad, signed, isPlus, magnitude, degreesAt, hundreds1900, heat1900, heat1800, putDegrees, putDegrees1900, putHeat1900, putHeat1800, heatOf, putHeat, isAbsent}
-use Rattle.promises_frame.specs.NotTold.{isError, NotTold, sign-of-zero, sign-beside, hundred-beside, digits-beside}
+use Rattle.promises_frame.specs.NotTold.{isRangeError, NotTold, sign-of-zero, sign-beside, hundred-beside, digits-beside}
 use Rattle.promises_frame.specs.Temperatures.{TemperatureBothWays}
 use Rattle.promises_frame.proofs.Cases.{by-le, not-1, not-true}
 use Rattle.promises_frame.proofs.Fields.{same-within}
@@ -22,12 +22,12 @@ use Rattle.promises_frame.proofs.TemperaturesBack.{parts-1900, degrees1
 -- The temperature bits of a line w hold what those of a line n tell of the temperature t.
 pub record Kept (is1800 : Bool) (t : Temperature) (w n : ℕ) : Type 0 where
   pub there : isAbsent t ≡ false
-  pub no-error : is1800 ≡ false → isError t ≡ false
+  pub no-error : is1800 ≡ false → isRangeError t ≡ false
   pub at-40 : bit w 40 ≡ bit n 40
-  pub at-41 : ¬ (t ≡ Degrees (pos 0)) → isError t ≡ false → bit w 41 ≡ bit n 41
-  pub at-42 : isError t ≡ false → bit w 42 ≡ bit n 42
+  pub at-41 : ¬ (t ≡ Degrees (pos 0)) → isRangeError t ≡ false → bit w 41 ≡ bit n 41
+  pub at-42 : isRangeError t ≡ false → bit w 42 ≡ bit n 42
   pub at-43 : bit w 43 ≡ bit n 43
-  pub digits : isError t ≡ false → field w 44 55 ≡ field n 44 55
+  pub digits : isRangeError t ≡ false → field w 44 55 ≡ field n 44 55
 
 -- A sign and a number of tenths, taken apart again.
 pub magnitude-signed : (plus : Bool) (m : ℕ) → magnitude (signed plus m) ≡ m
@@ -187,8 +187,8 @@ again true = again-1800
 again false = again-1900
 
 -- The bits one by one: a position that is told is one of the parts.
-error-free : (is1800 : Bool) (t : Temperature) → (is1800 ≡ false → isError t ≡ false) → ¬ ((is1800 ≡ true) × (isError t ≡ true)) → isError t ≡ false
-error-free true t h k = not-true (isError t) (λ z. k (refl, z))
+error-free : (is1800 : Bool) (t : Temperature) → (is1800 ≡ false → isRangeError t ≡ false) → ¬ ((is1800 ≡ true) × (isRangeError t ≡ true)) → isRangeError t ≡ false
+error-free true t h k = not-true (isRangeError t) (λ z. k (refl, z))
 error-free false t h k = h refl
 
 pub kept-bits : (is1800 : Bool) (t : Temperature) (w n : ℕ) → Kept is1800 t w n → (i : ℕ) → 40 ≤ i → i ≤ 55 → ¬ NotTold is1800 t i → bit w i ≡ bit n i

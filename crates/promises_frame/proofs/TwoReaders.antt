@@ -10,7 +10,7 @@ use borrow.Author.Tests.{eqb-true}
 use Rattle.frame.specs.declared.Reply.{Reply}
 use Rattle.frame.specs.Reply.{ReadsReply}
 use Rattle.frame.specs.Charts.{decimal, isOdd, turned, placeIn, codeOf}
-use Rattle.frame.specs.Pairs.{noPair, pairOf, entryOf, indexOf, ReadsReplyByPairs}
+use Rattle.frame.specs.Pairs.{noPair, pairNumber, tableEntry, indexOf, ReadsReplyByPairs}
 use Rattle.frame.proofs.Both.{and-left, and-right}
 use Rattle.frame.proofs.Tables.{allBelow, at-below}
 use Rattle.frame.proofs.PairsAreDigits.{entry-is, pairs-are-digits}
@@ -25,14 +25,14 @@ abbrev secondCode : ℕ → ℕ
 secondCode p = codeOf (isOdd (p / 10)) decimal (p % 10)
 
 numberRight : Bool → ℕ → Bool
-numberRight odd p = eqb (entryOf (indexOf odd (firstCode odd p) (secondCode p))) p
+numberRight odd p = eqb (tableEntry (indexOf odd (firstCode odd p) (secondCode p))) p
 
-number-right : (odd : Bool) (p : ℕ) → p < 100 → entryOf (indexOf odd (firstCode odd p) (secondCode p)) ≡ p
-unfolding numberRight pairOf decimal placeIn turned
+number-right : (odd : Bool) (p : ℕ) → p < 100 → tableEntry (indexOf odd (firstCode odd p) (secondCode p)) ≡ p
+unfolding numberRight pairNumber decimal placeIn turned
 number-right true p h = eqb→eq _ _ (at-below (numberRight true) 100 tt p h)
 number-right false p h = eqb→eq _ _ (at-below (numberRight false) 100 tt p h)
 
-table-reads : (odd : Bool) (x y : ℕ) → x ≤ 9 → y ≤ 9 → entryOf (indexOf odd (codeOf odd decimal x) (codeOf (isOdd x) decimal y)) ≡ 10 * x + y
+table-reads : (odd : Bool) (x y : ℕ) → x ≤ 9 → y ≤ 9 → tableEntry (indexOf odd (codeOf odd decimal x) (codeOf (isOdd x) decimal y)) ≡ 10 * x + y
 table-reads odd x y hx hy =
     let tens : (10 * x + y) / 10 ≡ x = omega arith in
     let ones : (10 * x + y) % 10 ≡ y = omega arith in
@@ -43,10 +43,10 @@ abbrev digitsRight : Bool → ℕ → ℕ → Bool
 digitsRight odd p j = leb p 99 && (eqb (firstCode odd p) (j / 16) && eqb (secondCode p) (j % 16))
 
 entryRight : Bool → ℕ → Bool
-entryRight odd j = eqb (pairOf odd (j / 16) (j % 16)) noPair || digitsRight odd (pairOf odd (j / 16) (j % 16)) j
+entryRight odd j = eqb (pairNumber odd (j / 16) (j % 16)) noPair || digitsRight odd (pairNumber odd (j / 16) (j % 16)) j
 
 entry-right : (odd : Bool) (j : ℕ) → j < 256 → T (entryRight odd j)
-unfolding entryRight pairOf decimal placeIn turned
+unfolding entryRight pairNumber decimal placeIn turned
 entry-right true j h = at-below (entryRight true) 256 tt j h
 entry-right false j h = at-below (entryRight false) 256 tt j h
 
@@ -62,20 +62,20 @@ digits-right odd p j t =
       (eqb→eq (firstCode odd p) (j / 16) (and-left (eqb (firstCode odd p) (j / 16)) (eqb (secondCode p) (j % 16)) rest), eqb→eq (secondCode p) (j % 16) (and-right (eqb (firstCode odd p) (j / 16)) (eqb (secondCode p) (j % 16)) rest)),
     )
 
-unmarked : (odd : Bool) (j : ℕ) → j < 256 → ¬ (pairOf odd (j / 16) (j % 16) ≡ noPair)
-    → (pairOf odd (j / 16) (j % 16) ≤ 99) × ((firstCode odd (pairOf odd (j / 16) (j % 16)) ≡ j / 16) × (secondCode (pairOf odd (j / 16) (j % 16)) ≡ j % 16))
+unmarked : (odd : Bool) (j : ℕ) → j < 256 → ¬ (pairNumber odd (j / 16) (j % 16) ≡ noPair)
+    → (pairNumber odd (j / 16) (j % 16) ≤ 99) × ((firstCode odd (pairNumber odd (j / 16) (j % 16)) ≡ j / 16) × (secondCode (pairNumber odd (j / 16) (j % 16)) ≡ j % 16))
 unfolding entryRight
 unmarked odd j h none =
-    let p = pairOf odd (j / 16) (j % 16) in
+    let p = pairNumber odd (j / 16) (j % 16) in
     digits-right odd p j (or-else (eqb p noPair) (digitsRight odd p j) (entry-right odd j h) (λ e. none (eqb-true p noPair e)))
 
-table-marks : (odd : Bool) (a b : ℕ) → a < 16 → b < 16 → ¬ (entryOf (indexOf odd a b) ≡ noPair)
-    → (entryOf (indexOf odd a b) ≤ 99)
-    × ((firstCode odd (entryOf (indexOf odd a b)) ≡ a) × (secondCode (entryOf (indexOf odd a b)) ≡ b))
+table-marks : (odd : Bool) (a b : ℕ) → a < 16 → b < 16 → ¬ (tableEntry (indexOf odd a b) ≡ noPair)
+    → (tableEntry (indexOf odd a b) ≤ 99)
+    × ((firstCode odd (tableEntry (indexOf odd a b)) ≡ a) × (secondCode (tableEntry (indexOf odd a b)) ≡ b))
 table-marks odd a b ha hb none =
     let first : (a * 16 + b) / 16 ≡ a = omega arith in
     let second : (a * 16 + b) % 16 ≡ b = omega arith in
-    let found : ¬ (pairOf odd a b ≡ noPair) → (pairOf odd a b ≤ 99) × ((firstCode odd (pairOf odd a b) ≡ a) × (secondCode (pairOf odd a b) ≡ b)) =
+    let found : ¬ (pairNumber odd a b ≡ noPair) → (pairNumber odd a b ≤ 99) × ((firstCode odd (pairNumber odd a b) ≡ a) × (secondCode (pairNumber odd a b) ≡ b)) =
     rw (first, second) at (unmarked odd (a * 16 + b) (omega arith)) in
     rw (entry-is odd a b ha hb) (found (λ e. none (entry-is odd a b ha hb ∙ e)))
 

@@ -18,7 +18,7 @@ use Rattle.frame.specs.Temperature.{isAbsent}
 use Rattle.frame.specs.Reply.{modeIn, is1800, sizeFor, countFor, replyFault, replyOf, replyLine, writeReplyFault}
 use Rattle.promises_frame.specs.Temperatures.{readBack}
 use Rattle.promises_frame.specs.WrittenThenRead.{WrittenThenRead}
-use Rattle.promises_frame.specs.OutsideItsRange.{heardAs, OutsideItsRange}
+use Rattle.promises_frame.specs.OutsideItsRange.{readingBack, OutsideItsRange}
 use Rattle.promises_frame.specs.Calls.{ReplyLeft}
 use Rattle.promises_frame.proofs.Digits.{mark-1}
 use Rattle.promises_frame.proofs.Lines.{length-firstBytes}
@@ -60,7 +60,7 @@ module _ (settings address : ℕ) (r : Reading) (hs : settings ≤ 15) (ha : add
       left-to-ask settings address (countFor r) (firstBytes (sizeFor r) n) n (heard settings address r n of hs ha)
       ∙ rw (level-read hl, le-ltb (modeIn settings .largest) (r .level) hl, heat-sent settings address r n of)
 
-  read-as : r .level ≤ modeIn settings .largest → replyOf settings address (countFor r) (firstBytes (sizeFor r) n) ≡ Read (heardAs settings r)
+  read-as : r .level ≤ modeIn settings .largest → replyOf settings address (countFor r) (firstBytes (sizeFor r) n) ≡ Read (readingBack settings r)
   unfolding replyOf
   read-as hl = rw (no-fault-in hl, line-sent settings address r n of, level-read hl, heat-sent settings address r n of)
       (ap₂ (λ (a b : Bool). Read (record { level = r .level; temperature = readBack (is1800 settings) (r .temperature); alarm1 = a; alarm0 = b }))

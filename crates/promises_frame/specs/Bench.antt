@@ -15,8 +15,8 @@ use Rattle.frame.specs.Temperature.{signed}
 use Rattle.frame.specs.Reply.{countFor, sizeFor, parityFor, replyLine, replyOf}
 
 -- A reading without alarms.
-abbrev pub quiet : ℕ → Temperature → Reading
-quiet level t = record { level = level; temperature = t; alarm1 = false; alarm0 = false }
+abbrev pub unalarmed : ℕ → Temperature → Reading
+unalarmed level t = record { level = level; temperature = t; alarm1 = false; alarm0 = false }
 
 -- The checks: the digit bits of a level in a mode, or the fault that they read as; bits 40 to 55 of a temperature of a 1900; the bytes of a whole
 -- reply, or the fault that they read as.
@@ -40,21 +40,21 @@ around settings size bits =
 abbrev pub found : Check → Outcome
 found (level mode value bits) =
     record {
-      written = field (replyLine mode 0 (quiet value Absent)) (modeOf mode .first) (lastBit (modeOf mode)) ∷ [];
+      written = field (replyLine mode 0 (unalarmed value Absent)) (modeOf mode .first) (lastBit (modeOf mode)) ∷ [];
       read = replyOf mode 0 40 (around mode 5 (put bits (lastBit (modeOf mode))));
     }
 found (level-fault mode bits number) = record { written = []; read = replyOf mode 0 40 (around mode 5 (put bits (lastBit (modeOf mode)))) }
 found (degrees tenths bits) =
-    record { written = field (replyLine 0 0 (quiet 0 (Degrees tenths))) 40 55 ∷ []; read = replyOf 0 0 56 (around 0 7 (put bits 55)) }
+    record { written = field (replyLine 0 0 (unalarmed 0 (Degrees tenths))) 40 55 ∷ []; read = replyOf 0 0 56 (around 0 7 (put bits 55)) }
 found (reply settings address r bytes) =
     record { written = firstBytes (sizeFor r) (replyLine settings address r); read = replyOf settings address (countFor r) bytes }
 found (reply-fault settings address count bytes number) = record { written = []; read = replyOf settings address count bytes }
 
 -- What the document says.
 abbrev pub wanted : Check → Outcome
-wanted (level mode value bits) = record { written = bits ∷ []; read = Read (quiet value Absent) }
+wanted (level mode value bits) = record { written = bits ∷ []; read = Read (unalarmed value Absent) }
 wanted (level-fault mode bits number) = record { written = []; read = Refused number }
-wanted (degrees tenths bits) = record { written = bits ∷ []; read = Read (quiet 0 (Degrees tenths)) }
+wanted (degrees tenths bits) = record { written = bits ∷ []; read = Read (unalarmed 0 (Degrees tenths)) }
 wanted (reply settings address r bytes) = record { written = bytes; read = Read r }
 wanted (reply-fault settings address count bytes number) = record { written = []; read = Refused number }
 
@@ -66,7 +66,7 @@ starred =
     ∷ level 2 9999 0b0_1000_0000_0000_0000 ∷ level 2 10000 0b1_1000_0000_0000_0000 ∷ level 2 19999 0b1_0000_0000_0000_0000
     ∷ level 3 32699 0b10_0100_0101_1000_0000 ∷ level-fault 3 0b10_0100_0100_1000_0000 8
     ∷ degrees (signed false 123) 0b1011_0001_0010_0011
-    ∷ reply 1 7 (quiet 3000 Absent) (0x80 ∷ 0x0e ∷ 0x50 ∷ 0x00 ∷ 0x00 ∷ [])
+    ∷ reply 1 7 (unalarmed 3000 Absent) (0x80 ∷ 0x0e ∷ 0x50 ∷ 0x00 ∷ 0x00 ∷ [])
     ∷ reply-fault 1 7 40 (0x80 ∷ 0x0e ∷ 0x50 ∷ 0x00 ∷ 0x01 ∷ []) 5
     ∷ []
 

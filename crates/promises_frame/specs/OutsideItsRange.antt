@@ -10,8 +10,8 @@ use Rattle.promises_frame.specs.Temperatures.{readBack}
 use Rattle.promises_frame.specs.Calls.{ReplyLeft}
 
 -- The reading with the temperature that its own is read back as.
-abbrev pub heardAs : ℕ → Reading → Reading
-heardAs settings r =
+abbrev pub readingBack : ℕ → Reading → Reading
+readingBack settings r =
     record { level = r .level; temperature = readBack (is1800 settings) (r .temperature); alarm1 = r .alarm1; alarm0 = r .alarm0 }
 
 pub record OutsideItsRange : Type 0 where
@@ -24,4 +24,4 @@ pub record OutsideItsRange : Type 0 where
   pub temperature : (settings address : ℕ) (r : Reading) → settings ≤ 15 → address ≤ 999 → r .level ≤ modeIn settings .largest
       → (bytes : List ℕ) → ReplyLeft settings address r bytes
       → (got : Reply) → ReadsReply settings address (countFor r) bytes got
-      → got ≡ Read (heardAs settings r)
+      → got ≡ Read (readingBack settings r)

@@ -8,14 +8,14 @@ use Rattle.frame.specs.Charts.{Chart, sizeOf}
 use Rattle.frame.specs.Level.{widthOf, valuesOf, known, readRow, writeRow}
 
 -- A chart is sound: it has a code, each code is within its width, and no code stands twice.
-pub record Sound (c : Chart) : Type 0 where
+pub record SoundChart (c : Chart) : Type 0 where
   pub some : 0 < sizeOf c
   pub within : (i : ℕ) → i < sizeOf c → getD (c .codes) i 0 < 2 ^ (c .width)
   pub single : (i j : ℕ) → i < sizeOf c → j < sizeOf c → getD (c .codes) i 0 ≡ getD (c .codes) j 0 → i ≡ j
 
 abbrev pub SoundRow : List Chart → Type 0
 SoundRow [] = Unit {0}
-SoundRow (c ∷ cs) = Sound c × SoundRow cs
+SoundRow (c ∷ cs) = SoundChart c × SoundRow cs
 
 -- Both round trips, from either oddness of the digit above and at any level so far.
 pub record RowBothWays : Type 0 where

@@ -20,15 +20,15 @@ InRange is1800 Below = is1800 ≡ true
 InRange is1800 Absent = Unit {0}
 
 -- What a temperature beyond the range reads back as, by its sign: of an 1800 as above or below, of a 1900 as the nearer end.
-abbrev pub beyond : Bool → Bool → Temperature
-beyond true plus = pick plus Above Below
-beyond false plus = Degrees (signed plus (limit false))
+abbrev pub beyondRange : Bool → Bool → Temperature
+beyondRange true plus = pick plus Above Below
+beyondRange false plus = Degrees (signed plus (limit false))
 
 -- What a temperature reads back as once it was written.
 abbrev pub readBack : Bool → Temperature → Temperature
-readBack is1800 (Degrees d) = pick (leb (magnitude d) (limit is1800)) (Degrees d) (beyond is1800 (isPlus d))
-readBack is1800 Above = beyond is1800 true
-readBack is1800 Below = beyond is1800 false
+readBack is1800 (Degrees d) = pick (leb (magnitude d) (limit is1800)) (Degrees d) (beyondRange is1800 (isPlus d))
+readBack is1800 Above = beyondRange is1800 true
+readBack is1800 Below = beyondRange is1800 false
 readBack is1800 Absent = Absent
 
 pub record TemperatureBothWays : Type 0 where

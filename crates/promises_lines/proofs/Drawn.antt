@@ -15,7 +15,7 @@ use Rattle.lines.specs.Sample.{Sample, idle, mark, space, sampleOf}
 use Rattle.lines.specs.Timing.{Timing}
 use Rattle.lines.specs.SoFar.{atRest}
 use Rattle.lines.specs.Step.{after, closes}
-use Rattle.lines.specs.Hearing.{Heard, heard, toldOf, later, hear}
+use Rattle.lines.specs.Hearing.{Hearing, hearing, toldOf, later, hear}
 use Rattle.lines.specs.Calls.{answered}
 use Rattle.promises_lines.specs.History.{Said, said}
 use Rattle.promises_lines.specs.Runs.{Run, isIdle, idleLast, allPulses, bitsIn, allIdle, unspoiled, atGap}
@@ -43,12 +43,12 @@ hear-run t s n x k i ys e q =
     quiet-hear t s n (replicate i x) ys (rw (kinds i x k e) q) ∙ ap (λ (m : ℕ). later m (hear t n ys)) (length-replicate i x)
 
 -- The gap.
-hear-close : (t : Timing) (s : SoFar) (ys : List ℕ) → closes t (after t s idle) ≡ true → hear t s (0 ∷ ys) ≡ heard (toldOf (after t s idle)) atRest 1
+hear-close : (t : Timing) (s : SoFar) (ys : List ℕ) → closes t (after t s idle) ≡ true → hear t s (0 ∷ ys) ≡ hearing (toldOf (after t s idle)) atRest 1
 unfolding hear
 hear-close t s ys e = rw e
 
 hear-gap : (t : Timing) (g : Good t) (b : List Run) → Differs idle b → allIdle b ≡ false → (ys : List ℕ)
-    → hear t (stateOf t b) (replicate (t .gap) 0 ++ ys) ≡ heard (toldOf (stateOf t (run idle (t .gap) ∷ b))) atRest (t .gap)
+    → hear t (stateOf t b) (replicate (t .gap) 0 ++ ys) ≡ hearing (toldOf (stateOf t (run idle (t .gap) ∷ b))) atRest (t .gap)
 hear-gap t g b d o ys =
     let some = g .some in
     let parts : t .gap ≡ t .gap - 1 + suc 0 = omega arith in
@@ -59,14 +59,14 @@ hear-gap t g b d o ys =
     let whole : t .gap - 1 + 1 ≡ t .gap = omega arith in
     ap (hear t (stateOf t b)) cut ∙ hear-run t (stateOf t b) s 0 idle (t .gap - 1) (0 ∷ ys) refl (quiet-gap t g b d o)
     ∙ ap (later (t .gap - 1)) (hear-close t s ys (last-closes t g b d o))
-    ∙ ap₂ (λ (n : SoFar) (m : ℕ). heard (toldOf n) atRest m) (last-idle t g b d o) whole
+    ∙ ap₂ (λ (n : SoFar) (m : ℕ). hearing (toldOf n) atRest m) (last-idle t g b d o) whole
 
 -- What a hearing told and took.
-pub record Gives (h : Heard) (bits : List ℕ) (taken : ℕ) : Type 0 where
+pub record Gives (h : Hearing) (bits : List ℕ) (taken : ℕ) : Type 0 where
   pub told : saidOf (h .told) ≡ record { number = 0; bits = bits }
   pub took : h .taken ≡ taken
 
-gives-later : (n : ℕ) (h : Heard) (bits : List ℕ) (taken : ℕ) → Gives h bits taken → Gives (later n h) bits (n + taken)
+gives-later : (n : ℕ) (h : Hearing) (bits : List ℕ) (taken : ℕ) → Gives h bits taken → Gives (later n h) bits (n + taken)
 gives-later n h bits taken r = record { told = r .told; took = ap (λ (m : ℕ). n + m) (r .took) }
 
 head-is : {x y : Said} → x ∷ [] ≡ y ∷ [] → x ≡ y
@@ -176,11 +176,11 @@ sizes n x m c =
     length-append (replicate n x ++ replicate m 0) c
     ∙ ap (λ (k : ℕ). k + length c) (length-append (replicate n x) (replicate m 0) ∙ ap₂ (λ (j k : ℕ). j + k) (length-replicate n x) (length-replicate m 0)) ∙ omega arith
 
-regive : (h k : Heard) (xs ys : List ℕ) (n m : ℕ) → h ≡ k → xs ≡ ys → n ≡ m → Gives k ys m → Gives h xs n
+regive : (h k : Hearing) (xs ys : List ℕ) (n m : ℕ) → h ≡ k → xs ≡ ys → n ≡ m → Gives k ys m → Gives h xs n
 regive h k xs ys n m p q r g =
     record {
-      told = ap (λ (x : Heard). saidOf (x .told)) p ∙ g .told ∙ ap (λ (x : List ℕ). record { number = 0; bits = x }) (sym q);
-      took = ap (λ (x : Heard). x .taken) p ∙ g .took ∙ sym r;
+      told = ap (λ (x : Hearing). saidOf (x .told)) p ∙ g .told ∙ ap (λ (x : List ℕ). record { number = 0; bits = x }) (sym q);
+      took = ap (λ (x : Hearing). x .taken) p ∙ g .took ∙ sym r;
     }
 
 hear-drawn : (t : Timing) (g : Good t) (ps : List Pulse) (p : Pulse) (b : List Run) → WellDrawn t p ps → allPulses t b ≡ true → idleLast b ≡ true
@@ -200,7 +200,7 @@ hear-drawn t g (q ∷ ps) p b w clean before room more =
     let x : ℕ = pick (p .isMark) 1 2 in
     let c : List Run = withPulse t g b p clean before (w .0) (w .1) in
     let rest-of : List ℕ = drawn (q ∷ ps) in
-    let h : Heard = hear t (stateOf t (run idle (p .still) ∷ c)) (rest-of ++ more) in
+    let h : Hearing = hear t (stateOf t (run idle (p .still) ∷ c)) (rest-of ++ more) in
     let count = pulse-count t g b p clean before (w .0) (w .1) in
     let r : Gives h (bitsIn (run idle (p .still) ∷ c) ++ map bitDrawn (q ∷ ps)) (length rest-of)
     = hear-drawn t g ps q (run idle (p .still) ∷ c) (w .4) (idle-clean t c (p .still) (pulse-clean t g b p clean before (w .0) (w .1))) refl (omega arith) more in

@@ -8,15 +8,15 @@ use native.Mathlib.Omega.{arith}
 use lib.Dec.{eqb, leb, ltb}
 use lib.ListN.{length}
 use borrow.Author.Tests.{eqb-true, leb-true, not-false}
-use Rattle.frame.specs.Pick.{pick}
+use Rattle.frame.specs.Pick.{pick, within}
 use Rattle.frame.specs.Faults.{firstOf}
 use Rattle.lines.specs.declared.SoFar.{SoFar}
 use Rattle.lines.specs.declared.LinesTold.{LinesTold}
 use Rattle.lines.specs.Sample.{Sample, idle, mark, space, both, foreign, sampleOf}
-use Rattle.lines.specs.Timing.{Timing, timing, within, badTiming, timingFault}
+use Rattle.lines.specs.Timing.{Timing, timing, badTiming, timingFault}
 use Rattle.lines.specs.SoFar.{atRest, spoiltBy, legal, meant}
 use Rattle.lines.specs.Step.{after, closes}
-use Rattle.lines.specs.Hearing.{Heard, nothing, heard, toldOf, later, hear}
+use Rattle.lines.specs.Hearing.{Hearing, nothing, hearing, toldOf, later, hear}
 use Rattle.lines.specs.Calls.{answered, linesAnswer, HearsLines}
 use Rattle.lines.proofs.Cases.{of-pick, none-of}
 use Rattle.promises_lines.specs.Runs.{isIdle}
@@ -58,13 +58,13 @@ idle-kind x =
 idle-byte : (x : ℕ) → sampleOf x ≡ idle → x ≡ 0
 idle-byte x e = eqb-true x 0 (sym (idle-kind x) ∙ ap isIdle e)
 
-pub record Still (t : Timing) (s : SoFar) (xs : List ℕ) (h : Heard) : Type 0 where
+pub record Still (t : Timing) (s : SoFar) (xs : List ℕ) (h : Hearing) : Type 0 where
   pub left : SoFar
   pub ok : Legal left
   pub quiet : Quiet t s (map sampleOf xs) left
-  pub is : h ≡ heard nothing left (length xs)
+  pub is : h ≡ hearing nothing left (length xs)
 
-pub record Shut (t : Timing) (s : SoFar) (xs : List ℕ) (h : Heard) : Type 0 where
+pub record Shut (t : Timing) (s : SoFar) (xs : List ℕ) (h : Hearing) : Type 0 where
   pub before : List ℕ
   pub more : List ℕ
   pub at : SoFar
@@ -72,18 +72,18 @@ pub record Shut (t : Timing) (s : SoFar) (xs : List ℕ) (h : Heard) : Type 0 wh
   pub whole : xs ≡ before ++ 0 ∷ more
   pub closed : closes t (after t at idle) ≡ true
   pub closing : Closing (after t at idle)
-  pub is : h ≡ heard (toldOf (after t at idle)) atRest (length before + 1)
+  pub is : h ≡ hearing (toldOf (after t at idle)) atRest (length before + 1)
 
-pub data Ends (t : Timing) (s : SoFar) (xs : List ℕ) (h : Heard) : Type 0 where
+pub data Ends (t : Timing) (s : SoFar) (xs : List ℕ) (h : Hearing) : Type 0 where
   still-open : Still t s xs h → Ends t s xs h
   closed-at : Shut t s xs h → Ends t s xs h
 
 module _ (t : Timing) (g : Good t) where
   -- One quiet sample before.
-  further : (s : SoFar) (x : ℕ) (xs : List ℕ) (h : Heard) → closes t (after t s (sampleOf x)) ≡ false
+  further : (s : SoFar) (x : ℕ) (xs : List ℕ) (h : Hearing) → closes t (after t s (sampleOf x)) ≡ false
       → Ends t (after t s (sampleOf x)) xs h → Ends t s (x ∷ xs) (later 1 h)
   further s x xs h e (still-open r) =
-      still-open (record { left = r .left; ok = r .ok; quiet = (e, r .quiet); is = ap (later 1) (r .is) ∙ ap (heard nothing (r .left)) (omega arith) })
+      still-open (record { left = r .left; ok = r .ok; quiet = (e, r .quiet); is = ap (later 1) (r .is) ∙ ap (hearing nothing (r .left)) (omega arith) })
   further s x xs h e (closed-at r) =
       closed-at
       (record {
@@ -94,11 +94,11 @@ module _ (t : Timing) (g : Good t) where
         whole = ap (λ (ys : List ℕ). x ∷ ys) (r .whole);
         closed = r .closed;
         closing = r .closing;
-        is = ap (later 1) (r .is) ∙ ap (heard (toldOf (after t (r .at) idle)) atRest) (omega arith);
+        is = ap (later 1) (r .is) ∙ ap (hearing (toldOf (after t (r .at) idle)) atRest) (omega arith);
       })
 
   first : (s : SoFar) (x : ℕ) (xs : List ℕ) (k : Sample) → sampleOf x ≡ k → k ≡ idle → closes t (after t s k) ≡ true → Closing (after t s k)
-      → Shut t s (x ∷ xs) (heard (toldOf (after t s k)) atRest 1)
+      → Shut t s (x ∷ xs) (hearing (toldOf (after t s k)) atRest 1)
   first s x xs k p q e c =
       record {
         before = [];

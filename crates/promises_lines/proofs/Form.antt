@@ -17,7 +17,7 @@ use Rattle.lines.specs.declared.SoFar.{SoFar}
 use Rattle.lines.specs.declared.LinesTold.{LinesTold}
 use Rattle.lines.specs.Timing.{Timing, timing, badTiming}
 use Rattle.lines.specs.SoFar.{atRest, meant}
-use Rattle.lines.specs.Hearing.{Heard, heard, toldOf, hear}
+use Rattle.lines.specs.Hearing.{Hearing, hearing, toldOf, hear}
 use Rattle.lines.specs.Calls.{answered, HearsLines}
 use Rattle.lines.proofs.Cases.{of-pick}
 use Rattle.promises_lines.specs.Form.{bytesIn, LinesForm}
@@ -46,14 +46,14 @@ in-form bits count clear =
           bits-written k bits i small (omega arith) hi' ∙ pad-bit bits count i clear lo (omega arith);
     })
 
-abbrev Handed : LinesTold → Type 0
-Handed a = (1 ≤ a .count) × (a .count ≤ 64) × (formed (a .count) (bytesIn a) ≡ true)
+abbrev HandedOver : LinesTold → Type 0
+HandedOver a = (1 ≤ a .count) × (a .count ≤ 64) × (formed (a .count) (bytesIn a) ≡ true)
 
-closed-form : {n : SoFar} → Closing n → (taken : ℕ) → (answered (heard (toldOf n) atRest taken) .count ≡ 0 → ⊥) → Handed (answered (heard (toldOf n) atRest taken))
+closed-form : {n : SoFar} → Closing n → (taken : ℕ) → (answered (hearing (toldOf n) atRest taken) .count ≡ 0 → ⊥) → HandedOver (answered (hearing (toldOf n) atRest taken))
 closed-form (message bits run count p c) taken e = (p, c .small, ap (formed count) (front (bytesFor count) bits) ∙ in-form bits count c)
 closed-form (report number run p q) taken e = absurd (e (rw (ne-eqb number 0 (omega arith))))
 
-handed : (t : Timing) (s : SoFar) (xs : List ℕ) (h : Heard) → Ends t s xs h → (answered h .count ≡ 0 → ⊥) → Handed (answered h)
+handed : (t : Timing) (s : SoFar) (xs : List ℕ) (h : Hearing) → Ends t s xs h → (answered h .count ≡ 0 → ⊥) → HandedOver (answered h)
 handed t s xs h (still-open r) e = absurd (e (rw (r .is)))
 handed t s xs h (closed-at r) e = rw (r .is) (closed-form (r .closing) (length (r .before) + 1) (rw (r .is) at e))
 
@@ -112,7 +112,7 @@ reply-neither settings address count s r c n =
     (λ e. (omega arith, omega arith))
     (λ e. of-pick (λ (x : Reply). Neither (replyNumber x)) (eqb fault 7) (Unreadable (placeLost level)) (Refused fault) (λ f. (omega arith, omega arith)) (λ f. n)))
 
-handed-over : (s : SoFar) (least most gap : ℕ) (xs : List ℕ) (a : LinesTold) → badTiming (timing least most gap) ≡ false → HearsLines s least most gap xs a → (a .count ≡ 0 → ⊥) → Handed a
+handed-over : (s : SoFar) (least most gap : ℕ) (xs : List ℕ) (a : LinesTold) → badTiming (timing least most gap) ≡ false → HearsLines s least most gap xs a → (a .count ≡ 0 → ⊥) → HandedOver a
 handed-over s least most gap xs a e c =
     let t = timing least most gap in
     rw (heard-by s least most gap xs a e c) (handed t (meant s) xs (hear t (meant s) xs) (split t (good t e) (meant s) (meant-legal s) xs))

@@ -7,10 +7,11 @@ use native.Mathlib.Omega.{arith}
 use native.Mathlib.Nat.{zero-mod}
 use lib.Dec.{eqb, leb, ltb}
 use borrow.Author.Tests.{eqb-true, leb-true, leb-false, ltb-true, eq-eqb, ne-eqb, le-leb, lt-leb}
+use Rattle.frame.specs.Pick.{within}
 use Rattle.frame.specs.Line as frame
 use Rattle.lines.specs.declared.SoFar.{SoFar}
 use Rattle.lines.specs.Sample.{Sample, idle, mark, space, both, foreign}
-use Rattle.lines.specs.Timing.{Timing, within}
+use Rattle.lines.specs.Timing.{Timing}
 use Rattle.lines.specs.SoFar.{soFar, atRest, spoiltBy, noBits, padsClear, isRest, isBetween, isInRun, isSpoilt, legal}
 use Rattle.lines.specs.Step.{withBit, runEnded, longerIdle, afterIdle, afterLow, afterBoth, after, closes}
 use Rattle.lines.proofs.Cases.{of-pick, either}

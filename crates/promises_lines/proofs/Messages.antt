@@ -14,7 +14,7 @@ use Rattle.lines.specs.declared.SoFar.{SoFar}
 use Rattle.lines.specs.declared.LinesTold.{LinesTold}
 use Rattle.lines.specs.Timing.{Timing, timing, badTiming, timingFault}
 use Rattle.lines.specs.SoFar.{meant}
-use Rattle.lines.specs.Hearing.{Told, nothing, message, spoiled, numberTold, countTold, bytesTold, hear}
+use Rattle.lines.specs.Hearing.{MessageTold, nothing, message, spoiled, numberTold, countTold, bytesTold, hear}
 use Rattle.lines.specs.Calls.{answered, linesAnswer, HearsLines}
 use Rattle.promises_frame.specs.Bits.{AreBytes, bitAt}
 use Rattle.promises_frame.proofs.Cases.{by-lt, by-le}
@@ -75,7 +75,7 @@ front-bytes k m ok i =
     (λ h. rw (List·getD-eq-default (take k m) 0 {n = i} (omega (arith, length-take k m))) (omega arith))
 
 -- What a call hands over.
-told-bytes : (x : Told) → AreBytes (bytesTold x)
+told-bytes : (x : MessageTold) → AreBytes (bytesTold x)
 told-bytes nothing = bytes-firstBytes 8 0 (omega arith)
 told-bytes (message count bits) = bytes-firstBytes 8 bits (omega arith)
 told-bytes (spoiled number) = bytes-firstBytes 8 0 (omega arith)
@@ -94,12 +94,12 @@ pub handed-bits : (a : LinesTold) → bitsOf (a .count) (bytesIn a) ≡ bitsOf (
 handed-bits a = bits-front (a .count) (bytesFor (a .count)) (a .message) (omega arith)
 
 -- A number is told without bits, and bits without a number.
-number-or-bits : (x : Told) → (numberTold x ≡ 0 → ⊥) → countTold x ≡ 0
+number-or-bits : (x : MessageTold) → (numberTold x ≡ 0 → ⊥) → countTold x ≡ 0
 number-or-bits nothing h = refl
 number-or-bits (message count bits) h = absurd (h refl)
 number-or-bits (spoiled number) h = refl
 
-bits-or-number : (x : Told) → (countTold x ≡ 0 → ⊥) → numberTold x ≡ 0
+bits-or-number : (x : MessageTold) → (countTold x ≡ 0 → ⊥) → numberTold x ≡ 0
 bits-or-number nothing h = refl
 bits-or-number (message count bits) h = refl
 bits-or-number (spoiled number) h = absurd (h refl)

@@ -8,15 +8,15 @@ use lib.Dec.{eqb, ltb}
 use lib.ListN.{length, take}
 use lib.Seq.{take-append-add}
 use borrow.Author.Tests.{eqb-true, eqb-false, ne-eqb, lt-ltb}
-use Rattle.frame.specs.Pick.{pick}
+use Rattle.frame.specs.Pick.{pick, within}
 use Rattle.frame.specs.Faults.{firstOf}
 use Rattle.lines.specs.declared.SoFar.{SoFar}
 use Rattle.lines.specs.declared.LinesTold.{LinesTold}
 use Rattle.lines.specs.Sample.{Sample, idle, mark, space, both, foreign, sampleOf}
-use Rattle.lines.specs.Timing.{Timing, timing, within, badTiming, timingFault}
+use Rattle.lines.specs.Timing.{Timing, timing, badTiming, timingFault}
 use Rattle.lines.specs.SoFar.{soFar, atRest, spoiltBy, meant}
 use Rattle.lines.specs.Step.{withBit, runEnded, longerIdle, afterIdle, afterLow, afterBoth, after, closes}
-use Rattle.lines.specs.Hearing.{Heard, heard, toldOf, numberTold, hear}
+use Rattle.lines.specs.Hearing.{Hearing, hearing, toldOf, numberTold, hear}
 use Rattle.lines.specs.Calls.{answered, linesAnswer, HearsLines}
 use Rattle.lines.proofs.Cases.{of-pick}
 use Rattle.promises_lines.specs.History.{bitsOf, said}
@@ -103,7 +103,7 @@ either-number : (n : ℕ) → 21 ≤ n → n ≤ 22 → n ≡ pick (eqb n 22) 22
 either-number n p q = of-pick (λ (m : ℕ). n ≡ m) (eqb n 22) 22 21 (λ e. eqb-true n 22 e) (λ e. let other : n ≡ 22 → ⊥ = eqb-false n 22 e in omega arith)
 
 reported : {n : SoFar} → Closing n → (taken : ℕ) → (numberTold (toldOf n) ≡ 0 → ⊥)
-    → (numberTold (toldOf n) ≡ pick (marked n) 22 21) × (said (answered (heard (toldOf n) atRest taken)) .bits ≡ [])
+    → (numberTold (toldOf n) ≡ pick (marked n) 22 21) × (said (answered (hearing (toldOf n) atRest taken)) .bits ≡ [])
 unfolding bitsOf
 reported (message bits run count p c) taken e = absurd (e refl)
 reported (report number run p q) taken e = (rw (ne-eqb number 0 (omega arith)) (either-number number p q), rw (ne-eqb number 0 (omega arith)))
@@ -112,7 +112,7 @@ not-20 : {n : SoFar} → Closing n → numberTold (toldOf n) ≡ 20 → ⊥
 not-20 (message bits run count p c) e = omega arith
 not-20 (report number run p q) e = let f : number ≡ 20 = rw (ne-eqb number 0 (omega arith)) at e in omega arith
 
-module _ (t : Timing) (g : Good t) (s : SoFar) (l : Legal s) (xs : List ℕ) (h : Heard) where
+module _ (t : Timing) (g : Good t) (s : SoFar) (l : Legal s) (xs : List ℕ) (h : Hearing) where
   spoiled-by : Ends t s xs h → (answered h .number ≡ 0 → ⊥)
       → (answered h .number ≡ pick (marked s || oneAbove3 (take (h .taken) xs)) 22 21) × (said (answered h) .bits ≡ [])
   unfolding oneAbove3

@@ -10,7 +10,7 @@ use Rattle.lines.specs.declared.SoFar.{SoFar}
 use Rattle.lines.specs.Sample.{Sample, sampleOf}
 use Rattle.lines.specs.Timing.{Timing}
 use Rattle.lines.specs.Step.{after, closes}
-use Rattle.lines.specs.Hearing.{Heard, heard, later, hear}
+use Rattle.lines.specs.Hearing.{Hearing, hearing, later, hear}
 use Rattle.lines.proofs.Steps.{later-later}
 
 abbrev pub Quiet : Timing → SoFar → List Sample → SoFar → Type 0
@@ -21,8 +21,8 @@ pub quiet-append : (t : Timing) (s m n : SoFar) (ks js : List Sample) → Quiet 
 quiet-append t s m n [] js e q = subst (λ (x : SoFar). Quiet t x js n) (sym e) q
 quiet-append t s m n (k ∷ ks) js p q = (p .0, quiet-append t (after t s k) m n ks js (p .1) q)
 
-pub later-none : (h : Heard) → later 0 h ≡ h
-later-none h = ap (heard (h .told) (h .left)) (zero-add (h .taken))
+pub later-none : (h : Hearing) → later 0 h ≡ h
+later-none h = ap (hearing (h .told) (h .left)) (zero-add (h .taken))
 
 pub quiet-hear : (t : Timing) (s n : SoFar) (xs ys : List ℕ) → Quiet t s (map sampleOf xs) n → hear t s (xs ++ ys) ≡ later (length xs) (hear t n ys)
 unfolding hear

@@ -19,7 +19,7 @@ use Rattle.lines.specs.Sample.{Sample, idle, mark, sampleOf}
 use Rattle.lines.specs.Timing.{Timing, timing, badTiming}
 use Rattle.lines.specs.SoFar.{soFar, atRest, spoiltBy, isOpen, legal}
 use Rattle.lines.specs.Step.{withBit, runEnded, longerIdle, afterIdle, afterLow, afterBoth, after, closes}
-use Rattle.lines.specs.Hearing.{nothing, heard, later, hear}
+use Rattle.lines.specs.Hearing.{nothing, hearing, later, hear}
 use Rattle.lines.specs.Calls.{answered, HearsLines}
 use Rattle.promises_lines.specs.History.{tellings}
 use Rattle.promises_lines.proofs.Words.{Clear}
@@ -240,9 +240,9 @@ reached-from s ok small = (leads (view s ok) small .bytes, answers)
     answers a c =
         let bytes = leads (view s ok) small .bytes in
         let good : badTiming t ≡ false = refl in
-        let heard-none : hear t s [] ≡ heard nothing s 0 = unfold hear in refl in
-        let all : hear t atRest bytes ≡ later (length bytes) (heard nothing s 0) =
+        let heard-none : hear t s [] ≡ hearing nothing s 0 = unfold hear in refl in
+        let all : hear t atRest bytes ≡ later (length bytes) (hearing nothing s 0) =
         ap (hear t atRest) (sym (append-nil bytes)) ∙ quiet-hear t atRest s bytes [] (leads (view s ok) small .quiet) ∙ ap (later (length bytes)) heard-none in
-        let is : a ≡ answered (later (length bytes) (heard nothing s 0)) =
+        let is : a ≡ answered (later (length bytes) (hearing nothing s 0)) =
         heard-by atRest 1 1 10000 bytes a good c ∙ ap (λ (n : SoFar). answered (hear t n bytes)) (meant-itself atRest (is-legal rest)) ∙ ap answered all in
         (ap (λ (x : LinesTold). x .«so_far») is, ap tellings is)

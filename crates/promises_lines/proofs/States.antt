@@ -8,7 +8,7 @@ use Rattle.lines.specs.declared.SoFar.{SoFar}
 use Rattle.lines.specs.declared.LinesTold.{LinesTold}
 use Rattle.lines.specs.Timing.{Timing, timing, badTiming}
 use Rattle.lines.specs.SoFar.{atRest, spoiltBy, legal, meant}
-use Rattle.lines.specs.Hearing.{Heard, hear}
+use Rattle.lines.specs.Hearing.{Hearing, hear}
 use Rattle.lines.specs.Calls.{answered, linesAnswer, HearsLines}
 use Rattle.promises_lines.specs.History.{tellings}
 use Rattle.promises_lines.specs.States.{BegunAgain, EveryState}
@@ -17,7 +17,7 @@ use Rattle.promises_lines.proofs.Ends.{Ends, still-open, closed-at, goo
 use Rattle.promises_lines.proofs.Takes.{told-nothing}
 use Rattle.promises_lines.proofs.Reached.{reached-from}
 
-module _ (t : Timing) (s : SoFar) (xs : List ℕ) (h : Heard) (a : LinesTold) (is : a ≡ answered h) where
+module _ (t : Timing) (s : SoFar) (xs : List ℕ) (h : Hearing) (a : LinesTold) (is : a ≡ answered h) where
   at-rest-again : Ends t s xs h → (tellings a ≡ [] → ⊥) → a .«so_far» ≡ atRest
   at-rest-again (still-open r) e = absurd (e (told-nothing t s xs h a is r))
   at-rest-again (closed-at r) e = ap (λ (x : LinesTold). x .«so_far») (is ∙ ap answered (r .is))

@@ -14,14 +14,14 @@ use Rattle.lines.specs.Sample.{Sample, idle, sampleOf}
 use Rattle.lines.specs.Timing.{Timing, badTiming}
 use Rattle.lines.specs.SoFar.{atRest}
 use Rattle.lines.specs.Step.{after, closes}
-use Rattle.lines.specs.Hearing.{Told, Heard, heard, toldOf, numberTold, countTold, bytesTold, hear}
+use Rattle.lines.specs.Hearing.{MessageTold, Hearing, hearing, toldOf, numberTold, countTold, bytesTold, hear}
 use Rattle.lines.specs.Calls.{answered, HearsLines}
 use Rattle.promises_lines.specs.History.{Said, bitsOf, tellings, History, begun, called}
 use Rattle.promises_lines.proofs.Legal.{Legal, rest, Closing, message, report, is-legal}
 use Rattle.promises_lines.proofs.Quiet.{Quiet}
 use Rattle.promises_lines.proofs.Ends.{Good, Still, Shut, Ends, still-open, closed-at, split, meant-itself, heard-by}
 
-abbrev pub saidOf : Told → Said
+abbrev pub saidOf : MessageTold → Said
 saidOf told = record { number = numberTold told; bits = bitsOf (countTold told) (bytesTold told) }
 
 abbrev pub next : Timing → SoFar → Sample → SoFar
@@ -65,7 +65,7 @@ pub quiet-first : (t : Timing) (s n : SoFar) (ks js : List Sample) → Quiet t s
 quiet-first t s n ks js q = tells-append t s ks js ∙ ap₂ (λ (x : List Said) (m : SoFar). x ++ tells t m js) (quiet-tells t s n ks q) (quiet-ends t s n ks q)
 
 -- What closes is told once.
-pub told-once : {n : SoFar} → Closing n → (taken : ℕ) → tellings (answered (heard (toldOf n) atRest taken)) ≡ saidOf (toldOf n) ∷ []
+pub told-once : {n : SoFar} → Closing n → (taken : ℕ) → tellings (answered (hearing (toldOf n) atRest taken)) ≡ saidOf (toldOf n) ∷ []
 told-once (message bits run count p c) taken = rw (ne-eqb count 0 (omega arith))
 told-once (report number run p q) taken = simp (ne-eqb number 0 (omega arith))
 
@@ -79,7 +79,7 @@ pub record Took (t : Timing) (s : SoFar) (xs : List ℕ) (a : LinesTold) : Type 
   pub left : ends t s (map sampleOf (take (a .taken) xs)) ≡ a .«so_far»
   pub ok : Legal (a .«so_far»)
 
-took-still : (t : Timing) (s : SoFar) (xs : List ℕ) (h : Heard) → Still t s xs h → Took t s xs (answered h)
+took-still : (t : Timing) (s : SoFar) (xs : List ℕ) (h : Hearing) → Still t s xs h → Took t s xs (answered h)
 took-still t s xs h r =
     rw (r .is)
     (record {
@@ -88,7 +88,7 @@ took-still t s xs h r =
       ok = r .ok;
     })
 
-took-shut : (t : Timing) (s : SoFar) (xs : List ℕ) (h : Heard) → Shut t s xs h → Took t s xs (answered h)
+took-shut : (t : Timing) (s : SoFar) (xs : List ℕ) (h : Hearing) → Shut t s xs h → Took t s xs (answered h)
 unfolding tells ends
 took-shut t s xs h r =
     let b : List ℕ = r .before in

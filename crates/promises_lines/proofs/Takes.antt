@@ -9,7 +9,7 @@ use Rattle.lines.specs.declared.SoFar.{SoFar}
 use Rattle.lines.specs.declared.LinesTold.{LinesTold}
 use Rattle.lines.specs.Timing.{Timing, timing}
 use Rattle.lines.specs.SoFar.{meant}
-use Rattle.lines.specs.Hearing.{Heard, nothing, hear}
+use Rattle.lines.specs.Hearing.{Hearing, nothing, hear}
 use Rattle.lines.specs.Calls.{answered}
 use Rattle.promises_lines.specs.History.{Said, tellings}
 use Rattle.promises_lines.specs.Takes.{Takes}
@@ -21,7 +21,7 @@ use Rattle.promises_lines.proofs.Streams.{told-once}
 pub something : {x : Said} {xs ys : List Said} → ys ≡ x ∷ xs → ys ≡ [] → ⊥
 something p q = let z : _≡_ {A = ℕ} 0 1 = cc in omega arith
 
-module _ (t : Timing) (s : SoFar) (xs : List ℕ) (h : Heard) (a : LinesTold) (is : a ≡ answered h) where
+module _ (t : Timing) (s : SoFar) (xs : List ℕ) (h : Hearing) (a : LinesTold) (is : a ≡ answered h) where
   pub told-nothing : Still t s xs h → tellings a ≡ []
   told-nothing r = ap tellings (is ∙ ap answered (r .is))
 
@@ -47,11 +47,11 @@ module _ (t : Timing) (s : SoFar) (xs : List ℕ) (h : Heard) (a : LinesTold) (i
         rw last
             (ap (λ (l : List ℕ). hear t s (take (length b) l) .told) (r .whole)
             ∙ ap (λ (l : List ℕ). hear t s l .told) (take-append-seam b (0 ∷ r .more) ∙ sym (append-nil b))
-            ∙ ap (λ (x : Heard). x .told) (quiet-hear t s (r .at) b [] (r .quiet))),
+            ∙ ap (λ (x : Hearing). x .told) (quiet-hear t s (r .at) b [] (r .quiet))),
       )
 
 -- A hearing that told nothing.
-untold : (h : Heard) → h .told ≡ nothing → tellings (answered h) ≡ []
+untold : (h : Hearing) → h .told ≡ nothing → tellings (answered h) ≡ []
 untold h e = rw e
 
 pub takes : Takes

@@ -15,7 +15,7 @@ use Rattle.lines.specs.declared.LinesTold.{LinesTold}
 use Rattle.lines.specs.Sample.{Sample, idle, sampleOf}
 use Rattle.lines.specs.Timing.{Timing, timing, badTiming}
 use Rattle.lines.specs.SoFar.{atRest}
-use Rattle.lines.specs.Hearing.{nothing, heard, hear}
+use Rattle.lines.specs.Hearing.{nothing, hearing, hear}
 use Rattle.lines.specs.Calls.{answered, linesAnswer, HearsLines}
 use Rattle.promises_lines.specs.History.{Said, bitsOf, said, tellings, History, called}
 use Rattle.promises_lines.proofs.Legal.{rest, is-legal}
@@ -60,7 +60,7 @@ idle-kinds : (k : ℕ) → map sampleOf (replicate k 0) ≡ replicate k idle
 idle-kinds zero = refl
 idle-kinds (suc k) = ap (λ (ks : List Sample). idle ∷ ks) (idle-kinds k)
 
-idle-heard : (t : Timing) → badTiming t ≡ false → (k : ℕ) → answerTo t (replicate k 0) ≡ answered (heard nothing atRest k)
+idle-heard : (t : Timing) → badTiming t ≡ false → (k : ℕ) → answerTo t (replicate k 0) ≡ answered (hearing nothing atRest k)
 unfolding hear
 idle-heard t fine k =
     heard-by atRest (t .least) (t .most) (t .gap) (replicate k 0) (answerTo t (replicate k 0)) fine (answers t (replicate k 0))
@@ -68,7 +68,7 @@ idle-heard t fine k =
     ∙ ap (λ (xs : List ℕ). answered (hear t atRest xs)) (sym (append-nil (replicate k 0)))
     ∙ ap answered
     (quiet-hear t atRest atRest (replicate k 0) [] (rw (idle-kinds k) (rest-idle t (good t fine) k))
-    ∙ (let size : length (replicate {A = ℕ} k 0) + 0 ≡ k = omega (arith, length-replicate {A = ℕ} k 0) in ap (heard nothing atRest) size))
+    ∙ (let size : length (replicate {A = ℕ} k 0) + 0 ≡ k = omega (arith, length-replicate {A = ℕ} k 0) in ap (hearing nothing atRest) size))
 
 -- A history that left the lines at rest, and idle after it.
 pub idle-after : (t : Timing) → badTiming t ≡ false → {xs : List ℕ} {told : List Said} → History t atRest xs told atRest → (still : ℕ)

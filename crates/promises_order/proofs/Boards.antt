@@ -18,7 +18,7 @@ use Rattle.board.specs.declared.Looked.{Looked}
 use Rattle.board.specs.declared.Row.{Row}
 use Rattle.board.specs.Gauge.{profileMisplaced, unmarked, atOnce}
 use Rattle.board.specs.Rows.{onBoard, rowOf, hasFree}
-use Rattle.board.specs.Calls.{enrolNumber, faultBy, outsideAt, hearNumber, hearPlace, findNumber, lookedAt, told, refusedLook, rowPollNumber, rowPollBytes}
+use Rattle.board.specs.Calls.{enrolNumber, faultBy, outsideAt, hearNumber, hearPlace, findNumber, lookedAt, rowTold, refusedLook, rowPollNumber, rowPollBytes}
 
 module _ (x y : List Row) (address : ℕ) (on : onBoard address x ≡ onBoard address y) where
   pub same-find : findNumber x address ≡ findNumber y address
@@ -34,7 +34,7 @@ module _ (x y : List Row) (address : ℕ) (on : onBoard address x ≡ onBoard ad
   module _ (there : rowOf address x ≡ rowOf address y) where
     pub same-looked : lookedAt x address ≡ lookedAt y address
     unfolding lookedAt
-    same-looked = ap (λ (n : ℕ). pick (eqb n 0) (told (rowOf address x)) (refusedLook n)) same-find ∙ ap (λ (r : Row). pick (eqb (findNumber y address) 0) (told r) (refusedLook (findNumber y address))) there
+    same-looked = ap (λ (n : ℕ). pick (eqb n 0) (rowTold (rowOf address x)) (refusedLook n)) same-find ∙ ap (λ (r : Row). pick (eqb (findNumber y address) 0) (rowTold r) (refusedLook (findNumber y address))) there
 
     module _ (count : ℕ) (reply : List ℕ) where
       abbrev numberBy : Bool → Row → ℕ

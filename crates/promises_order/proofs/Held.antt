@@ -13,7 +13,7 @@ use Rattle.frame.proofs.Both.{both-left, both-right}
 use Rattle.board.specs.declared.Row.{Row}
 use Rattle.board.specs.Row.{isFree, freeRow}
 use Rattle.board.specs.Rows.{holds, placeBy, placeOf, rowOf, onBoard, placeFree, hasFree}
-use Rattle.board.specs.Order.{allFree, keptFrom, kept, pushed, insertRow, closed, withoutRow}
+use Rattle.board.specs.Order.{allFree, inAddressOrderFrom, inAddressOrder, pushed, insertRow, closedUp, withoutRow}
 use Rattle.board.proofs.Order.{neither, free-holds, used-holds, holds-used, off-head, room-tail, free-off, low-off, First, first-free, first-used, first-of, Put, put-free, put-here, put-behind, put-of, without-by, closed-by}
 use Rattle.promises_order.specs.OldBoard.{heldBy}
 use Rattle.promises_order.proofs.Count.{used, used-none, used-full, used-room}
@@ -72,12 +72,12 @@ held-off a [] l = refl
 held-off a (row ∷ rows) l = let p = off-head a row rows l in held-by a row rows false (p .0) ∙ held-off a rows (p .1)
 
 -- Rows so kept hold an address once at most.
-pub held-once : (a least : ℕ) (rows : List Row) → keptFrom least rows ≡ true → behind (heldBy a rows) ≡ []
+pub held-once : (a least : ℕ) (rows : List Row) → inAddressOrderFrom least rows ≡ true → behind (heldBy a rows) ≡ []
 unfolding heldBy
 held-once a least [] k = refl
 held-once a least (row ∷ rows) k = go (held-once a (suc (row .address)) rows) (first-of least row rows k)
   where
-    go : (keptFrom (suc (row .address)) rows ≡ true → behind (heldBy a rows) ≡ []) → First least row rows → behind (heldBy a (row ∷ rows)) ≡ []
+    go : (inAddressOrderFrom (suc (row .address)) rows ≡ true → behind (heldBy a rows) ≡ []) → First least row rows → behind (heldBy a (row ∷ rows)) ≡ []
     go h (first-free f e) = ap behind (held-free a row rows f ∙ held-off a rows (free-off a rows e))
     go h (first-used f l e) = by (holds a row) refl
       where
@@ -175,12 +175,12 @@ module _ (a : ℕ) (new : Row) where
           held-by a row (set rows (placeOf a rows) new) false e ∙ h (omega arith) ∙ sym (ap (λ (t : Bool). added a new (behind (pick t (row ∷ heldBy a rows) (heldBy a rows)))) e)
 
 -- A row taken out.
-held-closed : (b : ℕ) (rows : List Row) → heldBy b (closed rows) ≡ heldBy b rows
-unfolding closed heldBy
+held-closed : (b : ℕ) (rows : List Row) → heldBy b (closedUp rows) ≡ heldBy b rows
+unfolding closedUp heldBy
 held-closed b [] = refl
 held-closed b (row ∷ rows) = go (held-closed b rows) (isFree row) refl
   where
-    go : heldBy b (closed rows) ≡ heldBy b rows → (t : Bool) → isFree row ≡ t → heldBy b (pick t (freeRow ∷ row ∷ rows) (row ∷ closed rows)) ≡ heldBy b (row ∷ rows)
+    go : heldBy b (closedUp rows) ≡ heldBy b rows → (t : Bool) → isFree row ≡ t → heldBy b (pick t (freeRow ∷ row ∷ rows) (row ∷ closedUp rows)) ≡ heldBy b (row ∷ rows)
     go h true f = held-free b freeRow (row ∷ rows) refl
     go h false f = ap (λ (zs : List Row). pick (holds b row) (row ∷ zs) zs) h
 
@@ -189,7 +189,7 @@ unfolding withoutRow heldBy
 held-without-other a b [] ne = refl
 held-without-other a b (row ∷ rows) ne = go (held-without-other a b rows ne) (holds a row) refl
   where
-    go : heldBy b (withoutRow a rows) ≡ heldBy b rows → (t : Bool) → holds a row ≡ t → heldBy b (pick t (closed rows) (row ∷ withoutRow a rows)) ≡ heldBy b (row ∷ rows)
+    go : heldBy b (withoutRow a rows) ≡ heldBy b rows → (t : Bool) → holds a row ≡ t → heldBy b (pick t (closedUp rows) (row ∷ withoutRow a rows)) ≡ heldBy b (row ∷ rows)
     go h true e = held-closed b rows ∙ sym (held-by b row rows false (apart a b row ne e))
     go h false e = ap (λ (zs : List Row). pick (holds b row) (row ∷ zs) zs) h
 
@@ -198,7 +198,7 @@ unfolding withoutRow heldBy
 held-without-own a [] = refl
 held-without-own a (row ∷ rows) = go (held-without-own a rows) (holds a row) refl
   where
-    go : heldBy a (withoutRow a rows) ≡ behind (heldBy a rows) → (t : Bool) → holds a row ≡ t → heldBy a (pick t (closed rows) (row ∷ withoutRow a rows)) ≡ behind (pick t (row ∷ heldBy a rows) (heldBy a rows))
+    go : heldBy a (withoutRow a rows) ≡ behind (heldBy a rows) → (t : Bool) → holds a row ≡ t → heldBy a (pick t (closedUp rows) (row ∷ withoutRow a rows)) ≡ behind (pick t (row ∷ heldBy a rows) (heldBy a rows))
     go h true e = held-closed a rows
     go h false e = held-by a row (withoutRow a rows) false e ∙ h
 
@@ -222,12 +222,12 @@ length-insert row (next ∷ rows) = go (length-insert row rows) (put-of row next
     go h (put-here f l is) = ap length is ∙ ap suc (length-pushed next rows)
     go h (put-behind f l is) = ap length is ∙ ap suc h
 
-length-closed : (rows : List Row) → length (closed rows) ≡ suc (length rows)
-unfolding closed
+length-closed : (rows : List Row) → length (closedUp rows) ≡ suc (length rows)
+unfolding closedUp
 length-closed [] = refl
 length-closed (row ∷ rows) = go (length-closed rows) (isFree row)
   where
-    go : length (closed rows) ≡ suc (length rows) → (t : Bool) → length (pick t (freeRow ∷ row ∷ rows) (row ∷ closed rows)) ≡ suc (suc (length rows))
+    go : length (closedUp rows) ≡ suc (length rows) → (t : Bool) → length (pick t (freeRow ∷ row ∷ rows) (row ∷ closedUp rows)) ≡ suc (suc (length rows))
     go h true = refl
     go h false = ap suc h
 
@@ -236,7 +236,7 @@ unfolding withoutRow
 length-without a [] = refl
 length-without a (row ∷ rows) = go (length-without a rows) (holds a row)
   where
-    go : length (withoutRow a rows) ≡ length rows → (t : Bool) → length (pick t (closed rows) (row ∷ withoutRow a rows)) ≡ suc (length rows)
+    go : length (withoutRow a rows) ≡ length rows → (t : Bool) → length (pick t (closedUp rows) (row ∷ withoutRow a rows)) ≡ suc (length rows)
     go h true = length-closed rows
     go h false = ap suc h
 
@@ -267,21 +267,21 @@ used-insert new (next ∷ rows) u l = go (used-insert new rows u) (put-of new ne
     go h (put-here f less is) = ap used is ∙ used-by false new (pushed next rows) u ∙ ap suc (used-pushed next rows f (room-tail next rows f l) ∙ sym (used-by false next rows f))
     go h (put-behind f most is) = ap used is ∙ used-by false next (insertRow new rows) f ∙ ap suc (h (room-tail next rows f l) ∙ sym (used-by false next rows f))
 
-used-closed : (rows : List Row) → used (closed rows) ≡ used rows
-unfolding closed used
+used-closed : (rows : List Row) → used (closedUp rows) ≡ used rows
+unfolding closedUp used
 used-closed [] = refl
 used-closed (row ∷ rows) = go (used-closed rows) (isFree row) refl
   where
-    go : used (closed rows) ≡ used rows → (t : Bool) → isFree row ≡ t → used (pick t (freeRow ∷ row ∷ rows) (row ∷ closed rows)) ≡ one t (used rows)
+    go : used (closedUp rows) ≡ used rows → (t : Bool) → isFree row ≡ t → used (pick t (freeRow ∷ row ∷ rows) (row ∷ closedUp rows)) ≡ one t (used rows)
     go h true f = used-by true freeRow (row ∷ rows) refl ∙ used-by true row rows f
-    go h false f = used-by false row (closed rows) f ∙ ap suc h
+    go h false f = used-by false row (closedUp rows) f ∙ ap suc h
 
 pub used-without : (a : ℕ) (rows : List Row) → placeOf a rows < length rows → suc (used (withoutRow a rows)) ≡ used rows
 unfolding withoutRow placeBy
 used-without a [] l = absurd (omega arith)
 used-without a (row ∷ rows) l = go (used-without a rows) (holds a row) refl l
   where
-    go : (placeOf a rows < length rows → suc (used (withoutRow a rows)) ≡ used rows) → (t : Bool) → holds a row ≡ t → pick t zero (suc (placeOf a rows)) < suc (length rows) → suc (used (pick t (closed rows) (row ∷ withoutRow a rows))) ≡ used (row ∷ rows)
+    go : (placeOf a rows < length rows → suc (used (withoutRow a rows)) ≡ used rows) → (t : Bool) → holds a row ≡ t → pick t zero (suc (placeOf a rows)) < suc (length rows) → suc (used (pick t (closedUp rows) (row ∷ withoutRow a rows))) ≡ used (row ∷ rows)
     go h true e k = ap suc (used-closed rows) ∙ sym (used-by false row rows (holds-used a row e))
     go h false e k = by (isFree row) refl
       where

@@ -12,7 +12,7 @@ use borrow.Author.Tests.{ltb-true, ltb-false, leb-true, leb-false, le-leb, lt-le
 use Rattle.board.specs.declared.Row.{Row}
 use Rattle.board.specs.Row.{isFree, inUse, freeRow}
 use Rattle.board.specs.Rows.{boardOf, beyond, holds, placeBy, placeOf, placeFree}
-use Rattle.board.specs.Order.{kept, insertRow, withoutRow}
+use Rattle.board.specs.Order.{inAddressOrder, insertRow, withoutRow}
 use Rattle.board.specs.inside.ByValue.{reaches, placeFor, carry, Within, onward, backward}
 use Rattle.board.proofs.Places.{place-is, place-le, place-before, place-at}
 use Rattle.board.proofs.Order.{neither, used-holds}
@@ -157,7 +157,7 @@ module _ (rows : List Row) where
         differs j m e = let h = so .rising j i m (front .used i l .0) (front .used i l .1) in omega arith
 
     -- a row put in
-    pub inserted : (after : List Row) (new : Row) (i : ℕ) → kept (boardOf rows) ≡ true → IsPlaceFor rows (new .address) n i → placeFree (boardOf rows) < length (boardOf rows) → length (boardOf rows) ≤ placeOf (new .address) (boardOf rows)
+    pub inserted : (after : List Row) (new : Row) (i : ℕ) → inAddressOrder (boardOf rows) ≡ true → IsPlaceFor rows (new .address) n i → placeFree (boardOf rows) < length (boardOf rows) → length (boardOf rows) ≤ placeOf (new .address) (boardOf rows)
         → after ≡ insertRow new (boardOf rows) ++ beyond rows → Inserted rows i n new after
     inserted after new i k p room off e =
         record {
@@ -177,7 +177,7 @@ module _ (rows : List Row) where
             ∙ ap (carry 1 0 (n - i + 1) i new) (take-append-drop 30 rows)
 
     -- a row taken out
-    pub closed-up : (after : List Row) (address i : ℕ) → kept (boardOf rows) ≡ true → SoKept rows → i < n → rowAt rows i .address ≡ address → after ≡ withoutRow address (boardOf rows) ++ beyond rows → Closed rows i n after
+    pub closed-up : (after : List Row) (address i : ℕ) → inAddressOrder (boardOf rows) ≡ true → SoKept rows → i < n → rowAt rows i .address ≡ address → after ≡ withoutRow address (boardOf rows) ++ beyond rows → Closed rows i n after
     closed-up after address i k so l own e =
         record {
           before = λ j m. ap (λ (zs : List Row). getD zs j freeRow) is ∙ down-before (n - i) n freeRow rows j (omega arith);

@@ -17,12 +17,12 @@ use Rattle.board.specs.declared.Row.{Row}
 use Rattle.board.specs.Gauge.{profileMisplaced, unmarked, atOnce}
 use Rattle.board.specs.Row.{isFree, inUse, freeRow, newRow, withReading, withFault, setsFault, heardAt}
 use Rattle.board.specs.Rows.{boardOf, beyond, placeOf, rowOf, onBoard, hasFree}
-use Rattle.board.specs.Order.{kept, inOrder, insertRow, withoutRow}
-use Rattle.board.specs.Calls.{Enrols, Removes, heardAs, refusedLook, told, enrolNumber, enrolRows, faultBy, outsideAt, hearNumber, hearPlace, hearRows, findNumber, removeRows, lookedAt, rowPollNumber, rowPollBytes}
+use Rattle.board.specs.Order.{inAddressOrder, ifInOrder, insertRow, withoutRow}
+use Rattle.board.specs.Calls.{Enrols, Removes, heardAs, refusedLook, rowTold, enrolNumber, enrolRows, faultBy, outsideAt, hearNumber, hearPlace, hearRows, findNumber, removeRows, lookedAt, rowPollNumber, rowPollBytes}
 use Rattle.board.proofs.Order.{neither}
 use Rattle.promises_order.specs.Places.{rowAt, OnBoard, Empty}
 use Rattle.promises_order.specs.OldBoard.{oldEnrolRows, oldRemoveRows}
-use Rattle.promises_order.specs.Calls.{today, asItWas, Call, enrol, hear, remove, look-up, poll, Answer, Does, numberIn, refused38, MovesNone}
+use Rattle.promises_order.specs.Calls.{today, asItWas, Call, enrol, hear, remove, look-up, poll, Answer, Does, numberAnswered, refused38, MovesNone}
 use Rattle.promises_order.specs.Order.{SoKept, SameCalls, begin, call, AnsweredSame, Never38, Past, Front, IsPlaceFor, Inserted, Closed, BoardOrder}
 use Rattle.promises_order.proofs.Count.{used}
 use Rattle.promises_order.proofs.Held.{length-insert, length-without}
@@ -94,10 +94,10 @@ module _ (board : List Row) where
       go false false = refl
 
 -- A record opened at the test of the order.
-pub in-order : {A : Type 0} (board : List Row) (x y : A) → kept board ≡ true → inOrder board x y ≡ x
+pub in-order : {A : Type 0} (board : List Row) (x y : A) → inAddressOrder board ≡ true → ifInOrder board x y ≡ x
 in-order board x y k = ap (λ (t : Bool). pick t x y) k
 
-pub out-of-order : {A : Type 0} (board : List Row) (x y : A) → kept board ≡ false → inOrder board x y ≡ y
+pub out-of-order : {A : Type 0} (board : List Row) (x y : A) → inAddressOrder board ≡ false → ifInOrder board x y ≡ y
 out-of-order board x y k = ap (λ (t : Bool). pick t x y) k
 
 -- Where each number of a list of tests is at most m, the first that applies is: no other number is 38.
@@ -142,7 +142,7 @@ module _ (board : List Row) (address : ℕ) where
   unfolding lookedAt
   look-small = go (findNumber board address) (eqb (findNumber board address) 0) find-small
     where
-      go : (n : ℕ) (t : Bool) → n ≤ 37 → pick t (told (rowOf address board)) (refusedLook n) .number ≤ 37
+      go : (n : ℕ) (t : Bool) → n ≤ 37 → pick t (rowTold (rowOf address board)) (refusedLook n) .number ≤ 37
       go n true l = omega arith
       go n false l = l
 
@@ -176,7 +176,7 @@ module _ (start rows others after later now then : List Row) (b : Both start row
       }
 
 -- An empty board is like itself.
-empty-kept : (start : List Row) → Empty start → kept (boardOf start) ≡ true
+empty-kept : (start : List Row) → Empty start → inAddressOrder (boardOf start) ≡ true
 empty-kept start empty = kept-so start (record { front = λ i j l on u. absurd (free j on u); rising = λ i j l on u. absurd (free j on u) })
   where
     free : (j : ℕ) → OnBoard start j → inUse (rowAt start j) ≡ true → ⊥
@@ -206,8 +206,8 @@ made-then board (poll address raise reset out) = board
 
 -- The record of any call, in these words.
 pub record Now (rows : List Row) (c : Call) (answer : Answer c) (after : List Row) : Type 0 where
-  pub answers : answer ≡ inOrder (boardOf rows) (said (boardOf rows) c) (refused38 c)
-  pub leaves : after ≡ inOrder (boardOf rows) (made (boardOf rows) c) (boardOf rows) ++ beyond rows
+  pub answers : answer ≡ ifInOrder (boardOf rows) (said (boardOf rows) c) (refused38 c)
+  pub leaves : after ≡ ifInOrder (boardOf rows) (made (boardOf rows) c) (boardOf rows) ++ beyond rows
 
 record Then (rows : List Row) (c : Call) (answer : Answer c) (after : List Row) : Type 0 where
   answers : answer ≡ said (boardOf rows) c
@@ -231,11 +231,11 @@ pub now : (rows : List Row) (c : Call) (answer : Answer c) (after : List Row) �
 now rows (enrol settings address gauge) answer after e = record { answers = e .answers; leaves = e .leaves }
 now rows (hear minute address count reply) answer after e = record { answers = e .answers; leaves = e .leaves }
 now rows (remove address) answer after e = record { answers = e .answers; leaves = e .leaves }
-now rows (look-up address) answer after e = record { answers = e .0 .answers; leaves = unmoved (kept (boardOf rows)) rows after (e .1) }
+now rows (look-up address) answer after e = record { answers = e .0 .answers; leaves = unmoved (inAddressOrder (boardOf rows)) rows after (e .1) }
 now rows (poll address raise reset out) answer after e =
     record {
-      answers = pair-picked (kept (boardOf rows)) (answer .0) (rowPollNumber (boardOf rows) address raise reset out) 38 (answer .1) (rowPollBytes (boardOf rows) address raise reset out) out (e .0 .answers) (e .0 .leaves);
-      leaves = unmoved (kept (boardOf rows)) rows after (e .1);
+      answers = pair-picked (inAddressOrder (boardOf rows)) (answer .0) (rowPollNumber (boardOf rows) address raise reset out) 38 (answer .1) (rowPollBytes (boardOf rows) address raise reset out) out (e .0 .answers) (e .0 .leaves);
+      leaves = unmoved (inAddressOrder (boardOf rows)) rows after (e .1);
     }
 
 then : (rows : List Row) (c : Call) (answer : Answer c) (after : List Row) → Does asItWas rows c answer after → Then rows c answer after
@@ -261,7 +261,7 @@ has-then rows (look-up address) = (record { answers = refl }, take-append-drop 3
 has-then rows (poll address raise reset out) = (record { answers = refl; leaves = refl }, take-append-drop 30 rows)
 
 -- No number of theirs is 38, and the board stays as long.
-said-small : (board : List Row) (c : Call) → numberIn c (said board c) ≤ 37
+said-small : (board : List Row) (c : Call) → numberAnswered c (said board c) ≤ 37
 said-small board (enrol settings address gauge) = enrol-small board address settings gauge
 said-small board (hear minute address count reply) = hear-small board address count reply
 said-small board (remove address) = find-small board address
@@ -305,14 +305,14 @@ module _ (x y : List Row) (w : Alike x y) where
   made-alike (poll address raise reset out) = w
 
 -- One call of both.
-call-both : (start rows others after later : List Row) → Both start rows others → (c : Call) (m n : Answer c) → Does asItWas rows c m after → Does today others c n later → (m ≡ n) × (numberIn c n ≡ 38 → ⊥) × Both start after later
+call-both : (start rows others after later : List Row) → Both start rows others → (c : Call) (m n : Answer c) → Does asItWas rows c m after → Does today others c n later → (m ≡ n) × (numberAnswered c n ≡ 38 → ⊥) × Both start after later
 call-both start rows others after later b c m n e f =
     let w : Alike (boardOf rows) (boardOf others) = b .alike in
     let p = then rows c m after e in
     let q = now others c n later f in
     let is : n ≡ said (boardOf others) c = q .answers ∙ in-order (boardOf others) (said (boardOf others) c) (refused38 c) (w .order) in (
       p .answers ∙ same-said (boardOf rows) (boardOf others) (on-same (boardOf rows) (boardOf others) w) (row-same (boardOf rows) (boardOf others) w) (free-same (boardOf rows) (boardOf others) w) c ∙ sym is,
-      not-38 (numberIn c n) (numberIn c (said (boardOf others) c)) (ap (numberIn c) is) (said-small (boardOf others) c),
+      not-38 (numberAnswered c n) (numberAnswered c (said (boardOf others) c)) (ap (numberAnswered c) is) (said-small (boardOf others) c),
       both-after start rows others after later (made-then (boardOf rows) c) (made (boardOf others) c) b (then-length (boardOf rows) c) (made-length (boardOf others) c) (p .leaves)
           (q .leaves ∙ ap (λ (zs : List Row). zs ++ beyond others) (in-order (boardOf others) (made (boardOf others) c) (boardOf others) (w .order))) (made-alike (boardOf rows) (boardOf others) w c),
     )
@@ -334,22 +334,22 @@ past-by start rows e l = record { as-many = l; beyond = λ i h. at i h }
 
 -- Rows not so kept: the record is opened the other way, and the board and the rows beyond it are the rows.
 module _ (rows : List Row) (none : SoKept rows → ⊥) where
-  left-alone : (now after : List Row) → after ≡ inOrder (boardOf rows) now (boardOf rows) ++ beyond rows → after ≡ rows
+  left-alone : (now after : List Row) → after ≡ ifInOrder (boardOf rows) now (boardOf rows) ++ beyond rows → after ≡ rows
   left-alone now after e = e ∙ ap (λ (zs : List Row). zs ++ beyond rows) (out-of-order (boardOf rows) now (boardOf rows) (not-kept rows none)) ∙ take-append-drop 30 rows
 
-  refused-by : {A : Type 0} (answer x refused : A) → answer ≡ inOrder (boardOf rows) x refused → answer ≡ refused
+  refused-by : {A : Type 0} (answer x refused : A) → answer ≡ ifInOrder (boardOf rows) x refused → answer ≡ refused
   refused-by answer x refused e = e ∙ out-of-order (boardOf rows) x refused (not-kept rows none)
 
 -- Rows so kept: the record is opened at what it says of them.
 module _ (rows : List Row) (so : SoKept rows) where
-  k : kept (boardOf rows) ≡ true
+  k : inAddressOrder (boardOf rows) ≡ true
   k = kept-so rows so
 
-  answered-by : {A : Type 0} (answer x refused : A) → answer ≡ inOrder (boardOf rows) x refused → answer ≡ x
+  answered-by : {A : Type 0} (answer x refused : A) → answer ≡ ifInOrder (boardOf rows) x refused → answer ≡ x
   answered-by answer x refused e = e ∙ in-order (boardOf rows) x refused k
 
 -- What a call makes of a board so kept is so kept: it is like itself, and the calls keep that.
-pub self : (board : List Row) → kept board ≡ true → Alike board board
+pub self : (board : List Row) → inAddressOrder board ≡ true → Alike board board
 self board k = record { held = λ a. refl; many = refl; long = refl; order = k }
 
 even : (rows : List Row) → SoKept rows → Both rows rows rows

@@ -16,7 +16,7 @@ use Rattle.board.specs.declared.Row.{Row}
 use Rattle.board.specs.Gauge.{profileMisplaced}
 use Rattle.board.specs.Row.{isFree, freeRow, newRow, withReading, withFault, setsFault, heardAt}
 use Rattle.board.specs.Rows.{holds, placeOf, rowOf, onBoard, placeFree, hasFree}
-use Rattle.board.specs.Order.{kept, insertRow, withoutRow}
+use Rattle.board.specs.Order.{inAddressOrder, insertRow, withoutRow}
 use Rattle.board.specs.Calls.{enrolNumber, enrolRows, hearNumber, hearPlace, hearRows, findNumber, removeRows}
 use Rattle.board.proofs.Places.{place-at}
 use Rattle.board.proofs.Order.{neither, free-holds, used-holds, holds-used, insert-kept, without-kept, set-kept}
@@ -53,7 +53,7 @@ pub record Alike (x y : List Row) : Type 0 where
   pub held : (a : ℕ) → heldBy a x ≡ heldBy a y
   pub many : used x ≡ used y
   pub long : length x ≡ length y
-  pub order : kept y ≡ true
+  pub order : inAddressOrder y ≡ true
 
 module _ (x y : List Row) (w : Alike x y) where
   pub on-same : (a : ℕ) → onBoard a x ≡ onBoard a y

@@ -11,7 +11,7 @@ use Rattle.frame.proofs.Both.{both-left, both-right}
 use Rattle.board.specs.declared.Row.{Row}
 use Rattle.board.specs.Row.{isFree, inUse, freeRow}
 use Rattle.board.specs.Rows.{boardOf}
-use Rattle.board.specs.Order.{allFree, keptFrom, kept}
+use Rattle.board.specs.Order.{allFree, inAddressOrderFrom, inAddressOrder}
 use Rattle.board.proofs.Order.{neither, First, first-free, first-used, first-of, kept-free, kept-used}
 use Rattle.promises_order.specs.Places.{rowAt, OnBoard}
 use Rattle.promises_order.specs.Order.{SoKept}
@@ -52,18 +52,18 @@ stands-later least row rows j f l s =
     rising-of zero h = omega (arith, s .high)
     rising-of (suc i) h = s .rising i (omega arith)
 
-kept-placed : (least : ℕ) (rows : List Row) → keptFrom least rows ≡ true → Placed least rows
+kept-placed : (least : ℕ) (rows : List Row) → inAddressOrderFrom least rows ≡ true → Placed least rows
 kept-placed least [] k j l u = absurd (omega arith)
 kept-placed least (row ∷ rows) k j l u = go (kept-placed (suc (row .address)) rows) (first-of least row rows k) j l u
   where
-    go : (keptFrom (suc (row .address)) rows ≡ true → Placed (suc (row .address)) rows) → First least row rows → (j : ℕ) → j < suc (length rows) → isFree (getD (row ∷ rows) j freeRow) ≡ false → Stands least (row ∷ rows) j
+    go : (inAddressOrderFrom (suc (row .address)) rows ≡ true → Placed (suc (row .address)) rows) → First least row rows → (j : ℕ) → j < suc (length rows) → isFree (getD (row ∷ rows) j freeRow) ≡ false → Stands least (row ∷ rows) j
     go h (first-free f e) zero l u = neither f u
     go h (first-free f e) (suc j) l u = neither (free-at rows e j (omega arith)) u
     go h (first-used f m e) zero l u = stands-first least row rows m
     go h (first-used f m e) (suc j) l u = stands-later least row rows j f m (h e j (omega arith) u)
 
-placed-kept : (least : ℕ) (rows : List Row) → Placed least rows → keptFrom least rows ≡ true
-unfolding keptFrom
+placed-kept : (least : ℕ) (rows : List Row) → Placed least rows → inAddressOrderFrom least rows ≡ true
+unfolding inAddressOrderFrom
 placed-kept least [] p = refl
 placed-kept least (row ∷ rows) p = go (placed-kept (suc (row .address)) rows) (isFree row) refl
   where
@@ -79,7 +79,7 @@ placed-kept least (row ∷ rows) p = go (placed-kept (suc (row .address)) rows) 
         let s = p (suc j) (omega arith) u in
         record { high = s .rising zero (omega arith); front = λ i h. s .front (suc i) (omega arith); rising = λ i h. s .rising (suc i) (omega arith) }
 
-    go : (Placed (suc (row .address)) rows → keptFrom (suc (row .address)) rows ≡ true) → (t : Bool) → isFree row ≡ t → keptFrom least (row ∷ rows) ≡ true
+    go : (Placed (suc (row .address)) rows → inAddressOrderFrom (suc (row .address)) rows ≡ true) → (t : Bool) → isFree row ≡ t → inAddressOrderFrom least (row ∷ rows) ≡ true
     go h true f = kept-free least row rows f (at-free rows (all f))
     go h false f = kept-used least row rows f (p zero (omega arith) f .high) (h rest)
 
@@ -94,7 +94,7 @@ module _ (rows : List Row) where
   at : (j : ℕ) → j < 30 → getD (boardOf rows) j freeRow ≡ rowAt rows j
   at j l = getD-take 30 rows j freeRow l
 
-  pub so-kept : kept (boardOf rows) ≡ true → SoKept rows
+  pub so-kept : inAddressOrder (boardOf rows) ≡ true → SoKept rows
   so-kept k =
       record {
         front = λ i j l on u. let s = stands j on u in ap not (sym (ap isFree (at i (omega (arith, on .counts)))) ∙ s .front i l);
@@ -108,7 +108,7 @@ module _ (rows : List Row) where
       stands : (j : ℕ) → OnBoard rows j → inUse (rowAt rows j) ≡ true → Stands 0 (boardOf rows) j
       stands j on u = kept-placed 0 (boardOf rows) k j (on-length j on) (ap isFree (at j (on .counts)) ∙ not-true (isFree (rowAt rows j)) u)
 
-  pub kept-so : SoKept rows → kept (boardOf rows) ≡ true
+  pub kept-so : SoKept rows → inAddressOrder (boardOf rows) ≡ true
   kept-so s = placed-kept 0 (boardOf rows) placed
     where
       placed : Placed 0 (boardOf rows)
@@ -124,9 +124,9 @@ module _ (rows : List Row) where
                 omega (arith, s .rising i j h on used, e, f);
           }
 
-  pub not-kept : (SoKept rows → ⊥) → kept (boardOf rows) ≡ false
-  not-kept none = go (kept (boardOf rows)) refl
+  pub not-kept : (SoKept rows → ⊥) → inAddressOrder (boardOf rows) ≡ false
+  not-kept none = go (inAddressOrder (boardOf rows)) refl
     where
-      go : (t : Bool) → kept (boardOf rows) ≡ t → t ≡ false
+      go : (t : Bool) → inAddressOrder (boardOf rows) ≡ t → t ≡ false
       go true k = absurd (none (so-kept k))
       go false k = refl

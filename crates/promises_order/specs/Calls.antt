@@ -47,12 +47,12 @@ Does calls rows (look-up address) answer after = calls .looksUp rows address ans
 Does calls rows (poll address raise reset out) answer after = calls .pollsRow rows address raise reset out (answer .0) (answer .1) × (after ≡ rows)
 
 -- The number in an answer.
-abbrev pub numberIn : (c : Call) → Answer c → ℕ
-numberIn (enrol settings address gauge) answer = answer
-numberIn (hear minute address count reply) answer = answer .number
-numberIn (remove address) answer = answer
-numberIn (look-up address) answer = answer .number
-numberIn (poll address raise reset out) answer = answer .0
+abbrev pub numberAnswered : (c : Call) → Answer c → ℕ
+numberAnswered (enrol settings address gauge) answer = answer
+numberAnswered (hear minute address count reply) answer = answer .number
+numberAnswered (remove address) answer = answer
+numberAnswered (look-up address) answer = answer .number
+numberAnswered (poll address raise reset out) answer = answer .0
 
 -- The answer that is 38 and nothing else: place 0, a look's number alone, and a poll's output as it was.
 abbrev pub refused38 : (c : Call) → Answer c

@@ -12,7 +12,7 @@ use Rattle.board.specs.Rows.{boardOf}
 use Rattle.board.specs.Calls.{Enrols, Removes}
 use Rattle.promises_order.specs.Places.{rowAt, OnBoard, Empty}
 use Rattle.promises_order.specs.OldBoard.{heldBy}
-use Rattle.promises_order.specs.Calls.{today, asItWas, Call, Answer, Does, numberIn, refused38, MovesNone}
+use Rattle.promises_order.specs.Calls.{today, asItWas, Call, Answer, Does, numberAnswered, refused38, MovesNone}
 
 -- Rows so kept, said by their places: before a row in use every row is in use and has a smaller address. Only the rows of the board count, and of a
 -- free row nothing is asked.
@@ -34,7 +34,7 @@ AnsweredSame (call c a b calls e f) = (a ≡ b) × AnsweredSame calls
 -- No call of the new board was refused by 38.
 abbrev pub Never38 : {start rows others : List Row} → SameCalls start rows others → Type 0
 Never38 begin = Unit {0}
-Never38 (call c a b calls e f) = (numberIn c b ≡ 38 → ⊥) × Never38 calls
+Never38 (call c a b calls e f) = (numberAnswered c b ≡ 38 → ⊥) × Never38 calls
 
 -- The same rows in use, wherever they stand: for every address those that hold it are the same, whole.
 abbrev pub SameInUse : List Row → List Row → Type 0
@@ -86,7 +86,7 @@ pub record BoardOrder : Type 0 where
   pub is-38 : (rows : List Row) (c : Call) (answer : Answer c) (after : List Row) → (SoKept rows → ⊥) → Does today rows c answer after
       → (answer ≡ refused38 c) × (after ≡ rows)
   pub only-38 : (rows : List Row) (c : Call) (answer : Answer c) (after : List Row) → SoKept rows → Does today rows c answer after
-      → numberIn c answer ≡ 38 → ⊥
+      → numberAnswered c answer ≡ 38 → ⊥
   -- Rows so kept stay so, also with addresses above 999 among them.
   pub keeps : (rows : List Row) (c : Call) (answer : Answer c) (after : List Row) → SoKept rows → Does today rows c answer after → SoKept after
   -- Of any rows so kept each call answers what it answered of the old board, and leaves the same rows in use. Hearing, looking and polling leave the very

@@ -21,8 +21,8 @@ use Rattle.calendar.specs.declared.counting.Day.{Day}
 use Rattle.forms.specs.Days.{momentText}
 use Rattle.forms.specs.Words.{faultText}
 use Rattle.layers.specs.Drawing as drawing
-use Rattle.layers.specs.Drawing.{nothing, stands, heatValue, valueIn, pointText, alarmMark, faultMark, partText, goesOn, layerText}
-use Rattle.promises_picture.specs.Drawn.{Point, pointIn, heatAt, heatIn, pointsBy, onto, parted, runsBy, onTo, lineText, linesText, together, markText, markIn, marks, joined, alarmIn, alarms, DrawnAsListed}
+use Rattle.layers.specs.Drawing.{nothing, stands, heatValue, valueIn, pointText, alarmMark, faultMark, partText, lineGoesOn, layerText}
+use Rattle.promises_picture.specs.Drawn.{Point, pointIn, heatAt, heatIn, pointsBy, onto, parted, runsBy, onTo, lineText, linesText, allPoints, faultyMarkText, markIn, faultyMarks, joined, alarmIn, alarms, DrawnAsListed}
 
 -- the runs after the first, and the first; a line that is not begun yet, and one that goes on
 abbrev firstRun : List (List Point) → List Point
@@ -69,11 +69,11 @@ heat-step j m (Unreadable place) runs = gap-step j m runs
 
 module _ (b : Day) where
   opened : (j : Bool) (e : Entry) (l : List Entry) → layerText b 0 j (e ∷ l) ≡ pointText j (e .minute) (valueIn 0 (replyIn e)) ++ layerText b 0 (valueIn 0 (replyIn e) .there) l
-  unfolding layerText partText goesOn
+  unfolding layerText partText lineGoesOn
   opened j e l = refl
 
   opened-heat : (j : Bool) (e : Entry) (l : List Entry) → layerText b 1 j (e ∷ l) ≡ pointText j (e .minute) (valueIn 1 (replyIn e)) ++ layerText b 1 (valueIn 1 (replyIn e) .there) l
-  unfolding layerText partText goesOn
+  unfolding layerText partText lineGoesOn
   opened-heat j e l = refl
 
   line-of : (j : Bool) (l : List Entry) → layerText b 0 j l ≡ begun j (runsBy pointIn l)
@@ -102,8 +102,8 @@ module _ (b : Day) where
 abbrev OneAtMost : List Point → Type 0
 OneAtMost ps = length ps ≤ 1
 
-together-step : (ps : List Point) (runs : List (List Point)) → OneAtMost ps → together (parted ps runs) ≡ ps ++ together runs
-unfolding together
+together-step : (ps : List Point) (runs : List (List Point)) → OneAtMost ps → allPoints (parted ps runs) ≡ ps ++ allPoints runs
+unfolding allPoints
 together-step [] runs h = refl
 together-step (p ∷ []) [] h = refl
 together-step (p ∷ []) (run ∷ runs) h = refl
@@ -125,8 +125,8 @@ one-heat m (Read r) = one-degree m (r .temperature)
 one-heat m (Refused n) = omega arith
 one-heat m (Unreadable place) = omega arith
 
-points-of : (at : ℕ → Reply → List Point) → ((m : ℕ) (reply : Reply) → OneAtMost (at m reply)) → (l : List Entry) → together (runsBy at l) ≡ pointsBy at l
-unfolding runsBy pointsBy together
+points-of : (at : ℕ → Reply → List Point) → ((m : ℕ) (reply : Reply) → OneAtMost (at m reply)) → (l : List Entry) → allPoints (runsBy at l) ≡ pointsBy at l
+unfolding runsBy pointsBy allPoints
 points-of at one [] = refl
 points-of at one (e ∷ l) =
     together-step (at (e .minute) (replyIn e)) (runsBy at l) (one (e .minute) (replyIn e))
@@ -149,8 +149,8 @@ plain : fill (ascii "</title></path>") [] ≡ ascii "</title></path>"
 unfolding fill
 plain = refl
 
-fault-mark : (b : Day) (m n place : ℕ) → faultMark b 2 m n place ≡ markText b m n place
-unfolding faultMark markText choice first others
+fault-mark : (b : Day) (m n place : ℕ) → faultMark b 2 m n place ≡ faultyMarkText b m n place
+unfolding faultMark faultyMarkText choice first others
 fault-mark b m n place =
     ap (λ (t : List ℕ). fill (ascii "<path d='M~,0v1'><title>") (m ∷ []) ++ momentText b m ++ ascii ": " ++ faultText n place ++ t) plain
 
@@ -165,24 +165,24 @@ mark-step b m (Refused n) ts = ap (λ (t : List ℕ). t ++ joined ts) (fault-mar
 mark-step b m (Unreadable place) ts = ap (λ (t : List ℕ). t ++ joined ts) (fault-mark b m 7 place)
 
 marks-opened : (b : Day) (j : Bool) (e : Entry) (l : List Entry) → layerText b 2 j (e ∷ l) ≡ drawing.markText b 2 (e .minute) (replyIn e) ++ layerText b 2 false l
-unfolding layerText partText goesOn
+unfolding layerText partText lineGoesOn
 marks-opened b j e l = refl
 
-pub marks-of : (b : Day) (j : Bool) (l : List Entry) → layerText b 2 j l ≡ joined (marks b l)
-marks-of b j [] = unfold layerText in unfold marks in unfold joined in refl
+pub marks-of : (b : Day) (j : Bool) (l : List Entry) → layerText b 2 j l ≡ joined (faultyMarks b l)
+marks-of b j [] = unfold layerText in unfold faultyMarks in unfold joined in refl
 marks-of b j (e ∷ l) =
     marks-opened b j e l ∙ ap (λ (t : List ℕ). drawing.markText b 2 (e .minute) (replyIn e) ++ t) (marks-of b false l)
-    ∙ mark-step b (e .minute) (replyIn e) (marks b l) ∙ ap joined (unfold marks in refl)
+    ∙ mark-step b (e .minute) (replyIn e) (faultyMarks b l) ∙ ap joined (unfold faultyMarks in refl)
 
 each-step : (b : Day) (m : ℕ) (reply : Reply) (ts : List (List ℕ)) → length (markIn b m reply ++ ts) ≡ faultIn reply + length ts
 each-step b m (Read r) ts = omega arith
 each-step b m (Refused n) ts = omega arith
 each-step b m (Unreadable place) ts = omega arith
 
-each-of : (b : Day) (l : List Entry) → length (marks b l) ≡ faults l
-unfolding marks faults
+each-of : (b : Day) (l : List Entry) → length (faultyMarks b l) ≡ faults l
+unfolding faultyMarks faults
 each-of b [] = refl
-each-of b (e ∷ l) = each-step b (e .minute) (replyIn e) (marks b l) ∙ ap (λ (n : ℕ). faultIn (replyIn e) + n) (each-of b l)
+each-of b (e ∷ l) = each-step b (e .minute) (replyIn e) (faultyMarks b l) ∙ ap (λ (n : ℕ). faultIn (replyIn e) + n) (each-of b l)
 
 -- the alarms, on either layer
 one-of : (b : Bool) (t : List ℕ) (ts : List (List ℕ)) → pick b t [] ++ joined ts ≡ joined (pick b (t ∷ []) [] ++ ts)
@@ -207,11 +207,11 @@ unfolding alarms
 alarms-opened which e l = refl
 
 layer3-opened : (b : Day) (j : Bool) (e : Entry) (l : List Entry) → layerText b 3 j (e ∷ l) ≡ drawing.markText b 3 (e .minute) (replyIn e) ++ layerText b 3 false l
-unfolding layerText partText goesOn
+unfolding layerText partText lineGoesOn
 layer3-opened b j e l = refl
 
 layer4-opened : (b : Day) (j : Bool) (e : Entry) (l : List Entry) → layerText b 4 j (e ∷ l) ≡ drawing.markText b 4 (e .minute) (replyIn e) ++ layerText b 4 false l
-unfolding layerText partText goesOn
+unfolding layerText partText lineGoesOn
 layer4-opened b j e l = refl
 
 pub alarm1-of : (b : Day) (j : Bool) (l : List Entry) → layerText b 3 j l ≡ joined (alarms (λ r. r .alarm1) l)

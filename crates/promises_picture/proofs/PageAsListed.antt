@@ -19,11 +19,11 @@ use Rattle.sheet.specs.Record.{Entry}
 use Rattle.sheet.specs.Slots.{sizeAllowed, listOf}
 use Rattle.summary.specs.declared.Line.{Line}
 use Rattle.summary.specs.Line.{pairOf}
-use Rattle.summary.specs.Worked.{replyIn, ofPair, goodLevels, faults, lowestOf, highestOf, figures, lineFor, keptPairs, inOrder, outside}
+use Rattle.summary.specs.Worked.{replyIn, ofPair, goodLevels, faults, lowestOf, highestOf, figures, lineFor, keptPairs, inOrder, otherRecords}
 use Rattle.summary.proofs.PairFigures.{pair-line}
 use Rattle.cards.specs.declared.counting.Tally.{Tally}
 use Rattle.cards.specs.Tally.{tallyOf}
-use Rattle.listing.specs.Text.{ascii, decimal}
+use Rattle.listing.specs.Text.{ascii, inDecimal}
 use Rattle.listing.specs.Calls.{Writes, writeFault}
 use Rattle.calendar.specs.declared.counting.Day.{Day}
 use Rattle.calendar.specs.Days.{daysFrom}
@@ -37,7 +37,7 @@ use Rattle.layers.specs.Gauged.{gaugedOf}
 use Rattle.picture.specs.Axis.{axisOf}
 use Rattle.picture.specs.Page as page
 use Rattle.picture.specs.Page.{headingText, valueText, labelText, scaleText, beginText, frameText, levelRow, heatRow, markRow, tickText, dayOnAxis, daysText, rowsText, boundText, lastText, heatText, offText, kindsText, levelsText, figuresText, sectionText, sectionsText, styleText, legendText, whenText, othersText, countsText, topText, linesFor, pageOf}
-use Rattle.promises_picture.specs.Drawn.{pointIn, heatIn, runsBy, linesText, markText, markIn, marks, joined, alarmIn, alarms}
+use Rattle.promises_picture.specs.Drawn.{pointIn, heatIn, runsBy, linesText, faultyMarkText, markIn, faultyMarks, joined, alarmIn, alarms}
 use Rattle.promises_picture.specs.Reader.{upTo, nameOf, alike, oneOf, closes, passedOver, readOf, plain}
 use Rattle.promises_picture.specs.OnPage.{titled, drawn, barOf, barIn, bars, wordsOf, wordsIn, inWords, dotIn, dots, levelsOf, heatsOf, picturesOf, tableOf, sectionOf, sectionsOf, aboveOf, PageAsListed}
 use Rattle.promises_picture.proofs.Read.{Part, nothing-said, then, text-is, says-is, a-tag, quiet-tag, lacks, words-first, form-next, all-words, one-number}
@@ -269,17 +269,17 @@ lacks-small : lacks (ascii " <small>") ≡ true
 unfolding lacks
 lacks-small = refl
 
-heading-form : (n : ℕ) → ascii "<section><h2>" ++ (decimal n ++ ascii " <small>") ≡ fill (ascii "<section><h2>~ <small>") (n ∷ [])
+heading-form : (n : ℕ) → ascii "<section><h2>" ++ (inDecimal n ++ ascii " <small>") ≡ fill (ascii "<section><h2>~ <small>") (n ∷ [])
 heading-form n = sym (one-number (ascii "<section><h2>") (ascii " <small>") n lacks-heading lacks-small)
 
-heading-is : (x : Line) → (ascii "<section>" ++ (ascii "<h2>" ++ (decimal (x .address) ++ (ascii " " ++ ascii "<small>")))) ++ modeText (x .settings) ++ ascii "; " ++ typeText (x .settings) ++ ascii "</small></h2>\n" ≡ headingText x
+heading-is : (x : Line) → (ascii "<section>" ++ (ascii "<h2>" ++ (inDecimal (x .address) ++ (ascii " " ++ ascii "<small>")))) ++ modeText (x .settings) ++ ascii "; " ++ typeText (x .settings) ++ ascii "</small></h2>\n" ≡ headingText x
 unfolding headingText
 heading-is x = ap (λ (f : List ℕ). f ++ modeText (x .settings) ++ ascii "; " ++ typeText (x .settings) ++ ascii "</small></h2>\n") (heading-form (x .address))
 
-heading-part : (x : Line) → Part (headingText x) (ascii "section>" ∷ (ascii "h2>" ++ decimal (x .address) ++ ascii " ") ∷ [])
+heading-part : (x : Line) → Part (headingText x) (ascii "section>" ∷ (ascii "h2>" ++ inDecimal (x .address) ++ ascii " ") ∷ [])
 heading-part x =
     text-is
-    (heading-flat (ascii "<section>") (ascii "<h2>") (decimal (x .address)) (ascii " ") (ascii "<small>") (modeText (x .settings)) (ascii "; ") (typeText (x .settings)) (ascii "</small></h2>\n") ∙ heading-is x)
+    (heading-flat (ascii "<section>") (ascii "<h2>") (inDecimal (x .address)) (ascii " ") (ascii "<small>") (modeText (x .settings)) (ascii "; ") (typeText (x .settings)) (ascii "</small></h2>\n") ∙ heading-is x)
     (then (section-tag none) (then (h2-tag (join (number (x .address)) blank)) (then (small-tag (join (join (a-mode (x .settings)) semicolon) (a-type (x .settings)))) heading-end)))
 
 -- the rows: a scale, which says nothing that is read, and a frame
@@ -341,7 +341,7 @@ view-4 = record { is = refl }
 
 abbrev viewOf : ℕ → ℕ → ℕ → ℕ → ℕ → List ℕ
 viewOf n from top span height =
-    decimal n ++ (ascii "' viewBox='" ++ (decimal from ++ (ascii " -" ++ (decimal top ++ (ascii " " ++ (decimal span ++ (ascii " " ++ (decimal height ++ ascii "' preserveAspectRatio='none' role='img'>"))))))))
+    inDecimal n ++ (ascii "' viewBox='" ++ (inDecimal from ++ (ascii " -" ++ (inDecimal top ++ (ascii " " ++ (inDecimal span ++ (ascii " " ++ (inDecimal height ++ ascii "' preserveAspectRatio='none' role='img'>"))))))))
 
 view-plain : (n from top span height : ℕ) → Plain (viewOf n from top span height)
 view-plain n from top span height =
@@ -375,9 +375,9 @@ lacks-view-6 : lacks (ascii ": ") ≡ true
 unfolding lacks
 lacks-view-6 = refl
 
-view-form : (n from top span height address : ℕ) → fill (ascii "<svg class='l~' viewBox='~ -~ ~ ~' preserveAspectRatio='none' role='img'><title>~: ") (n ∷ from ∷ top ∷ span ∷ height ∷ address ∷ []) ≡ ascii "<svg class='l" ++ (decimal n ++ (ascii "' viewBox='" ++ (decimal from ++ (ascii " -" ++ (decimal top ++ (ascii " " ++ (decimal span ++ (ascii " " ++ (decimal height ++ (ascii "' preserveAspectRatio='none' role='img'><title>" ++ (decimal address ++ (ascii ": "))))))))))))
+view-form : (n from top span height address : ℕ) → fill (ascii "<svg class='l~' viewBox='~ -~ ~ ~' preserveAspectRatio='none' role='img'><title>~: ") (n ∷ from ∷ top ∷ span ∷ height ∷ address ∷ []) ≡ ascii "<svg class='l" ++ (inDecimal n ++ (ascii "' viewBox='" ++ (inDecimal from ++ (ascii " -" ++ (inDecimal top ++ (ascii " " ++ (inDecimal span ++ (ascii " " ++ (inDecimal height ++ (ascii "' preserveAspectRatio='none' role='img'><title>" ++ (inDecimal address ++ (ascii ": "))))))))))))
 view-form n from top span height address =
-    form-next (ascii "<svg class='l") (ascii "' viewBox='~ -~ ~ ~' preserveAspectRatio='none' role='img'><title>~: ") n (from ∷ top ∷ span ∷ height ∷ address ∷ []) lacks-view-0 ∙ ap (λ (r : List ℕ). ascii "<svg class='l" ++ (decimal n ++ r)) (form-next (ascii "' viewBox='") (ascii " -~ ~ ~' preserveAspectRatio='none' role='img'><title>~: ") from (top ∷ span ∷ height ∷ address ∷ []) lacks-view-1 ∙ ap (λ (r : List ℕ). ascii "' viewBox='" ++ (decimal from ++ r)) (form-next (ascii " -") (ascii " ~ ~' preserveAspectRatio='none' role='img'><title>~: ") top (span ∷ height ∷ address ∷ []) lacks-view-2 ∙ ap (λ (r : List ℕ). ascii " -" ++ (decimal top ++ r)) (form-next (ascii " ") (ascii " ~' preserveAspectRatio='none' role='img'><title>~: ") span (height ∷ address ∷ []) lacks-view-3 ∙ ap (λ (r : List ℕ). ascii " " ++ (decimal span ++ r)) (form-next (ascii " ") (ascii "' preserveAspectRatio='none' role='img'><title>~: ") height (address ∷ []) lacks-view-4 ∙ ap (λ (r : List ℕ). ascii " " ++ (decimal height ++ r)) (form-next (ascii "' preserveAspectRatio='none' role='img'><title>") (ascii ": ") address ([]) lacks-view-5 ∙ ap (λ (r : List ℕ). ascii "' preserveAspectRatio='none' role='img'><title>" ++ (decimal address ++ r)) (all-words (ascii ": ") [] lacks-view-6))))))
+    form-next (ascii "<svg class='l") (ascii "' viewBox='~ -~ ~ ~' preserveAspectRatio='none' role='img'><title>~: ") n (from ∷ top ∷ span ∷ height ∷ address ∷ []) lacks-view-0 ∙ ap (λ (r : List ℕ). ascii "<svg class='l" ++ (inDecimal n ++ r)) (form-next (ascii "' viewBox='") (ascii " -~ ~ ~' preserveAspectRatio='none' role='img'><title>~: ") from (top ∷ span ∷ height ∷ address ∷ []) lacks-view-1 ∙ ap (λ (r : List ℕ). ascii "' viewBox='" ++ (inDecimal from ++ r)) (form-next (ascii " -") (ascii " ~ ~' preserveAspectRatio='none' role='img'><title>~: ") top (span ∷ height ∷ address ∷ []) lacks-view-2 ∙ ap (λ (r : List ℕ). ascii " -" ++ (inDecimal top ++ r)) (form-next (ascii " ") (ascii " ~' preserveAspectRatio='none' role='img'><title>~: ") span (height ∷ address ∷ []) lacks-view-3 ∙ ap (λ (r : List ℕ). ascii " " ++ (inDecimal span ++ r)) (form-next (ascii " ") (ascii "' preserveAspectRatio='none' role='img'><title>~: ") height (address ∷ []) lacks-view-4 ∙ ap (λ (r : List ℕ). ascii " " ++ (inDecimal height ++ r)) (form-next (ascii "' preserveAspectRatio='none' role='img'><title>") (ascii ": ") address ([]) lacks-view-5 ∙ ap (λ (r : List ℕ). ascii "' preserveAspectRatio='none' role='img'><title>" ++ (inDecimal address ++ r)) (all-words (ascii ": ") [] lacks-view-6))))))
 
 -- a frame: its view is passed over, its title is read, then what is drawn in it
 path-end : Plain (ascii "'/>")
@@ -447,7 +447,7 @@ end-0 = refl
 ended-0 : ascii "'/></g></svg></div>\n" ≡ fill (choice 0 (ascii "'/></g></svg></div>\n|'/></g></svg></div>\n|</g></svg></div>\n|</g></svg></div>\n|</g></svg></div>\n")) []
 ended-0 = sym (ap (λ (f : List ℕ). fill f []) end-0 ∙ all-words (ascii "'/></g></svg></div>\n") [] lacks-end-0)
 
-begun-0 : (address from top span height : ℕ) → (ascii "<svg class='l" ++ (decimal 0 ++ (ascii "' viewBox='" ++ (decimal from ++ (ascii " -" ++ (decimal top ++ (ascii " " ++ (decimal span ++ (ascii " " ++ (decimal height ++ (ascii "' preserveAspectRatio='none' role='img'>" ++ (ascii "<title>" ++ (decimal address ++ ascii ": ")))))))))))) ++ ascii "level</title><desc>a point for each good reply, at its minute and level, joined where no faulty reply lies between</desc><g transform='scale(1,-1)'><path d='") ≡ beginText 0 address from top span height
+begun-0 : (address from top span height : ℕ) → (ascii "<svg class='l" ++ (inDecimal 0 ++ (ascii "' viewBox='" ++ (inDecimal from ++ (ascii " -" ++ (inDecimal top ++ (ascii " " ++ (inDecimal span ++ (ascii " " ++ (inDecimal height ++ (ascii "' preserveAspectRatio='none' role='img'>" ++ (ascii "<title>" ++ (inDecimal address ++ ascii ": ")))))))))))) ++ ascii "level</title><desc>a point for each good reply, at its minute and level, joined where no faulty reply lies between</desc><g transform='scale(1,-1)'><path d='") ≡ beginText 0 address from top span height
 unfolding beginText
 begun-0 address from top span height =
     let view = sym (view-form 0 from top span height address) in
@@ -459,7 +459,7 @@ unfolding drawn
 frame-0 address from top span height {line} p =
     let whole = begun-0 address from top span height in
     text-is
-    (frame-flat (ascii "<svg class='l") (decimal 0) (ascii "' viewBox='") (decimal from) (ascii " -") (decimal top) (ascii " ") (decimal span) (ascii " ") (decimal height) (ascii "' preserveAspectRatio='none' role='img'>") (ascii "<title>") (decimal address) (ascii ": ") (ascii "level") (ascii "</title><desc>a point for each good reply, at its minute and level, joined where no faulty reply lies between</desc><g transform='scale(1,-1)'><path d='") line (ascii "'/></g></svg></div>\n") ∙ (λ i. whole i ++ (line ++ ended-0 i)))
+    (frame-flat (ascii "<svg class='l") (inDecimal 0) (ascii "' viewBox='") (inDecimal from) (ascii " -") (inDecimal top) (ascii " ") (inDecimal span) (ascii " ") (inDecimal height) (ascii "' preserveAspectRatio='none' role='img'>") (ascii "<title>") (inDecimal address) (ascii ": ") (ascii "level") (ascii "</title><desc>a point for each good reply, at its minute and level, joined where no faulty reply lies between</desc><g transform='scale(1,-1)'><path d='") line (ascii "'/></g></svg></div>\n") ∙ (λ i. whole i ++ (line ++ ended-0 i)))
     (then (svg-tag (view-plain 0 from top span height)) (then (title-tag (join (number address) called-0)) (then described-0 (text-is (append-assoc (ascii "<path d='") (line ++ ascii "'/>") (ascii "</g></svg></div>\n") ∙ ap (λ (r : List ℕ). ascii "<path d='" ++ r) (append-assoc line (ascii "'/>") (ascii "</g></svg></div>\n"))) (then (path-tag (join p path-end)) frame-end)))))
 
 lacks-body-1 : lacks (ascii "temperature</title><desc>a point for each good reply that has a temperature, joined where no other reply lies between</desc><g transform='scale(1,-1)'><path d='") ≡ true
@@ -481,7 +481,7 @@ end-1 = refl
 ended-1 : ascii "'/></g></svg></div>\n" ≡ fill (choice 1 (ascii "'/></g></svg></div>\n|'/></g></svg></div>\n|</g></svg></div>\n|</g></svg></div>\n|</g></svg></div>\n")) []
 ended-1 = sym (ap (λ (f : List ℕ). fill f []) end-1 ∙ all-words (ascii "'/></g></svg></div>\n") [] lacks-end-1)
 
-begun-1 : (address from top span height : ℕ) → (ascii "<svg class='l" ++ (decimal 1 ++ (ascii "' viewBox='" ++ (decimal from ++ (ascii " -" ++ (decimal top ++ (ascii " " ++ (decimal span ++ (ascii " " ++ (decimal height ++ (ascii "' preserveAspectRatio='none' role='img'>" ++ (ascii "<title>" ++ (decimal address ++ ascii ": ")))))))))))) ++ ascii "temperature</title><desc>a point for each good reply that has a temperature, joined where no other reply lies between</desc><g transform='scale(1,-1)'><path d='") ≡ beginText 1 address from top span height
+begun-1 : (address from top span height : ℕ) → (ascii "<svg class='l" ++ (inDecimal 1 ++ (ascii "' viewBox='" ++ (inDecimal from ++ (ascii " -" ++ (inDecimal top ++ (ascii " " ++ (inDecimal span ++ (ascii " " ++ (inDecimal height ++ (ascii "' preserveAspectRatio='none' role='img'>" ++ (ascii "<title>" ++ (inDecimal address ++ ascii ": ")))))))))))) ++ ascii "temperature</title><desc>a point for each good reply that has a temperature, joined where no other reply lies between</desc><g transform='scale(1,-1)'><path d='") ≡ beginText 1 address from top span height
 unfolding beginText
 begun-1 address from top span height =
     let view = sym (view-form 1 from top span height address) in
@@ -493,7 +493,7 @@ unfolding drawn
 frame-1 address from top span height {line} p =
     let whole = begun-1 address from top span height in
     text-is
-    (frame-flat (ascii "<svg class='l") (decimal 1) (ascii "' viewBox='") (decimal from) (ascii " -") (decimal top) (ascii " ") (decimal span) (ascii " ") (decimal height) (ascii "' preserveAspectRatio='none' role='img'>") (ascii "<title>") (decimal address) (ascii ": ") (ascii "temperature") (ascii "</title><desc>a point for each good reply that has a temperature, joined where no other reply lies between</desc><g transform='scale(1,-1)'><path d='") line (ascii "'/></g></svg></div>\n") ∙ (λ i. whole i ++ (line ++ ended-1 i)))
+    (frame-flat (ascii "<svg class='l") (inDecimal 1) (ascii "' viewBox='") (inDecimal from) (ascii " -") (inDecimal top) (ascii " ") (inDecimal span) (ascii " ") (inDecimal height) (ascii "' preserveAspectRatio='none' role='img'>") (ascii "<title>") (inDecimal address) (ascii ": ") (ascii "temperature") (ascii "</title><desc>a point for each good reply that has a temperature, joined where no other reply lies between</desc><g transform='scale(1,-1)'><path d='") line (ascii "'/></g></svg></div>\n") ∙ (λ i. whole i ++ (line ++ ended-1 i)))
     (then (svg-tag (view-plain 1 from top span height)) (then (title-tag (join (number address) called-1)) (then described-1 (text-is (append-assoc (ascii "<path d='") (line ++ ascii "'/>") (ascii "</g></svg></div>\n") ∙ ap (λ (r : List ℕ). ascii "<path d='" ++ r) (append-assoc line (ascii "'/>") (ascii "</g></svg></div>\n"))) (then (path-tag (join p path-end)) frame-end)))))
 
 lacks-body-2 : lacks (ascii "faulty replies</title><desc>a bar for each, at its minute</desc><g>") ≡ true
@@ -515,7 +515,7 @@ end-2 = refl
 ended-2 : ascii "</g></svg></div>\n" ≡ fill (choice 2 (ascii "'/></g></svg></div>\n|'/></g></svg></div>\n|</g></svg></div>\n|</g></svg></div>\n|</g></svg></div>\n")) []
 ended-2 = sym (ap (λ (f : List ℕ). fill f []) end-2 ∙ all-words (ascii "</g></svg></div>\n") [] lacks-end-2)
 
-begun-2 : (address from top span height : ℕ) → (ascii "<svg class='l" ++ (decimal 2 ++ (ascii "' viewBox='" ++ (decimal from ++ (ascii " -" ++ (decimal top ++ (ascii " " ++ (decimal span ++ (ascii " " ++ (decimal height ++ (ascii "' preserveAspectRatio='none' role='img'>" ++ (ascii "<title>" ++ (decimal address ++ ascii ": ")))))))))))) ++ ascii "faulty replies</title><desc>a bar for each, at its minute</desc><g>") ≡ beginText 2 address from top span height
+begun-2 : (address from top span height : ℕ) → (ascii "<svg class='l" ++ (inDecimal 2 ++ (ascii "' viewBox='" ++ (inDecimal from ++ (ascii " -" ++ (inDecimal top ++ (ascii " " ++ (inDecimal span ++ (ascii " " ++ (inDecimal height ++ (ascii "' preserveAspectRatio='none' role='img'>" ++ (ascii "<title>" ++ (inDecimal address ++ ascii ": ")))))))))))) ++ ascii "faulty replies</title><desc>a bar for each, at its minute</desc><g>") ≡ beginText 2 address from top span height
 unfolding beginText
 begun-2 address from top span height =
     let view = sym (view-form 2 from top span height address) in
@@ -526,7 +526,7 @@ frame-2 : (address from top span height : ℕ) {line : List ℕ} {ts : List (Lis
 frame-2 address from top span height {line} {ts} p =
     let whole = begun-2 address from top span height in
     text-is
-    (frame-flat (ascii "<svg class='l") (decimal 2) (ascii "' viewBox='") (decimal from) (ascii " -") (decimal top) (ascii " ") (decimal span) (ascii " ") (decimal height) (ascii "' preserveAspectRatio='none' role='img'>") (ascii "<title>") (decimal address) (ascii ": ") (ascii "faulty replies") (ascii "</title><desc>a bar for each, at its minute</desc><g>") line (ascii "</g></svg></div>\n") ∙ (λ i. whole i ++ (line ++ ended-2 i)))
+    (frame-flat (ascii "<svg class='l") (inDecimal 2) (ascii "' viewBox='") (inDecimal from) (ascii " -") (inDecimal top) (ascii " ") (inDecimal span) (ascii " ") (inDecimal height) (ascii "' preserveAspectRatio='none' role='img'>") (ascii "<title>") (inDecimal address) (ascii ": ") (ascii "faulty replies") (ascii "</title><desc>a bar for each, at its minute</desc><g>") line (ascii "</g></svg></div>\n") ∙ (λ i. whole i ++ (line ++ ended-2 i)))
     (then (svg-tag (view-plain 2 from top span height)) (then (title-tag (join (number address) called-2)) (then described-2 (then p frame-end))))
 
 lacks-body-3 : lacks (ascii "alarm 1</title><desc>a round dot for each good reply that has it</desc><g>") ≡ true
@@ -548,7 +548,7 @@ end-3 = refl
 ended-3 : ascii "</g></svg></div>\n" ≡ fill (choice 3 (ascii "'/></g></svg></div>\n|'/></g></svg></div>\n|</g></svg></div>\n|</g></svg></div>\n|</g></svg></div>\n")) []
 ended-3 = sym (ap (λ (f : List ℕ). fill f []) end-3 ∙ all-words (ascii "</g></svg></div>\n") [] lacks-end-3)
 
-begun-3 : (address from top span height : ℕ) → (ascii "<svg class='l" ++ (decimal 3 ++ (ascii "' viewBox='" ++ (decimal from ++ (ascii " -" ++ (decimal top ++ (ascii " " ++ (decimal span ++ (ascii " " ++ (decimal height ++ (ascii "' preserveAspectRatio='none' role='img'>" ++ (ascii "<title>" ++ (decimal address ++ ascii ": ")))))))))))) ++ ascii "alarm 1</title><desc>a round dot for each good reply that has it</desc><g>") ≡ beginText 3 address from top span height
+begun-3 : (address from top span height : ℕ) → (ascii "<svg class='l" ++ (inDecimal 3 ++ (ascii "' viewBox='" ++ (inDecimal from ++ (ascii " -" ++ (inDecimal top ++ (ascii " " ++ (inDecimal span ++ (ascii " " ++ (inDecimal height ++ (ascii "' preserveAspectRatio='none' role='img'>" ++ (ascii "<title>" ++ (inDecimal address ++ ascii ": ")))))))))))) ++ ascii "alarm 1</title><desc>a round dot for each good reply that has it</desc><g>") ≡ beginText 3 address from top span height
 unfolding beginText
 begun-3 address from top span height =
     let view = sym (view-form 3 from top span height address) in
@@ -559,7 +559,7 @@ frame-3 : (address from top span height : ℕ) {line : List ℕ} {ts : List (Lis
 frame-3 address from top span height {line} {ts} p =
     let whole = begun-3 address from top span height in
     text-is
-    (frame-flat (ascii "<svg class='l") (decimal 3) (ascii "' viewBox='") (decimal from) (ascii " -") (decimal top) (ascii " ") (decimal span) (ascii " ") (decimal height) (ascii "' preserveAspectRatio='none' role='img'>") (ascii "<title>") (decimal address) (ascii ": ") (ascii "alarm 1") (ascii "</title><desc>a round dot for each good reply that has it</desc><g>") line (ascii "</g></svg></div>\n") ∙ (λ i. whole i ++ (line ++ ended-3 i)))
+    (frame-flat (ascii "<svg class='l") (inDecimal 3) (ascii "' viewBox='") (inDecimal from) (ascii " -") (inDecimal top) (ascii " ") (inDecimal span) (ascii " ") (inDecimal height) (ascii "' preserveAspectRatio='none' role='img'>") (ascii "<title>") (inDecimal address) (ascii ": ") (ascii "alarm 1") (ascii "</title><desc>a round dot for each good reply that has it</desc><g>") line (ascii "</g></svg></div>\n") ∙ (λ i. whole i ++ (line ++ ended-3 i)))
     (then (svg-tag (view-plain 3 from top span height)) (then (title-tag (join (number address) called-3)) (then described-3 (then p frame-end))))
 
 lacks-body-4 : lacks (ascii "alarm 0</title><desc>a square dot for each good reply that has it</desc><g>") ≡ true
@@ -581,7 +581,7 @@ end-4 = refl
 ended-4 : ascii "</g></svg></div>\n" ≡ fill (choice 4 (ascii "'/></g></svg></div>\n|'/></g></svg></div>\n|</g></svg></div>\n|</g></svg></div>\n|</g></svg></div>\n")) []
 ended-4 = sym (ap (λ (f : List ℕ). fill f []) end-4 ∙ all-words (ascii "</g></svg></div>\n") [] lacks-end-4)
 
-begun-4 : (address from top span height : ℕ) → (ascii "<svg class='l" ++ (decimal 4 ++ (ascii "' viewBox='" ++ (decimal from ++ (ascii " -" ++ (decimal top ++ (ascii " " ++ (decimal span ++ (ascii " " ++ (decimal height ++ (ascii "' preserveAspectRatio='none' role='img'>" ++ (ascii "<title>" ++ (decimal address ++ ascii ": ")))))))))))) ++ ascii "alarm 0</title><desc>a square dot for each good reply that has it</desc><g>") ≡ beginText 4 address from top span height
+begun-4 : (address from top span height : ℕ) → (ascii "<svg class='l" ++ (inDecimal 4 ++ (ascii "' viewBox='" ++ (inDecimal from ++ (ascii " -" ++ (inDecimal top ++ (ascii " " ++ (inDecimal span ++ (ascii " " ++ (inDecimal height ++ (ascii "' preserveAspectRatio='none' role='img'>" ++ (ascii "<title>" ++ (inDecimal address ++ ascii ": ")))))))))))) ++ ascii "alarm 0</title><desc>a square dot for each good reply that has it</desc><g>") ≡ beginText 4 address from top span height
 unfolding beginText
 begun-4 address from top span height =
     let view = sym (view-form 4 from top span height address) in
@@ -592,7 +592,7 @@ frame-4 : (address from top span height : ℕ) {line : List ℕ} {ts : List (Lis
 frame-4 address from top span height {line} {ts} p =
     let whole = begun-4 address from top span height in
     text-is
-    (frame-flat (ascii "<svg class='l") (decimal 4) (ascii "' viewBox='") (decimal from) (ascii " -") (decimal top) (ascii " ") (decimal span) (ascii " ") (decimal height) (ascii "' preserveAspectRatio='none' role='img'>") (ascii "<title>") (decimal address) (ascii ": ") (ascii "alarm 0") (ascii "</title><desc>a square dot for each good reply that has it</desc><g>") line (ascii "</g></svg></div>\n") ∙ (λ i. whole i ++ (line ++ ended-4 i)))
+    (frame-flat (ascii "<svg class='l") (inDecimal 4) (ascii "' viewBox='") (inDecimal from) (ascii " -") (inDecimal top) (ascii " ") (inDecimal span) (ascii " ") (inDecimal height) (ascii "' preserveAspectRatio='none' role='img'>") (ascii "<title>") (inDecimal address) (ascii ": ") (ascii "alarm 0") (ascii "</title><desc>a square dot for each good reply that has it</desc><g>") line (ascii "</g></svg></div>\n") ∙ (λ i. whole i ++ (line ++ ended-4 i)))
     (then (svg-tag (view-plain 4 from top span height)) (then (title-tag (join (number address) called-4)) (then described-4 (then p frame-end))))
 
 -- the marks of the faulty replies, and the same in words
@@ -631,31 +631,31 @@ lacks-bar-end : lacks (ascii ",0v1'>") ≡ true
 unfolding lacks
 lacks-bar-end = refl
 
-bar-form : (m : ℕ) → ascii "<path d='M" ++ (decimal m ++ ascii ",0v1'><title>") ≡ fill (ascii "<path d='M~,0v1'><title>") (m ∷ [])
+bar-form : (m : ℕ) → ascii "<path d='M" ++ (inDecimal m ++ ascii ",0v1'><title>") ≡ fill (ascii "<path d='M~,0v1'><title>") (m ∷ [])
 bar-form m = sym (one-number (ascii "<path d='M") (ascii ",0v1'><title>") m lacks-bar lacks-bar-title)
 
-bar-is : (b : Day) (m n place : ℕ) → (ascii "<path d='M" ++ (decimal m ++ (ascii ",0v1'>" ++ ascii "<title>"))) ++ momentText b m ++ ascii ": " ++ faultText n place ++ ascii "</title></path>" ≡ markText b m n place
-unfolding markText
+bar-is : (b : Day) (m n place : ℕ) → (ascii "<path d='M" ++ (inDecimal m ++ (ascii ",0v1'>" ++ ascii "<title>"))) ++ momentText b m ++ ascii ": " ++ faultText n place ++ ascii "</title></path>" ≡ faultyMarkText b m n place
+unfolding faultyMarkText
 bar-is b m n place = ap (λ (f : List ℕ). f ++ momentText b m ++ ascii ": " ++ faultText n place ++ ascii "</title></path>") (bar-form m)
 
-bar-read : (b : Day) (m n place : ℕ) → (ascii "path d='M" ++ (decimal m ++ ascii ",0v1'>")) ∷ (ascii "title>" ++ (momentText b m ++ ascii ": " ++ faultText n place)) ∷ [] ≡ barOf b m n place
+bar-read : (b : Day) (m n place : ℕ) → (ascii "path d='M" ++ (inDecimal m ++ ascii ",0v1'>")) ∷ (ascii "title>" ++ (momentText b m ++ ascii ": " ++ faultText n place)) ∷ [] ≡ barOf b m n place
 unfolding barOf
 bar-read b m n place =
     ap (λ (f : List ℕ). f ∷ (ascii "title>" ++ (momentText b m ++ ascii ": " ++ faultText n place)) ∷ []) (sym (one-number (ascii "path d='M") (ascii ",0v1'>") m lacks-bar-read lacks-bar-end))
 
-bar-part : (b : Day) (m n place : ℕ) → Part (markText b m n place) (barOf b m n place)
+bar-part : (b : Day) (m n place : ℕ) → Part (faultyMarkText b m n place) (barOf b m n place)
 bar-part b m n place =
     says-is
     (bar-read b m n place)
     (text-is
-    (mark-flat (ascii "<path d='M") (decimal m) (ascii ",0v1'>") (ascii "<title>") (momentText b m) (ascii ": ") (faultText n place) (ascii "</title></path>") ∙ bar-is b m n place)
+    (mark-flat (ascii "<path d='M") (inDecimal m) (ascii ",0v1'>") (ascii "<title>") (momentText b m) (ascii ": ") (faultText n place) (ascii "</title></path>") ∙ bar-is b m n place)
     (then (mark-tag (join (number m) bar-end)) (then (title-tag (fault-words b m n place)) mark-end)))
 
 mark-part : (b : Day) (m : ℕ) (reply : Reply) → Part (joined (markIn b m reply)) (barIn b m reply)
 unfolding joined
 mark-part b m (Read r) = nothing-said
-mark-part b m (Refused n) = text-is (sym (append-nil (markText b m n 0))) (bar-part b m n 0)
-mark-part b m (Unreadable place) = text-is (sym (append-nil (markText b m 7 place))) (bar-part b m 7 place)
+mark-part b m (Refused n) = text-is (sym (append-nil (faultyMarkText b m n 0))) (bar-part b m n 0)
+mark-part b m (Unreadable place) = text-is (sym (append-nil (faultyMarkText b m 7 place))) (bar-part b m 7 place)
 
 joined-none : [] ≡ joined []
 unfolding joined
@@ -666,11 +666,11 @@ unfolding joined
 joined-both [] us = refl
 joined-both (t ∷ ts) us = append-assoc t (joined ts) (joined us) ∙ ap (λ (r : List ℕ). t ++ r) (joined-both ts us)
 
-marks-part : (b : Day) (l : List Entry) → Part (joined (marks b l)) (bars b l)
-unfolding marks bars
+marks-part : (b : Day) (l : List Entry) → Part (joined (faultyMarks b l)) (bars b l)
+unfolding faultyMarks bars
 marks-part b [] = text-is joined-none nothing-said
 marks-part b (e ∷ l) =
-    text-is (joined-both (markIn b (e .minute) (replyIn e)) (marks b l)) (then (mark-part b (e .minute) (replyIn e)) (marks-part b l))
+    text-is (joined-both (markIn b (e .minute) (replyIn e)) (faultyMarks b l)) (then (mark-part b (e .minute) (replyIn e)) (marks-part b l))
 
 -- the alarms
 dot-end : Plain (ascii ",0h1'/>")
@@ -725,7 +725,7 @@ word-part b m (Refused n) = text-is (said-as b m n 0) (item-part b m n 0)
 word-part b m (Unreadable place) = text-is (said-as b m 7 place) (item-part b m 7 place)
 
 words-opened : (b : Day) (j : Bool) (e : Entry) (l : List Entry) → drawing.markText b 5 (e .minute) (replyIn e) ++ layerText b 5 false l ≡ layerText b 5 j (e ∷ l)
-unfolding layerText drawing.partText drawing.goesOn
+unfolding layerText drawing.partText drawing.lineGoesOn
 words-opened b j e l = refl
 
 words-none : (b : Day) (j : Bool) → [] ≡ layerText b 5 j []
@@ -927,7 +927,7 @@ module _ (l : List Entry) (begin : Day) (from to k : ℕ) where
 
   -- what is read of its parts
   abbrev headRead : List (List ℕ)
-  headRead = ascii "section>" ∷ (ascii "h2>" ++ decimal (x .address) ++ ascii " ") ∷ []
+  headRead = ascii "section>" ∷ (ascii "h2>" ++ inDecimal (x .address) ++ ascii " ") ∷ []
 
   abbrev levelRead : List (List ℕ)
   levelRead = pick (eqb (x .good) 0) [] (titled (x .address) "level" ∷ drawn (linesText (runsBy pointIn m)) ∷ [])
@@ -1020,9 +1020,9 @@ lacks-counts-4 : lacks (ascii " foreign</p>\n<p>") ≡ true
 unfolding lacks
 lacks-counts-4 = refl
 
-counts-form : (a b c d : ℕ) → fill (ascii "</h1><p>~ slots: ~ records, ~ spoiled, ~ foreign</p>\n<p>") (a ∷ b ∷ c ∷ d ∷ []) ≡ ascii "</h1><p>" ++ (decimal a ++ (ascii " slots: " ++ (decimal b ++ (ascii " records, " ++ (decimal c ++ (ascii " spoiled, " ++ (decimal d ++ (ascii " foreign</p>\n<p>"))))))))
+counts-form : (a b c d : ℕ) → fill (ascii "</h1><p>~ slots: ~ records, ~ spoiled, ~ foreign</p>\n<p>") (a ∷ b ∷ c ∷ d ∷ []) ≡ ascii "</h1><p>" ++ (inDecimal a ++ (ascii " slots: " ++ (inDecimal b ++ (ascii " records, " ++ (inDecimal c ++ (ascii " spoiled, " ++ (inDecimal d ++ (ascii " foreign</p>\n<p>"))))))))
 counts-form a b c d =
-    form-next (ascii "</h1><p>") (ascii " slots: ~ records, ~ spoiled, ~ foreign</p>\n<p>") a (b ∷ c ∷ d ∷ []) lacks-counts-0 ∙ ap (λ (r : List ℕ). ascii "</h1><p>" ++ (decimal a ++ r)) (form-next (ascii " slots: ") (ascii " records, ~ spoiled, ~ foreign</p>\n<p>") b (c ∷ d ∷ []) lacks-counts-1 ∙ ap (λ (r : List ℕ). ascii " slots: " ++ (decimal b ++ r)) (form-next (ascii " records, ") (ascii " spoiled, ~ foreign</p>\n<p>") c (d ∷ []) lacks-counts-2 ∙ ap (λ (r : List ℕ). ascii " records, " ++ (decimal c ++ r)) (form-next (ascii " spoiled, ") (ascii " foreign</p>\n<p>") d ([]) lacks-counts-3 ∙ ap (λ (r : List ℕ). ascii " spoiled, " ++ (decimal d ++ r)) (all-words (ascii " foreign</p>\n<p>") [] lacks-counts-4))))
+    form-next (ascii "</h1><p>") (ascii " slots: ~ records, ~ spoiled, ~ foreign</p>\n<p>") a (b ∷ c ∷ d ∷ []) lacks-counts-0 ∙ ap (λ (r : List ℕ). ascii "</h1><p>" ++ (inDecimal a ++ r)) (form-next (ascii " slots: ") (ascii " records, ~ spoiled, ~ foreign</p>\n<p>") b (c ∷ d ∷ []) lacks-counts-1 ∙ ap (λ (r : List ℕ). ascii " slots: " ++ (inDecimal b ++ r)) (form-next (ascii " records, ") (ascii " spoiled, ~ foreign</p>\n<p>") c (d ∷ []) lacks-counts-2 ∙ ap (λ (r : List ℕ). ascii " records, " ++ (inDecimal c ++ r)) (form-next (ascii " spoiled, ") (ascii " foreign</p>\n<p>") d ([]) lacks-counts-3 ∙ ap (λ (r : List ℕ). ascii " spoiled, " ++ (inDecimal d ++ r)) (all-words (ascii " foreign</p>\n<p>") [] lacks-counts-4))))
 
 of-slots : Plain (ascii " slots: ")
 unfolding plain
@@ -1074,11 +1074,11 @@ others-part n = go (eqb n 0)
     rest : List ℕ
     rest = ascii " records are of further addresses and settings: the first 30 have a picture, and these have none."
 
-    form : ascii "<p>" ++ (decimal n ++ ascii " records are of further addresses and settings: the first 30 have a picture, and these have none.</p>\n") ≡ fill (ascii "<p>~ records are of further addresses and settings: the first 30 have a picture, and these have none.</p>\n") (n ∷ [])
+    form : ascii "<p>" ++ (inDecimal n ++ ascii " records are of further addresses and settings: the first 30 have a picture, and these have none.</p>\n") ≡ fill (ascii "<p>~ records are of further addresses and settings: the first 30 have a picture, and these have none.</p>\n") (n ∷ [])
     form = sym (one-number (ascii "<p>") (ascii " records are of further addresses and settings: the first 30 have a picture, and these have none.</p>\n") n lacks-p lacks-others)
 
-    joint : (60 ∷ (ascii "p>" ++ (decimal n ++ ascii " records are of further addresses and settings: the first 30 have a picture, and these have none."))) ++ ascii "</p>\n" ≡ ascii "<p>" ++ (decimal n ++ ascii " records are of further addresses and settings: the first 30 have a picture, and these have none.</p>\n")
-    joint = ap (λ (r : List ℕ). ascii "<p>" ++ r) (append-assoc (decimal n) (ascii " records are of further addresses and settings: the first 30 have a picture, and these have none.") (ascii "</p>\n"))
+    joint : (60 ∷ (ascii "p>" ++ (inDecimal n ++ ascii " records are of further addresses and settings: the first 30 have a picture, and these have none."))) ++ ascii "</p>\n" ≡ ascii "<p>" ++ (inDecimal n ++ ascii " records are of further addresses and settings: the first 30 have a picture, and these have none.</p>\n")
+    joint = ap (λ (r : List ℕ). ascii "<p>" ++ r) (append-assoc (inDecimal n) (ascii " records are of further addresses and settings: the first 30 have a picture, and these have none.") (ascii "</p>\n"))
 
     go : (t : Bool) → Part (pick t [] (fill (ascii "<p>~ records are of further addresses and settings: the first 30 have a picture, and these have none.</p>\n") (n ∷ []))) []
     go true = nothing-said
@@ -1110,7 +1110,7 @@ main-close = record { is = refl }
 
 main-part : (a b : ℕ) → Part (fill (ascii "<main style='--s:~;--d:~'>\n") (a ∷ b ∷ [])) []
 main-part a b =
-    let form : fill (ascii "<main style='--s:~;--d:~'>\n") (a ∷ b ∷ []) ≡ ascii "<main style='--s:" ++ (decimal a ++ (ascii ";--d:" ++ (decimal b ++ ascii "'>\n"))) = form-next (ascii "<main style='--s:") (ascii ";--d:~'>\n") a (b ∷ []) lacks-main ∙ ap (λ (r : List ℕ). ascii "<main style='--s:" ++ (decimal a ++ r)) (one-number (ascii ";--d:") (ascii "'>\n") b lacks-days lacks-main-end) in
+    let form : fill (ascii "<main style='--s:~;--d:~'>\n") (a ∷ b ∷ []) ≡ ascii "<main style='--s:" ++ (inDecimal a ++ (ascii ";--d:" ++ (inDecimal b ++ ascii "'>\n"))) = form-next (ascii "<main style='--s:") (ascii ";--d:~'>\n") a (b ∷ []) lacks-main ∙ ap (λ (r : List ℕ). ascii "<main style='--s:" ++ (inDecimal a ++ r)) (one-number (ascii ";--d:") (ascii "'>\n") b lacks-days lacks-main-end) in
     text-is (sym form) (main-tag (join (number a) (join of-days (join (number b) main-close))))
 
 module _ (name : List ℕ) (p : Plain name) (begin : Day) (t : Tally) where
@@ -1119,7 +1119,7 @@ module _ (name : List ℕ) (p : Plain name) (begin : Day) (t : Tally) where
   counts-part =
       let w = whenText begin t in
       text-is
-      (top-flat (ascii "<body>") (ascii "<h1>") name (ascii "</h1>") (ascii "<p>") (decimal (t .slots)) (ascii " slots: ") (decimal (t .records)) (ascii " records, ") (decimal (t .spoiled)) (ascii " spoiled, ") (decimal (t .foreign)) (ascii " foreign") (ascii "</p>\n") w []
+      (top-flat (ascii "<body>") (ascii "<h1>") name (ascii "</h1>") (ascii "<p>") (inDecimal (t .slots)) (ascii " slots: ") (inDecimal (t .records)) (ascii " records, ") (inDecimal (t .spoiled)) (ascii " spoiled, ") (inDecimal (t .foreign)) (ascii " foreign") (ascii "</p>\n") w []
       ∙ append-nil _
       ∙ ap (λ (f : List ℕ). ascii "<body><h1>" ++ name ++ f ++ w ++ ascii "</p>\n") (sym (counts-form (t .slots) (t .records) (t .spoiled) (t .foreign))))
       (then body-begun (then (h1-tag p) (then h1-end (then (p-tag (join (number (t .slots)) (join of-slots (join (number (t .records)) (join of-records (join (number (t .spoiled)) (join of-spoiled (join (number (t .foreign)) of-foreign)))))))) (then p-end (then (p-tag (when-plain begin t)) (then p-end nothing-said)))))))
@@ -1138,7 +1138,7 @@ unfolding pageOf
 page-part s name begin p =
     let l = listOf s in
     let t = tallyOf s in
-    then (then (then (style-part name p) (top-part name p begin t (outside (keptPairs l) l) (t .first) (t .last))) (sections-part l begin (t .first) (t .last) (inOrder (keptPairs l)))) page-end
+    then (then (then (style-part name p) (top-part name p begin t (otherRecords (keptPairs l) l) (t .first) (t .last))) (sections-part l begin (t .first) (t .last) (inOrder (keptPairs l)))) page-end
 
 nothing-read : readOf [] ≡ []
 unfolding readOf

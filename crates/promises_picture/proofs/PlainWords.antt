@@ -8,7 +8,7 @@ use lib.Dec.{eqb, ltb}
 use lib.ListN.{getD}
 use Rattle.frame.specs.Pick.{pick}
 use Rattle.summary.specs.Line.{noLevel}
-use Rattle.listing.specs.Text.{ascii, digit, decimal}
+use Rattle.listing.specs.Text.{ascii, digit, inDecimal}
 use Rattle.calendar.specs.declared.counting.Day.{Day}
 use Rattle.calendar.specs.Days.{daysFrom}
 use Rattle.forms.specs.Form.{fill, choice}
@@ -32,7 +32,7 @@ either {a} {b} t p q = record { is = plain-pick t a b (p .is) (q .is) }
 pub none : Plain []
 none = record { is = plain-none }
 
-pub number : (n : ℕ) → Plain (decimal n)
+pub number : (n : ℕ) → Plain (inDecimal n)
 number n = record { is = plain-decimal n }
 
 pub filled : (form ns : List ℕ) → plain form ≡ true → Plain (fill form ns)

@@ -9,7 +9,7 @@ use borrow.Author.Tests.{ne-eqb, lt-ltb, ltb-true}
 use lib.Dec.{eqb, ltb}
 use lib.ListN.{length, getD, drop}
 use Rattle.frame.specs.Pick.{pick}
-use Rattle.listing.specs.Text.{ascii, digit, digitsUpTo, decimal}
+use Rattle.listing.specs.Text.{ascii, digit, digitsUpTo, inDecimal}
 use Rattle.forms.specs.Form.{fill, first, others, choice}
 use Rattle.promises_picture.specs.Reader.{upTo, passedOver, readOf, plain}
 
@@ -128,7 +128,7 @@ plain-digits (suc most) n = go (ltb n 10) refl (plain-digits most (n / 10))
     go true e ih = plain-digit n (ltb-true n 10 e)
     go false e ih = plain-both (digitsUpTo most (n / 10)) (digit (n % 10) ∷ []) ih (plain-digit (n % 10) (omega arith))
 
-pub plain-decimal : (n : ℕ) → plain (decimal n) ≡ true
+pub plain-decimal : (n : ℕ) → plain (inDecimal n) ≡ true
 plain-decimal n = plain-digits 10 n
 
 -- a form with its numbers
@@ -137,9 +137,9 @@ unfolding fill plain
 plain-fill [] ns h = refl
 plain-fill (c ∷ cs) ns h = go (not (eqb c 60)) refl h (eqb c 126 && ltb 0 (length ns)) (plain-fill cs ns) (plain-fill cs (drop 1 ns))
   where
-    go : (t : Bool) → not (eqb c 60) ≡ t → (t && plain cs) ≡ true → (n : Bool) → (plain cs ≡ true → plain (fill cs ns) ≡ true) → (plain cs ≡ true → plain (fill cs (drop 1 ns)) ≡ true) → plain (pick n (decimal (getD ns 0 0) ++ fill cs (drop 1 ns)) (c ∷ fill cs ns)) ≡ true
+    go : (t : Bool) → not (eqb c 60) ≡ t → (t && plain cs) ≡ true → (n : Bool) → (plain cs ≡ true → plain (fill cs ns) ≡ true) → (plain cs ≡ true → plain (fill cs (drop 1 ns)) ≡ true) → plain (pick n (inDecimal (getD ns 0 0) ++ fill cs (drop 1 ns)) (c ∷ fill cs ns)) ≡ true
     go false e q n ih more = no-way q
-    go true e q true ih more = plain-both (decimal (getD ns 0 0)) (fill cs (drop 1 ns)) (plain-decimal (getD ns 0 0)) (more q)
+    go true e q true ih more = plain-both (inDecimal (getD ns 0 0)) (fill cs (drop 1 ns)) (plain-decimal (getD ns 0 0)) (more q)
     go true e q false ih more = ap (λ (t : Bool). t && plain (fill cs ns)) e ∙ ih q
 
 -- one of several forms
@@ -178,15 +178,15 @@ unfolding fill lacks
 words-first [] u ns h = refl
 words-first (c ∷ t) u ns h = go (eqb c 126) h (words-first t u ns)
   where
-    go : (b : Bool) → (not b && lacks t) ≡ true → (lacks t ≡ true → fill (t ++ u) ns ≡ t ++ fill u ns) → pick (b && ltb 0 (length ns)) (decimal (getD ns 0 0) ++ fill (t ++ u) (drop 1 ns)) (c ∷ fill (t ++ u) ns) ≡ c ∷ (t ++ fill u ns)
+    go : (b : Bool) → (not b && lacks t) ≡ true → (lacks t ≡ true → fill (t ++ u) ns ≡ t ++ fill u ns) → pick (b && ltb 0 (length ns)) (inDecimal (getD ns 0 0) ++ fill (t ++ u) (drop 1 ns)) (c ∷ fill (t ++ u) ns) ≡ c ∷ (t ++ fill u ns)
     go true q ih = no-way q
     go false q ih = ap (λ (r : List ℕ). c ∷ r) (ih q)
 
-pub number-next : (u : List ℕ) (n : ℕ) (ns : List ℕ) → fill (126 ∷ u) (n ∷ ns) ≡ decimal n ++ fill u ns
+pub number-next : (u : List ℕ) (n : ℕ) (ns : List ℕ) → fill (126 ∷ u) (n ∷ ns) ≡ inDecimal n ++ fill u ns
 unfolding fill
 number-next u n ns = simp (lt-ltb 0 (suc (length ns)) (omega arith))
 
-pub form-next : (t u : List ℕ) (n : ℕ) (ns : List ℕ) → lacks t ≡ true → fill (t ++ (126 ∷ u)) (n ∷ ns) ≡ t ++ (decimal n ++ fill u ns)
+pub form-next : (t u : List ℕ) (n : ℕ) (ns : List ℕ) → lacks t ≡ true → fill (t ++ (126 ∷ u)) (n ∷ ns) ≡ t ++ (inDecimal n ++ fill u ns)
 form-next t u n ns h = words-first t (126 ∷ u) (n ∷ ns) h ∙ ap (λ (r : List ℕ). t ++ r) (number-next u n ns)
 
 none-left : (ns : List ℕ) → fill [] ns ≡ []
@@ -197,5 +197,5 @@ pub all-words : (t ns : List ℕ) → lacks t ≡ true → fill t ns ≡ t
 all-words t ns h =
     ap (λ (r : List ℕ). fill r ns) (sym (append-nil t)) ∙ words-first t [] ns h ∙ ap (λ (r : List ℕ). t ++ r) (none-left ns) ∙ append-nil t
 
-pub one-number : (t u : List ℕ) (n : ℕ) → lacks t ≡ true → lacks u ≡ true → fill (t ++ (126 ∷ u)) (n ∷ []) ≡ t ++ (decimal n ++ u)
-one-number t u n h k = form-next t u n [] h ∙ ap (λ (r : List ℕ). t ++ (decimal n ++ r)) (all-words u [] k)
+pub one-number : (t u : List ℕ) (n : ℕ) → lacks t ≡ true → lacks u ≡ true → fill (t ++ (126 ∷ u)) (n ∷ []) ≡ t ++ (inDecimal n ++ u)
+one-number t u n h k = form-next t u n [] h ∙ ap (λ (r : List ℕ). t ++ (inDecimal n ++ r)) (all-words u [] k)

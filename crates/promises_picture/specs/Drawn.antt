@@ -77,24 +77,24 @@ linesText [] = []
 linesText (run ∷ runs) = lineText run ++ linesText runs
 
 -- All points of some runs, one run after another.
-unfoldable pub together : List (List Point) → List Point
-together [] = []
-together (run ∷ runs) = run ++ together runs
+unfoldable pub allPoints : List (List Point) → List Point
+allPoints [] = []
+allPoints (run ∷ runs) = run ++ allPoints runs
 
 -- The mark of a faulty reply stands at its minute, and says when it was and what its fault is.
-unfoldable pub markText : Day → ℕ → ℕ → ℕ → List ℕ
-markText begin m n place =
+unfoldable pub faultyMarkText : Day → ℕ → ℕ → ℕ → List ℕ
+faultyMarkText begin m n place =
     fill (ascii "<path d='M~,0v1'><title>") (m ∷ []) ++ momentText begin m ++ ascii ": " ++ faultText n place ++ ascii "</title></path>"
 
 abbrev pub markIn : Day → ℕ → Reply → List (List ℕ)
 markIn begin m (Read r) = []
-markIn begin m (Refused n) = markText begin m n 0 ∷ []
-markIn begin m (Unreadable place) = markText begin m 7 place ∷ []
+markIn begin m (Refused n) = faultyMarkText begin m n 0 ∷ []
+markIn begin m (Unreadable place) = faultyMarkText begin m 7 place ∷ []
 
-unfoldable pub marks : Day → List Entry → List (List ℕ)
-unfolding markText
-marks begin [] = []
-marks begin (e ∷ l) = markIn begin (e .minute) (replyIn e) ++ marks begin l
+unfoldable pub faultyMarks : Day → List Entry → List (List ℕ)
+unfolding faultyMarkText
+faultyMarks begin [] = []
+faultyMarks begin (e ∷ l) = markIn begin (e .minute) (replyIn e) ++ faultyMarks begin l
 
 unfoldable pub joined : List (List ℕ) → List ℕ
 joined [] = []
@@ -115,11 +115,11 @@ alarms which (e ∷ l) = alarmIn which (e .minute) (replyIn e) ++ alarms which l
 -- marks are one for each faulty reply and nothing else; and those of an alarm are one for each good reply that has it, and nothing else.
 pub record DrawnAsListed : Type 0 where
   pub line : (b : Day) (s : List ℕ) (pair : ℕ) → layerText b 0 false (ofPair pair (listOf s)) ≡ linesText (runsBy pointIn (ofPair pair (listOf s)))
-  pub just : (s : List ℕ) (pair : ℕ) → together (runsBy pointIn (ofPair pair (listOf s))) ≡ pointsBy pointIn (ofPair pair (listOf s))
+  pub just : (s : List ℕ) (pair : ℕ) → allPoints (runsBy pointIn (ofPair pair (listOf s))) ≡ pointsBy pointIn (ofPair pair (listOf s))
   pub breaks : (s : List ℕ) (pair : ℕ) → length (runsBy pointIn (ofPair pair (listOf s))) ≡ suc (faults (ofPair pair (listOf s)))
   pub heat : (b : Day) (s : List ℕ) (pair : ℕ) → layerText b 1 false (ofPair pair (listOf s)) ≡ linesText (runsBy heatIn (ofPair pair (listOf s)))
-  pub just-heat : (s : List ℕ) (pair : ℕ) → together (runsBy heatIn (ofPair pair (listOf s))) ≡ pointsBy heatIn (ofPair pair (listOf s))
-  pub faulty : (b : Day) (s : List ℕ) (pair : ℕ) → layerText b 2 false (ofPair pair (listOf s)) ≡ joined (marks b (ofPair pair (listOf s)))
-  pub each : (b : Day) (s : List ℕ) (pair : ℕ) → length (marks b (ofPair pair (listOf s))) ≡ faults (ofPair pair (listOf s))
+  pub just-heat : (s : List ℕ) (pair : ℕ) → allPoints (runsBy heatIn (ofPair pair (listOf s))) ≡ pointsBy heatIn (ofPair pair (listOf s))
+  pub faulty : (b : Day) (s : List ℕ) (pair : ℕ) → layerText b 2 false (ofPair pair (listOf s)) ≡ joined (faultyMarks b (ofPair pair (listOf s)))
+  pub each : (b : Day) (s : List ℕ) (pair : ℕ) → length (faultyMarks b (ofPair pair (listOf s))) ≡ faults (ofPair pair (listOf s))
   pub alarm1 : (b : Day) (s : List ℕ) (pair : ℕ) → layerText b 3 false (ofPair pair (listOf s)) ≡ joined (alarms (λ r. r .alarm1) (ofPair pair (listOf s)))
   pub alarm0 : (b : Day) (s : List ℕ) (pair : ℕ) → layerText b 4 false (ofPair pair (listOf s)) ≡ joined (alarms (λ r. r .alarm0) (ofPair pair (listOf s)))

@@ -16,7 +16,7 @@ use Rattle.frame.specs.Pick.{pick}
 use Rattle.sheet.specs.Record.{Entry}
 use Rattle.sheet.specs.Slots.{listOf}
 use Rattle.summary.specs.Worked.{replyIn, ofPair, goodLevels, faults, lowestOf, highestOf, keptPairs, inOrder}
-use Rattle.listing.specs.Text.{ascii, decimal}
+use Rattle.listing.specs.Text.{ascii, inDecimal}
 use Rattle.calendar.specs.declared.counting.Day.{Day}
 use Rattle.forms.specs.Form.{fill}
 use Rattle.forms.specs.Days.{momentText}
@@ -30,7 +30,7 @@ use Rattle.promises_picture.specs.Reader.{readOf, plain}
 
 -- What a picture is called: the address, and what it shows.
 abbrev pub titled : ℕ → String → List ℕ
-titled address what = ascii "title>" ++ (decimal address ++ (ascii ": " ++ ascii what))
+titled address what = ascii "title>" ++ (inDecimal address ++ (ascii ": " ++ ascii what))
 
 -- A line drawn through runs of points.
 unfoldable pub drawn : List ℕ → List ℕ
@@ -101,7 +101,7 @@ tableOf begin settings m =
 -- The section of a pair, of the records of that pair; and those of some pairs.
 unfoldable pub sectionOf : Day → List Entry → ℕ → List (List ℕ)
 sectionOf begin l k =
-    ascii "section>" ∷ (ascii "h2>" ++ decimal (k / 0x10000) ++ ascii " ")
+    ascii "section>" ∷ (ascii "h2>" ++ inDecimal (k / 0x10000) ++ ascii " ")
     ∷ picturesOf begin (k / 0x10000) (ofPair k l) ++ tableOf begin (k % 0x10000) (ofPair k l) ++ inWords begin (ofPair k l)
 
 unfoldable pub sectionsOf : Day → List Entry → List ℕ → List (List ℕ)

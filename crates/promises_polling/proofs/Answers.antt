@@ -13,7 +13,7 @@ use Rattle.frame.specs.Pick.{pick}
 use Rattle.frame.specs.Line.{mark}
 use Rattle.lines.specs.declared.SoFar.{SoFar}
 use Rattle.lines.specs.SoFar.{atRest}
-use Rattle.lines.specs.Hearing.{Told, nothing, message, spoiled, numberTold, countTold, bytesTold}
+use Rattle.lines.specs.Hearing.{MessageTold, nothing, message, spoiled, numberTold, countTold, bytesTold}
 use Rattle.lines.proofs.Cases.{none-of}
 use Rattle.round.specs.declared.Polled.{Polled}
 use Rattle.round.specs.declared.Round.{Round}
@@ -79,13 +79,13 @@ one-verdict {u} e = ap (λ (l : List Verdict). first l) e
 none-told : {v : Verdict} {l : List Verdict} {A : Type 0} → l ≡ [] → l ≡ v ∷ [] → A
 none-told p q = absurd (let z : _≡_ {A = ℕ} 0 1 = cc in omega arith)
 
-no-bits : (told : Told) → isMessage told ≡ false → bitsOf (countTold told) (bytesTold told) ≡ []
+no-bits : (told : MessageTold) → isMessage told ≡ false → bitsOf (countTold told) (bytesTold told) ≡ []
 unfolding bitsOf
 no-bits nothing e = refl
 no-bits (message count bits) e = absurd (true≢false e)
 no-bits (spoiled number) e = refl
 
-module _ (p : Pace) (minute : ℕ) (from : Polling) (told : Told) where
+module _ (p : Pace) (minute : ℕ) (from : Polling) (told : MessageTold) where
   abbrev bits : List ℕ
   bits = bitsOf (countTold told) (bytesTold told)
 
@@ -155,7 +155,7 @@ module _ (p : Pace) (from : Polling) (fine : badPace p ≡ false) (o : isOver fr
       let zero-sum : heardSo ≡ 0 + length taken = omega (arith, many) in
       let going : Going p atRest 0 pre n = going-append p atRest (on .left) n 0 taken before goes-so (subst (λ (k : ℕ). Going p (on .left) k before n) zero-sum g) in
       let end : ending p (next p n x) (length pre + 1) ≡ true = subst (λ (k : ℕ). ending p (next p n x) k ≡ true) sum d in
-      let t : Told = toldAt p (next p n x) (length pre + 1) in
+      let t : MessageTold = toldAt p (next p n x) (length pre + 1) in
       let r = told-end p minute (listens from (on .left) heardSo) t (length before + 1) (omega arith) in
       let a-is : a ≡ settledAt p minute (listens from (on .left) heardSo) (settledBy t (length before + 1))
       = e ∙ ap (λ (k : ℕ). settledAt p minute (listens from (on .left) heardSo) (settledBy (toldAt p (next p n x) k) (length before + 1))) sum in
@@ -194,7 +194,7 @@ module _ (p : Pace) (from : Polling) (fine : badPace p ≡ false) (o : isOver fr
 same-reply : (v w : Polling) → v .round ≡ w .round → (i : ℕ) → replyAt v i ≡ replyAt w i
 same-reply v w e i = ap (λ (r : Round). getD (r .replies) i noEntry) e
 
-settled-stays : (p : Pace) (minute : ℕ) (w : Polling) (told : Told) (i : ℕ) → i < w .at
+settled-stays : (p : Pace) (minute : ℕ) (w : Polling) (told : MessageTold) (i : ℕ) → i < w .at
     → (replyAt (settledIn p minute w told) i ≡ replyAt w i) × (i < settledIn p minute w told .at)
 settled-stays p minute w told i l = go (isAnswered p w told)
   where
@@ -210,7 +210,7 @@ way-stays {p} {w} (draw-one o z k h) i l =
     way-stays h i (subst (λ (n : ℕ). i < n) (sym (r .1)) l) ∙ same-reply (meant p v) v (r .0) i
 way-stays (hear-on x o z k f h) i l = way-stays h i l
 way-stays {p} {w} (hear-end minute x c o z k f h) i l =
-    let told : Told = toldAt p (heardNow p w x) (w .passed + 1) in
+    let told : MessageTold = toldAt p (heardNow p w x) (w .passed + 1) in
     let v : Polling = settledIn p minute w told in
     let r = same-round p v in
     let s = settled-stays p minute w told i l in

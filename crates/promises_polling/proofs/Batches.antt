@@ -6,7 +6,7 @@ use mathlib.Core.List.{List, _∷_, append-nil}
 use Prim.Native.Nat.{ℕ, _+_}
 use native.Mathlib.Omega.{arith}
 use lib.ListN.{length, getD}
-use Rattle.lines.specs.Hearing.{Told}
+use Rattle.lines.specs.Hearing.{MessageTold}
 use Rattle.polling.specs.declared.Pace.{Pace}
 use Rattle.polling.specs.declared.Polling.{Polling}
 use Rattle.polling.specs.Pace.{badPace}
@@ -52,7 +52,7 @@ one-way (hear-on x o z l f h) (hear-on y o' z' l' g k) n = one-way h k n
 one-way (hear-on x o z l f h) (hear-end minute y c o' z' l' g k) n = absurd (true≢false (sym g ∙ f))
 one-way (hear-end minute x c o z l f h) (hear-on y o' z' l' g k) n = absurd (true≢false (sym f ∙ g))
 one-way {p} {m} {w} {f = last} {bs = bs} (hear-end {xs = xs} minute x c o z l t h) (hear-end {vs = us} other y c' o' z' l' g k) n =
-    let told : Told = toldAt p (heardNow p w x) (w .passed + 1) in
+    let told : MessageTold = toldAt p (heardNow p w x) (w .passed + 1) in
     let same : other ≡ minute = c' ∙ sym c in
     let r = one-way h (subst (λ (i : ℕ). Way p (always m) (meant p (settledIn p i w told)) bs xs us last) same k) n in
     record {

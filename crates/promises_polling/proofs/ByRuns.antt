@@ -15,7 +15,7 @@ use Rattle.lines.specs.declared.SoFar.{SoFar}
 use Rattle.lines.specs.Sample.{Sample, sampleOf}
 use Rattle.lines.specs.SoFar.{atRest, isRest}
 use Rattle.lines.specs.Step.{closes}
-use Rattle.lines.specs.Hearing.{Told, nothing, toldOf, numberTold, countTold, bytesTold}
+use Rattle.lines.specs.Hearing.{MessageTold, nothing, toldOf, numberTold, countTold, bytesTold}
 use Rattle.lines.proofs.Cases.{none-of}
 use Rattle.polling.specs.declared.Pace.{Pace}
 use Rattle.polling.specs.Pace.{timingOf, badPace}
@@ -129,7 +129,7 @@ module _ (p : Pace) (fine : badPace p ≡ false) where
     abbrev pub whole : List ℕ
     whole = pre ++ x ∷ []
 
-    abbrev pub told : Told
+    abbrev pub told : MessageTold
     told = toldAt p n size
 
     abbrev pub toldBits : List ℕ
@@ -184,7 +184,7 @@ module _ (p : Pace) (fine : badPace p ≡ false) where
       by-close : closes (timingOf p) n ≡ true → BySamples p whole rs (numberTold told) toldBits
       by-close c =
           let is : told ≡ toldOf n = ap (λ (b : Bool). pick b (toldOf n) (pick (silentNow p n size) nothing (givenUp n))) c in
-          closed (tell-so ∙ ap (λ (b : Bool). pick b (saidOf (toldOf n) ∷ []) []) c ∙ ap (λ (t : Told). saidOf t ∷ []) (sym is))
+          closed (tell-so ∙ ap (λ (b : Bool). pick b (saidOf (toldOf n) ∷ []) []) c ∙ ap (λ (t : MessageTold). saidOf t ∷ []) (sym is))
 
       by-silence : closes (timingOf p) n ≡ false → silentNow p n size ≡ true → BySamples p whole rs (numberTold told) toldBits
       unfolding bitsOf
@@ -194,7 +194,7 @@ module _ (p : Pace) (fine : badPace p ≡ false) where
           let m-rest : isRest m ≡ true = both-left (isRest m) (isIdle (sampleOf x)) (sym (rest-step (timingOf p) (kept .0) (sampleOf x)) ∙ at-rest) in
           let high : p .wait ≤ size = leb-true (p .wait) size (both-right (isRest n) (leb (p .wait) size) s) in
           let low = before (length pre) refl .0 m-rest in
-          subst (λ (t : Told). BySamples p whole rs (numberTold t) (bitsOf (countTold t) (bytesTold t))) (sym is)
+          subst (λ (t : MessageTold). BySamples p whole rs (numberTold t) (bitsOf (countTold t) (bytesTold t))) (sym is)
           (silent (tell-so ∙ ap (λ (b : Bool). pick b (saidOf (toldOf n) ∷ []) []) c) (idle-so ∙ at-rest) (omega (arith, long, high, low)))
 
       by-giving-up : closes (timingOf p) n ≡ false → silentNow p n size ≡ false → BySamples p whole rs (numberTold told) toldBits
@@ -207,7 +207,7 @@ module _ (p : Pace) (fine : badPace p ≡ false) where
           let f = fine-pace p fine in
           let most = f .longest in
           let waited : leb (p .wait) size ≡ true = le-leb (p .wait) size (omega (arith, most, high)) in
-          subst (λ (t : Told). BySamples p whole rs (numberTold t) (bitsOf (countTold t) (bytesTold t))) (sym is)
+          subst (λ (t : MessageTold). BySamples p whole rs (numberTold t) (bitsOf (countTold t) (bytesTold t))) (sym is)
           (subst (λ (b : Bool). BySamples p whole rs (pick b 22 21) []) foreign-so
           (given-up (tell-so ∙ ap (λ (b : Bool). pick b (saidOf (toldOf n) ∷ []) []) c) (idle-so ∙ not-rest (isRest n) (leb (p .wait) size) s waited) (omega (arith, long, high, low))))
 

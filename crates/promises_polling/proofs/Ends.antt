@@ -15,7 +15,7 @@ use Rattle.lines.specs.declared.SoFar.{SoFar}
 use Rattle.lines.specs.SoFar as lines
 use Rattle.lines.specs.SoFar.{atRest}
 use Rattle.lines.specs.Step.{closes}
-use Rattle.lines.specs.Hearing.{Told, numberTold}
+use Rattle.lines.specs.Hearing.{MessageTold, numberTold}
 use Rattle.lines.proofs.Cases.{none-of, of-pick}
 use Rattle.polling.specs.Drawing.{LeftByDrawing}
 use Rattle.polling.specs.declared.Pace.{Pace}
@@ -133,7 +133,7 @@ module _ (p : Pace) (fine : badPace p ≡ false) where
   less-one (suc n) k h = let back : suc n - 1 ≡ n = omega arith in one-more n k ∙ ap (λ (m : ℕ). m * k + k) (sym back)
 
   -- A try that is settled.
-  settled-less : (w : Polling) (minute : ℕ) (told : Told) → isOver w ≡ false → suc (left (meant p (settledIn p minute w told))) ≤ more w + 1
+  settled-less : (w : Polling) (minute : ℕ) (told : MessageTold) → isOver w ≡ false → suc (left (meant p (settledIn p minute w told))) ≤ more w + 1
   settled-less w minute told e = go (isAnswered p w told) refl
     where
       again : isAnswered p w told ≡ false → suc (left (meant p (askedAgain w))) ≤ more w + 1
@@ -166,7 +166,7 @@ module _ (p : Pace) (fine : badPace p ≡ false) where
       go true f = next (isOver (answeredWith minute told w)) refl
       go false f = again f
 
-  end-less : (w : Polling) (minute : ℕ) (told : Told) → isOver w ≡ false → w .listening ≡ 1 → suc (left (meant p (settledIn p minute w told))) ≤ left w
+  end-less : (w : Polling) (minute : ℕ) (told : MessageTold) → isOver w ≡ false → w .listening ≡ 1 → suc (left (meant p (settledIn p minute w told))) ≤ left w
   end-less w minute told e z =
       let here : left w ≡ more w + max (p .longest - w .passed) 1 = open-left w e ∙ ap (λ (n : ℕ). more w + n) (hears-rest w z) in
       let most = settled-less w minute told e in

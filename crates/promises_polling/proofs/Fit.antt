@@ -17,10 +17,10 @@ use Rattle.board.specs.declared.Heard.{Heard}
 use Rattle.board.specs.declared.Row.{Row}
 use Rattle.board.specs.Row.{isFree, inUse, freeRow}
 use Rattle.board.specs.Rows.{boardOf, placeBy, onBoard, rowOf, holds}
-use Rattle.board.specs.Order.{kept}
+use Rattle.board.specs.Order.{inAddressOrder}
 use Rattle.board.specs.Calls.{faultBy, outsideAt, hearNumber, hearPlace, heardAs, Hears}
 use Rattle.lines.specs.Sample.{sampleOf}
-use Rattle.lines.specs.Hearing.{Told, nothing, message, spoiled, countTold, bytesTold}
+use Rattle.lines.specs.Hearing.{MessageTold, nothing, message, spoiled, countTold, bytesTold}
 use Rattle.lines.proofs.Cases.{of-pick}
 use Rattle.frame.proofs.Both.{both-left}
 use Rattle.sheet.specs.Record.{Entry, checks}
@@ -34,7 +34,7 @@ use Rattle.round.specs.declared.Round.{Round}
 use Rattle.round.specs.declared.Rounded.{Rounded}
 use Rattle.round.specs.declared.RoundedPage.{RoundedPage}
 use Rattle.round.specs.Replies.{lentBy, entryIn, entriesOf}
-use Rattle.round.specs.Saving.{Page, none, Standing, standing, goesOn, withStores, stoppedBy, tried, savedAll}
+use Rattle.round.specs.Saving.{Page, none, Standing, standing, triesNext, withStores, stoppedBy, tried, savedAll}
 use Rattle.round.specs.Saving as saving
 use Rattle.round.specs.Calls.{roundOf}
 use Rattle.polling.specs.declared.Begun.{Begun}
@@ -72,7 +72,7 @@ no-reply-fits = record { settings = omega arith; address = omega arith; form = u
 no-entry-fits : FitOne noEntry
 no-entry-fits = record { settings = omega arith; address = omega arith; form = unfold formed in refl }
 
-told-form : (told : Told) → Sound told → formed (countTold told) (take (bytesFor (countTold told)) (bytesTold told ++ 0 ∷ [])) ≡ true
+told-form : (told : MessageTold) → Sound told → formed (countTold told) (take (bytesFor (countTold told)) (bytesTold told ++ 0 ∷ [])) ≡ true
 told-form nothing s = unfold formed firstBytes in refl
 told-form (message count bits) s =
     let small : bytesFor count ≤ 8 = omega (arith, s .1 .small) in
@@ -80,7 +80,7 @@ told-form (message count bits) s =
     ap (formed count) (take-append-le (bytesFor count) (firstBytes 8 bits) (0 ∷ []) (omega (arith, small, long)) ∙ front (bytesFor count) bits) ∙ in-form bits count (s .1)
 told-form (spoiled number) s = unfold formed firstBytes in refl
 
-pub replied-fits : (minute : ℕ) (told : Told) → Sound told → (r : Polled) → FitOne r → FitOne (replied minute told r)
+pub replied-fits : (minute : ℕ) (told : MessageTold) → Sound told → (r : Polled) → FitOne r → FitOne (replied minute told r)
 replied-fits minute told s r f = record { settings = f .settings; address = f .address; form = told-form told s }
 
 set-fits : (l : List Polled) (j : ℕ) (y : Polled) → FitOne y → Fits l → Fits (set l j y)
@@ -95,7 +95,7 @@ pub record FitRound (r : Round) : Type 0 where
   pub few : r .count ≤ 30
   pub each : Fits (r .replies)
 
-settled-fits : (p : Pace) (minute : ℕ) (w : Polling) (told : Told) → Sound told → FitRound (w .round) → FitRound (settledIn p minute w told .round)
+settled-fits : (p : Pace) (minute : ℕ) (w : Polling) (told : MessageTold) → Sound told → FitRound (w .round) → FitRound (settledIn p minute w told .round)
 settled-fits p minute w told s f = go (isAnswered p w told)
   where
     go : (b : Bool) → FitRound (pick b (answeredWith minute told w) (askedAgain w) .round)
@@ -110,7 +110,7 @@ way-fits p fine stop f = f
 way-fits p fine {w} (draw-one o z l h) f = way-fits p fine h (meant-fits p (draws w (w .passed + 1)) f)
 way-fits p fine (hear-on x o z l g h) f = way-fits p fine h f
 way-fits p fine {w} (hear-end minute x c o z l g h) f =
-    let told : Told = toldAt p (heardNow p w x) (w .passed + 1) in
+    let told : MessageTold = toldAt p (heardNow p w x) (w .passed + 1) in
     way-fits p fine h (meant-fits p (settledIn p minute w told) (settled-fits p minute w told (told-sound p fine l (sampleOf x) (w .passed + 1)) f))
 
 -- With a pace out of its range nothing changes.
@@ -157,7 +157,7 @@ begun-fits : (rows : List Row) (minute : ℕ) (answer : Begun) → Enrolled (boa
 unfolding beginning nothingBegun
 begun-fits rows minute answer e b =
     subst (λ (x : Begun). FitRound (x .polling .round)) (sym (b .answers))
-    (of-pick (λ (x : Begun). FitRound (x .polling .round)) (kept (boardOf rows)) (begun (beginning minute (boardOf rows)) 0) (begun nothingBegun 38)
+    (of-pick (λ (x : Begun). FitRound (x .polling .round)) (inAddressOrder (boardOf rows)) (begun (beginning minute (boardOf rows)) 0) (begun nothingBegun 38)
     (λ k. record { few = let few = used-few minute (boardOf rows) in omega (arith, few, length-take 30 rows); each = used-fits minute (boardOf rows) e (30 - length (map (replyFor minute) (usedRows (boardOf rows)))) })
     (λ k. record { few = omega arith; each = none-fits 30 }))
 
@@ -213,7 +213,7 @@ keep-fit : (sheet : List ℕ) (s : Summary) (e : Entry) → FitEntry e → NotUn
 unfolding keepFault
 keep-fit sheet s e f = of-pick NotUnfit (eqb (handedFault s) 0) (saveFault sheet e) (handedFault s) (λ a. save-fit sheet e f) (λ a. handed-fit s)
 
-reply-fit : (sheet : List ℕ) (page : Page) (e : Entry) → FitEntry e → NotUnfit (saving.replyFault sheet page e)
+reply-fit : (sheet : List ℕ) (page : Page) (e : Entry) → FitEntry e → NotUnfit (saving.saveRefusal sheet page e)
 reply-fit sheet none e f = save-fit sheet e f
 reply-fit sheet (saving.kept s) e f = keep-fit sheet s e f
 
@@ -230,14 +230,14 @@ entries-fit (suc n) (r ∷ l) h = (entry-fits r (h zero), entries-fit n l (λ i.
 tried-fit : (allowance : ℕ) (x : Standing) (e : Entry) → FitEntry e → NotUnfit (tried allowance x e .number)
 unfolding tried
 tried-fit allowance x e f =
-    of-pick (λ (y : Standing). NotUnfit (y .number)) (eqb (saving.replyFault (x .sheet) (x .page) e) 0) (withStores (allowance - x .stores) x e)
-    (stoppedBy (saving.replyFault (x .sheet) (x .page) e) x) (λ a. other 0 refl refl refl refl) (λ a. reply-fit (x .sheet) (x .page) e f)
+    of-pick (λ (y : Standing). NotUnfit (y .number)) (eqb (saving.saveRefusal (x .sheet) (x .page) e) 0) (withStores (allowance - x .stores) x e)
+    (stoppedBy (saving.saveRefusal (x .sheet) (x .page) e) x) (λ a. other 0 refl refl refl refl) (λ a. reply-fit (x .sheet) (x .page) e f)
 
 all-fit : (allowance : ℕ) (es : List Entry) (x : Standing) → NotUnfit (x .number) → AllFit es → NotUnfit (savedAll allowance x es .number)
 unfolding savedAll
 all-fit allowance [] x n h = n
 all-fit allowance (e ∷ es) x n h =
-    of-pick (λ (y : Standing). NotUnfit (y .number)) (goesOn allowance x) (savedAll allowance (tried allowance x e) es) x
+    of-pick (λ (y : Standing). NotUnfit (y .number)) (triesNext allowance x) (savedAll allowance (tried allowance x e) es) x
     (λ a. all-fit allowance es (tried allowance x e) (tried-fit allowance x e (h .0)) (h .1)) (λ a. n)
 
 round-fit : (sheet : List ℕ) (page : Page) (r : Round) (allowance : ℕ) → FitRound r → NotUnfit (roundOf sheet page r allowance .number)
@@ -309,7 +309,7 @@ heard-fit : (board : List Row) → Enrolled (boardOf board) → (r : Polled) →
     → Hears board minute (r .address) (r .count) (lentBy r) a after → NotUnfit (a .number)
 heard-fit board e r f minute a after h =
     subst (λ (x : Heard). NotUnfit (x .number)) (sym (h .answers))
-    (of-pick (λ (x : Heard). NotUnfit (x .number)) (kept (boardOf board))
+    (of-pick (λ (x : Heard). NotUnfit (x .number)) (inAddressOrder (boardOf board))
     (heardAs (hearNumber (boardOf board) (r .address) (r .count) (lentBy r)) (hearPlace (boardOf board) (r .address) (r .count) (lentBy r))) (heardAs 38 0)
     (λ k. hear-fit (boardOf board) e r f) (λ k. other 38 refl refl refl refl))
 

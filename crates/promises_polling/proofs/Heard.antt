@@ -16,7 +16,7 @@ use Rattle.lines.specs.SoFar as lines
 use Rattle.lines.specs.SoFar.{atRest}
 use Rattle.lines.specs.Timing.{badTiming}
 use Rattle.lines.specs.Step.{after, closes}
-use Rattle.lines.specs.Hearing.{Told, numberTold}
+use Rattle.lines.specs.Hearing.{MessageTold, numberTold}
 use Rattle.lines.proofs.Cases.{none-of, of-pick}
 use Rattle.polling.specs.declared.Pace.{Pace}
 use Rattle.polling.specs.declared.Polling.{Polling}
@@ -61,7 +61,7 @@ unfolding listen
 listen-one p s q x xs n e = rw e (settle-by p (after (timingOf p) s (sampleOf x)) (q + 1) (later 1 (listen p (after (timingOf p) s (sampleOf x)) (q + 1) xs)))
 
 -- What a settled try tells is told once, and a try that goes on tells nothing.
-pub told-end : (p : Pace) (minute : ℕ) (w : Polling) (told : Told) (k : ℕ) → 1 ≤ k
+pub told-end : (p : Pace) (minute : ℕ) (w : Polling) (told : MessageTold) (k : ℕ) → 1 ≤ k
     → (settledAt p minute w (settledBy told k) .taken ≡ k) × (settledAt p minute w (settledBy told k) .polling ≡ settledIn p minute w told)
     × (verdicts (settledAt p minute w (settledBy told k)) ≡ verdictIn p minute w told ∷ [])
 unfolding settledAt
@@ -129,7 +129,7 @@ module _ (p : Pace) (fine : badPace p ≡ false) (clock : Clock) (minute : ℕ) 
       → ending p (after (timingOf p) s (sampleOf x)) (q + 1) ≡ true
       → WayBy w s q (x ∷ xs) (settledAt p minute (listens w s q) (settledBy (toldAt p (after (timingOf p) s (sampleOf x)) (q + 1)) 1))
   first-settles w e s q l x xs f =
-      let told : Told = toldAt p (after (timingOf p) s (sampleOf x)) (q + 1) in
+      let told : MessageTold = toldAt p (after (timingOf p) s (sampleOf x)) (q + 1) in
       let r = told-end p minute (listens w s q) told 1 (omega arith) in
       moved refl refl (sym (ap (λ (n : ℕ). take n (x ∷ xs)) (r .0))) (sym (r .2)) (ap (meant p) (sym (r .1)))
       (hear-end {w = listens w s q} minute x shown e refl l f stop)

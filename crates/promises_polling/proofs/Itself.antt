@@ -12,7 +12,7 @@ use Rattle.lines.specs.declared.SoFar.{SoFar}
 use Rattle.lines.specs.Sample.{sampleOf}
 use Rattle.lines.specs.SoFar as lines
 use Rattle.lines.specs.SoFar.{atRest}
-use Rattle.lines.specs.Hearing.{Told}
+use Rattle.lines.specs.Hearing.{MessageTold}
 use Rattle.round.specs.declared.Round.{Round}
 use Rattle.polling.specs.Drawing.{LeftByDrawing}
 use Rattle.polling.specs.declared.Pace.{Pace}
@@ -38,7 +38,7 @@ use Rattle.promises_polling.proofs.Kept.{still-polled, settled-itself}
 -- What hearing leaves of a state that listens: the same, some samples later, or a settled try.
 pub data LeftBy (p : Pace) (minute : ℕ) (w left : Polling) : Type 0 where
   goes : (s : SoFar) (q : ℕ) → Legal s → left ≡ listens w s q → LeftBy p minute w left
-  settles : (told : Told) → left ≡ settledIn p minute w told → LeftBy p minute w left
+  settles : (told : MessageTold) → left ≡ settledIn p minute w told → LeftBy p minute w left
 
 pub left-by : (p : Pace) → badPace p ≡ false → (minute : ℕ) (w : Polling) (s : SoFar) (q : ℕ) → Legal s → (xs : List ℕ)
     → LeftBy p minute w (settledAt p minute (listens w s q) (listen p s q xs) .polling)

@@ -12,7 +12,7 @@ use borrow.Author.Tests.{le-ltb, ltb-false, leb-false, lt-ltb}
 use Rattle.frame.specs.Pick.{pick}
 use Rattle.frame.specs.Line.{firstBytes}
 use Rattle.frame.specs.Poll.{pollLine}
-use Rattle.lines.specs.Hearing.{Told}
+use Rattle.lines.specs.Hearing.{MessageTold}
 use Rattle.lines.proofs.Cases.{none-of}
 use Rattle.drawing.specs.Pulses.{drawing}
 use Rattle.round.specs.declared.Polled.{Polled}
@@ -43,7 +43,7 @@ try-short p address h =
     ∙ length-append (replicate (p .delay) 0) [] ∙ omega (arith, length-replicate {A = ℕ} (p .delay) 0)
 
 -- What stays.
-module _ (p : Pace) (minute : ℕ) (w : Polling) (told : Told) where
+module _ (p : Pace) (minute : ℕ) (w : Polling) (told : MessageTold) where
   abbrev after : Polling
   after = settledIn p minute w told
 
@@ -86,7 +86,7 @@ some-try p fine w h e =
     let size = try-long p (turnOf w .address) (h (w .at) (at-below w e .0)) in
     omega (arith, some, size)
 
-pub settled-itself : (p : Pace) → badPace p ≡ false → (minute : ℕ) (w : Polling) (told : Told) → AllPolled w → isOver w ≡ false
+pub settled-itself : (p : Pace) → badPace p ≡ false → (minute : ℕ) (w : Polling) (told : MessageTold) → AllPolled w → isOver w ≡ false
     → meant p (settledIn p minute w told) ≡ settledIn p minute w told
 settled-itself p fine minute w told h e = go (isAnswered p w told) refl
   where

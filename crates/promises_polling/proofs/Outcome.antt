@@ -7,17 +7,17 @@ use native.Mathlib.Omega.{arith}
 use borrow.Author.Tests.{leb-true, leb-false, le-ltb, lt-ltb, eqb-true}
 use lib.Dec.{eqb, leb, ltb}
 use lib.ListN.{length, drop}
-use Rattle.frame.specs.Pick.{pick}
+use Rattle.frame.specs.Pick.{pick, within}
 use Rattle.frame.specs.Line.{mark}
 use Rattle.frame.specs.Faults.{firstOf}
 use Rattle.board.specs.declared.Row.{Row}
 use Rattle.board.specs.Rows.{boardOf}
-use Rattle.board.specs.Order.{kept}
+use Rattle.board.specs.Order.{inAddressOrder}
 use Rattle.lines.specs.declared.SoFar.{SoFar}
 use Rattle.lines.specs.SoFar as lines
 use Rattle.lines.specs.SoFar.{atRest}
-use Rattle.lines.specs.Timing.{within, badTiming}
-use Rattle.lines.specs.Hearing.{Told, nothing, message, spoiled, numberTold}
+use Rattle.lines.specs.Timing.{badTiming}
+use Rattle.lines.specs.Hearing.{MessageTold, nothing, message, spoiled, numberTold}
 use Rattle.lines.proofs.Cases.{of-pick}
 use Rattle.drawing.specs.Pulses.{badPulse}
 use Rattle.polling.specs.declared.Begun.{Begun}
@@ -112,7 +112,7 @@ bad-fault p e = ap (λ (b : Bool). pick b 20 0) (out-of-pace p ∙ e)
 begin-number : (rows : List Row) (minute : ℕ) (a : Begun) → BeginsPolling rows minute a → a .number ≡ firstOf (asked (beginTable rows) (38 ∷ []))
 unfolding firstOf
 begin-number rows minute a b =
-    ap (λ (x : Begun). x .number) (b .answers) ∙ go (kept (boardOf rows))
+    ap (λ (x : Begun). x .number) (b .answers) ∙ go (inAddressOrder (boardOf rows))
   where
     go : (t : Bool) → pick t (begun (beginning minute (boardOf rows)) 0) (begun nothingBegun 38) .number ≡ pick (not t) 38 0
     go true = refl
@@ -138,7 +138,7 @@ draw-refused w p out after a d e =
     )
 
 -- What is told is 0, 21 or 22.
-sound-number : (told : Told) → Sound told → numberTold told ≡ 20 → ⊥
+sound-number : (told : MessageTold) → Sound told → numberTold told ≡ 20 → ⊥
 sound-number nothing s e = omega arith
 sound-number (message count bits) s e = omega arith
 sound-number (spoiled number) s e = omega (arith, s .0)

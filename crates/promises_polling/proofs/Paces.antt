@@ -4,11 +4,11 @@ use mathlib.Core.Bool.{false, not, _||_}
 use Prim.Native.Nat.{ℕ, _≤_}
 use lib.Dec.{leb, ltb}
 use borrow.Author.Tests.{leb-true, not-false}
+use Rattle.frame.specs.Pick.{within}
 use Rattle.frame.proofs.Both as together
-use Rattle.lines.specs.Timing.{badTiming, within}
+use Rattle.lines.specs.Timing.{badTiming}
 use Rattle.lines.proofs.Cases.{none-of}
 use Rattle.drawing.specs.Pulses.{badPulse}
-use Rattle.drawing.specs.Pulses as pulses
 use Rattle.polling.specs.declared.Pace.{Pace}
 use Rattle.polling.specs.Pace.{timingOf, badPace}
 
@@ -32,7 +32,7 @@ fine-pace p e =
     let c = none-of (badPulse (p .low) (p .still) || ltb 1000000 (p .delay) || badTiming (timingOf p)) (not (within 1 1000000 (p .wait))) (b .0) in
     let d = none-of (badPulse (p .low) (p .still) || ltb 1000000 (p .delay)) (badTiming (timingOf p)) (c .0) in
     let f = none-of (badPulse (p .low) (p .still)) (ltb 1000000 (p .delay)) (d .0) in
-    let g = none-of (not (pulses.within 1 1000 (p .low))) (not (pulses.within 1 10000 (p .still))) (f .0) in
+    let g = none-of (not (within 1 1000 (p .low))) (not (within 1 10000 (p .still))) (f .0) in
     record {
       pulse = f .0;
       timing = d .1;

@@ -12,7 +12,7 @@ use Rattle.lines.specs.declared.SoFar.{SoFar}
 use Rattle.lines.specs.Sample.{sampleOf}
 use Rattle.lines.specs.SoFar.{isRest}
 use Rattle.lines.specs.Step.{after, closes}
-use Rattle.lines.specs.Hearing.{Told, nothing, toldOf, numberTold}
+use Rattle.lines.specs.Hearing.{MessageTold, nothing, toldOf, numberTold}
 use Rattle.polling.specs.declared.Pace.{Pace}
 use Rattle.polling.specs.declared.Polling.{Polling}
 use Rattle.polling.specs.Pace.{timingOf}
@@ -34,7 +34,7 @@ silentNow p s q = isRest s && leb (p .wait) q
 abbrev pub ending : Pace → SoFar → ℕ → Bool
 ending p s q = closes (timingOf p) s || silentNow p s q || leb (p .longest) q
 
-abbrev pub toldAt : Pace → SoFar → ℕ → Told
+abbrev pub toldAt : Pace → SoFar → ℕ → MessageTold
 toldAt p s q = pick (closes (timingOf p) s) (toldOf s) (pick (silentNow p s q) nothing (givenUp s))
 
 pub settle-by : (p : Pace) (s : SoFar) (q : ℕ) (more : Listened) → settle p s q more ≡ pick (ending p s q) (settledBy (toldAt p s q) 1) more
@@ -50,13 +50,13 @@ settle-by p s q more = go (closes (timingOf p) s) (silentNow p s q) (leb (p .lon
     go false false false = refl
 
 -- The state after a settled try, and what is told of it.
-abbrev pub settledIn : Pace → ℕ → Polling → Told → Polling
+abbrev pub settledIn : Pace → ℕ → Polling → MessageTold → Polling
 settledIn p minute w told = pick (isAnswered p w told) (answeredWith minute told w) (askedAgain w)
 
 abbrev pub verdictBy : (reply answered over number : ℕ) → Verdict
 verdictBy reply answered over number = record { reply = reply; answered = answered; over = over; number = number }
 
-abbrev pub verdictIn : Pace → ℕ → Polling → Told → Verdict
+abbrev pub verdictIn : Pace → ℕ → Polling → MessageTold → Verdict
 verdictIn p minute w told =
     pick (isAnswered p w told) (verdictBy (w .at) 1 (mark (isOver (answeredWith minute told w))) (numberTold told)) (verdictBy (w .at) 0 0 (numberTold told))
 

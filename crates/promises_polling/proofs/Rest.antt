@@ -5,11 +5,11 @@ use Prim.Native.Nat.{ℕ, _+_, _≤_, min}
 use native.Mathlib.Omega.{arith}
 use lib.Dec.{eqb, ltb}
 use borrow.Author.Tests.{ne-eqb}
-use Rattle.frame.specs.Pick.{pick}
+use Rattle.frame.specs.Pick.{pick, within}
 use Rattle.frame.specs.Line as frame
 use Rattle.lines.specs.declared.SoFar.{SoFar}
 use Rattle.lines.specs.Sample.{Sample, idle, mark, space, both, foreign}
-use Rattle.lines.specs.Timing.{Timing, within}
+use Rattle.lines.specs.Timing.{Timing}
 use Rattle.lines.specs.SoFar.{soFar, spoiltBy, isRest}
 use Rattle.lines.specs.Step.{withBit, runEnded, longerIdle, afterIdle, afterLow, afterBoth, after}
 use Rattle.lines.proofs.Cases.{of-pick}

@@ -10,7 +10,7 @@ use Rattle.frame.specs.Pick.{pick}
 use Rattle.lines.specs.declared.SoFar.{SoFar}
 use Rattle.lines.specs.Sample.{Sample, sampleOf}
 use Rattle.lines.specs.Step.{after}
-use Rattle.lines.specs.Hearing.{Told, nothing, message, spoiled, toldOf}
+use Rattle.lines.specs.Hearing.{MessageTold, nothing, message, spoiled, toldOf}
 use Rattle.lines.proofs.Cases.{of-pick}
 use Rattle.polling.specs.declared.Pace.{Pace}
 use Rattle.polling.specs.Pace.{timingOf, badPace}
@@ -22,7 +22,7 @@ use Rattle.promises_lines.proofs.Ends.{good}
 use Rattle.promises_polling.proofs.Path.{silentNow, ending, toldAt}
 use Rattle.promises_polling.proofs.Heard.{next, timing-fine, stays-legal, not-closed, listen-one}
 
-abbrev pub Sound : Told → Type 0
+abbrev pub Sound : MessageTold → Type 0
 Sound nothing = 0 ≤ 0
 Sound (message count bits) = (1 ≤ count) × Clear bits count
 Sound (spoiled number) = (21 ≤ number) × (number ≤ 22)

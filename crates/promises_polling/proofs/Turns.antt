@@ -16,10 +16,10 @@ use Rattle.frame.proofs.Both.{both-left, both-right}
 use Rattle.board.specs.declared.Row.{Row}
 use Rattle.board.specs.Row.{isFree}
 use Rattle.board.specs.Rows.{boardOf}
-use Rattle.board.specs.Order.{allFree, keptFrom, kept}
+use Rattle.board.specs.Order.{allFree, inAddressOrderFrom, inAddressOrder}
 use Rattle.lines.specs.Timing.{Timing, badTiming}
 use Rattle.lines.specs.SoFar.{atRest}
-use Rattle.lines.specs.Hearing.{Told}
+use Rattle.lines.specs.Hearing.{MessageTold}
 use Rattle.lines.proofs.Cases.{none-of, either}
 use Rattle.round.specs.declared.Polled.{Polled}
 use Rattle.round.specs.declared.Round.{Round}
@@ -67,7 +67,7 @@ ready-by v w e r =
     subst (λ (x : Round). Ready (record { round = x; lines = v .lines; passed = v .passed; at = v .at; tried = v .tried; listening = v .listening })) (sym e)
     (record { all = r .all; full = r .full; few = r .few })
 
-module _ (p : Pace) (minute : ℕ) (w : Polling) (told : Told) where
+module _ (p : Pace) (minute : ℕ) (w : Polling) (told : MessageTold) where
   same-addresses : map (λ (r : Polled). r .address) (settledIn p minute w told .round .replies) ≡ map (λ (r : Polled). r .address) (w .round .replies)
   same-addresses = same-parts p minute w told (λ (r : Polled). r .address) refl
 
@@ -210,7 +210,7 @@ module _ (p : Pace) (fine : badPace p ≡ false) where
       })
 
   -- A sample before it that settles a try.
-  again-before : (w : Polling) (told : Told) → isOver w ≡ false → w .listening ≡ 1 → Ready w → isAnswered p w told ≡ false → (ds : List ℕ) → Yet (meant p (askedAgain w)) ds → Yet w ds
+  again-before : (w : Polling) (told : MessageTold) → isOver w ≡ false → w .listening ≡ 1 → Ready w → isAnswered p w told ≡ false → (ds : List ℕ) → Yet (meant p (askedAgain w)) ds → Yet w ds
   again-before w told e z r f ds y = go (subst (λ (v : Polling). Yet v ds) (meant-draws p (askedAgain w) 0 e (some-try p fine w (r .all) e)) y)
     where
       not-last : w .tried + 1 < p .tries
@@ -229,7 +229,7 @@ module _ (p : Pace) (fine : badPace p ≡ false) where
             next = t .next;
           })
 
-  next-before : (w : Polling) (minute : ℕ) (told : Told) → isOver w ≡ false → w .listening ≡ 1 → Ready w → isAnswered p w told ≡ true → (ds : List ℕ)
+  next-before : (w : Polling) (minute : ℕ) (told : MessageTold) → isOver w ≡ false → w .listening ≡ 1 → Ready w → isAnswered p w told ≡ true → (ds : List ℕ)
       → Yet (meant p (answeredWith minute told w)) ds → Yet w ds
   next-before w minute told e z r f ds y =
       let is : settledIn p minute w told ≡ answeredWith minute told w = ap (λ (b : Bool). pick b (answeredWith minute told w) (askedAgain w)) f in
@@ -250,7 +250,7 @@ module _ (p : Pace) (fine : badPace p ≡ false) where
       itself ready false o =
           subst (λ (v : Polling). Yet v ds) (meant-draws p (answeredWith minute told w) 0 o (some-try p fine (answeredWith minute told w) (ready .all) o)) y
 
-  end-before : (w : Polling) (minute : ℕ) (told : Told) → isOver w ≡ false → w .listening ≡ 1 → Ready w → (ds : List ℕ) → Yet (meant p (settledIn p minute w told)) ds → Yet w ds
+  end-before : (w : Polling) (minute : ℕ) (told : MessageTold) → isOver w ≡ false → w .listening ≡ 1 → Ready w → (ds : List ℕ) → Yet (meant p (settledIn p minute w told)) ds → Yet w ds
   end-before w minute told e z r ds y = go (isAnswered p w told) refl y
     where
       go : (b : Bool) → isAnswered p w told ≡ b → Yet (meant p (pick b (answeredWith minute told w) (askedAgain w))) ds → Yet w ds
@@ -266,7 +266,7 @@ module _ (p : Pace) (fine : badPace p ≡ false) where
       hear-before w (listens w (heardNow p w x) (w .passed + 1)) e z refl refl refl refl ds
       (all-turns h o (ready-by (listens w (heardNow p w x) (w .passed + 1)) w refl r))
   all-turns {w} {ds = ds} (hear-end minute x c e z l f h) o r =
-      let told : Told = toldAt p (heardNow p w x) (w .passed + 1) in
+      let told : MessageTold = toldAt p (heardNow p w x) (w .passed + 1) in
       let v : Polling = settledIn p minute w told in
       end-before w minute told e z r ds (all-turns h o (ready-by (meant p v) v (same-round p v .0) (settled-ready p minute w told r)))
 
@@ -331,11 +331,11 @@ module _ (rows : List Row) (minute : ℕ) where
           omega (arith, is, up-to (addressesIn (boardOf rows)) h i)
 
 -- A round that was begun, of a board that is kept in order.
-was-begun : (rows : List Row) (minute : ℕ) (b : Begun) → BeginsPolling rows minute b → b .number ≡ 0 → (kept (boardOf rows) ≡ true) × (b .polling ≡ start rows minute)
+was-begun : (rows : List Row) (minute : ℕ) (b : Begun) → BeginsPolling rows minute b → b .number ≡ 0 → (inAddressOrder (boardOf rows) ≡ true) × (b .polling ≡ start rows minute)
 unfolding beginning nothingBegun
-was-begun rows minute b h z = go (kept (boardOf rows)) refl
+was-begun rows minute b h z = go (inAddressOrder (boardOf rows)) refl
   where
-    go : (k : Bool) → kept (boardOf rows) ≡ k → (kept (boardOf rows) ≡ true) × (b .polling ≡ start rows minute)
+    go : (k : Bool) → inAddressOrder (boardOf rows) ≡ k → (inAddressOrder (boardOf rows) ≡ true) × (b .polling ≡ start rows minute)
     go true k = (k, ap (λ (x : Begun). x .polling) (h .answers) ∙ ap (λ (t : Bool). pick t (begun (beginning minute (boardOf rows)) 0) (begun nothingBegun 38) .polling) k)
     go false k =
         absurd (omega (arith, z, ap (λ (x : Begun). x .number) (h .answers) ∙ ap (λ (t : Bool). pick t (begun (beginning minute (boardOf rows)) 0) (begun nothingBegun 38) .number) k))
@@ -361,18 +361,18 @@ none-in-use (row ∷ rows) e =
     ap (λ (t : Bool). pick (not t) (row .address ∷ addressesIn rows) (addressesIn rows)) (both-left (isFree row) (allFree rows) e)
     ∙ none-in-use rows (both-right (isFree row) (allFree rows) e)
 
-rising-from : (least : ℕ) (rows : List Row) → keptFrom least rows ≡ true → RisingFrom least (addressesIn rows)
-unfolding keptFrom addressesIn
+rising-from : (least : ℕ) (rows : List Row) → inAddressOrderFrom least rows ≡ true → RisingFrom least (addressesIn rows)
+unfolding inAddressOrderFrom addressesIn
 rising-from least [] e = omega arith
 rising-from least (row ∷ rows) e = go (isFree row) e (rising-from (suc (row .address)) rows)
   where
-    go : (t : Bool) → pick t (allFree rows) (leb least (row .address) && keptFrom (suc (row .address)) rows) ≡ true
-        → (keptFrom (suc (row .address)) rows ≡ true → RisingFrom (suc (row .address)) (addressesIn rows))
+    go : (t : Bool) → pick t (allFree rows) (leb least (row .address) && inAddressOrderFrom (suc (row .address)) rows) ≡ true
+        → (inAddressOrderFrom (suc (row .address)) rows ≡ true → RisingFrom (suc (row .address)) (addressesIn rows))
         → RisingFrom least (pick (not t) (row .address ∷ addressesIn rows) (addressesIn rows))
     go true e h = subst (RisingFrom least) (sym (none-in-use rows e)) (omega arith)
     go false e h = (
-      leb-true least (row .address) (both-left (leb least (row .address)) (keptFrom (suc (row .address)) rows) e),
-      h (both-right (leb least (row .address)) (keptFrom (suc (row .address)) rows) e),
+      leb-true least (row .address) (both-left (leb least (row .address)) (inAddressOrderFrom (suc (row .address)) rows) e),
+      h (both-right (leb least (row .address)) (inAddressOrderFrom (suc (row .address)) rows) e),
     )
 
 -- A poll that was drawn, spoken to any such ear.

@@ -7,7 +7,7 @@ use lib.Dec.{ltb}
 use Rattle.frame.specs.Faults.{Test, _gives_}
 use Rattle.board.specs.declared.Row.{Row}
 use Rattle.board.specs.Rows.{boardOf}
-use Rattle.board.specs.Order.{kept}
+use Rattle.board.specs.Order.{inAddressOrder}
 use Rattle.polling.specs.declared.Begun.{Begun}
 use Rattle.polling.specs.Drawing.{LeftByDrawing}
 use Rattle.polling.specs.declared.Pace.{Pace}
@@ -25,7 +25,7 @@ pub record PollingOutcome : Type 0 where
 
 -- 38 is a board that is not kept in order.
 abbrev pub beginTable : List Row → List Test
-beginTable rows = not (kept (boardOf rows)) gives 38 ∷ []
+beginTable rows = not (inAddressOrder (boardOf rows)) gives 38 ∷ []
 
 -- 20 is a number of the pace out of its range.
 abbrev pub outOfPace : Pace → Bool

@@ -29,7 +29,7 @@ use Rattle.promises_wire.specs.Running.{Stood, stoodBy, Running, just-be
 use Rattle.promises_wire.specs.Running as running
 use Rattle.promises_wire.specs.TankToDesk.{SaysSo}
 use Rattle.promises_wire.specs.InTime.{InTime, SentBy, OnItsWay, Listens}
-use Rattle.promises_wire.specs.AnyBatches.{SentToAll, none-sent, one-sent, AllSay, none-says, one-says, Turns, no-turn, one-turn, Sends, part, whole, After, at-once, one-later, Sending, Answering}
+use Rattle.promises_wire.specs.AnyBatches.{SentToAll, none-sent, one-sent, AllSay, none-says, one-says, Turns, no-turn, one-turn, Sends, part, whole, After, at-once, one-later, SendsInTurns, Answering}
 use Rattle.promises_wire.proofs.InTime.{settled-so, says-in-time, said-in-time}
 
 -- The one after so many others.
@@ -128,7 +128,7 @@ module _ (p : Pace) (fine : badPace p ≡ false) (rows : List Row) (minute : ℕ
         go (drawn e z l m) = absurd (let on : v .listening ≡ 1 = ap (λ (u : Polling). u .listening) (sym itself ∙ m) in omega (arith, z, on))
         go (listening e z m) = by-turn (e, z) (eqb (length ys) i) refl
 
-  stood-so : {n : ℕ} {ys : List Stood} {since : List ℕ} {w : Polling} (t : Turns p (b .polling) n ys since w) → Sending i x t → StoodSo ys
+  stood-so : {n : ℕ} {ys : List Stood} {since : List ℕ} {w : Polling} (t : Turns p (b .polling) n ys since w) → SendsInTurns i x t → StoodSo ys
   stood-so no-turn sends = λ y at. let h = below at in absurd (omega (arith, h))
   stood-so (one-turn {ys = ys} {since = since} {w = w} out after d now samples a t room draw some fits hear) sends =
       let left : d .polling ≡ afterDrawn p w (length (drawnBy p w (length out))) = leaves p fine w out after d draw in
@@ -136,7 +136,7 @@ module _ (p : Pace) (fine : badPace p ≡ false) (rows : List Row) (minute : ℕ
       after-turn ys since (d .polling) (running.drew out after d (turns-run t) draw) itself now samples a hear (stood-so t (sends .0)) (sends .1)
 
   pub it-says : (row : Row) → After (usedRows (boardOf rows)) i row → SentBy (row .settings) (row .address) x
-      → {n : ℕ} {ys : List Stood} {since : List ℕ} {w : Polling} (t : Turns p (b .polling) n ys since w) → Sending i x t
+      → {n : ℕ} {ys : List Stood} {since : List ℕ} {w : Polling} (t : Turns p (b .polling) n ys since w) → SendsInTurns i x t
       → (ran : RanSo p rows ys w) (q : Poll) → After (ran .polls) i q → SaysSo x q
   it-says row at by t sends ran q poll =
       let r = poll-at (ran .in-step) poll in

@@ -35,8 +35,8 @@ use Rattle.promises_board.proofs.Ranges.{is-out, is-in}
 use Rattle.promises_board.proofs.Now.{board-calls, readings-now}
 use Rattle.promises_board.proofs.HistoryNow.{stays-kept}
 use Rattle.promises_wire.specs.Polls.{bitsSensed, Poll}
-use Rattle.promises_wire.specs.Heard.{Heard}
-use Rattle.promises_wire.specs.Board.{OnTheBoard, none-heard, heard-next, Shows, showsIn, afterFault, afterReply, shownBy}
+use Rattle.promises_wire.specs.Heard.{HeardOnLines}
+use Rattle.promises_wire.specs.Board.{OnTheBoard, none-heard, heard-next, BoardShows, showsIn, afterFault, afterReply, shownBy}
 use Rattle.promises_wire.specs.Month.{Replies, one-polled}
 use Rattle.promises_wire.specs.TankToDesk.{BySettings, no-poll, one-poll}
 use Rattle.promises_wire.proofs.Polled.{heard-so, same-held, read-held}
@@ -122,7 +122,7 @@ module _ (rows : List Row) (kept : SoKept rows) (minute address count : ℕ) (by
           (λ fine. by-reading i r fine (replyOf (rowAt rows i .settings) address count bytes) (record { answers = refl }))
 
 -- What stands of an address on a board.
-pub record Stands (rows : List Row) (address settings gauge : ℕ) (s : Shows) : Type 0 where
+pub record Stands (rows : List Row) (address settings gauge : ℕ) (s : BoardShows) : Type 0 where
   pub so-kept : SoKept rows
   pub at-place : ℕ
   pub row : IsRowOf rows address at-place
@@ -148,7 +148,7 @@ set-26 = refl
 module _ (rows : List Row) (minute address count : ℕ) (bytes : List ℕ) (answer : board.Heard) (after : List Row) (small : address ≤ 999)
     (shaped : formed count bytes ≡ true) (call : Hears rows minute address count bytes answer after) where
   -- its own address
-  module _ (settings gauge : ℕ) (fine : settings ≤ 15) (s : Shows) (st : Stands rows address settings gauge s) where
+  module _ (settings gauge : ℕ) (fine : settings ≤ 15) (s : BoardShows) (st : Stands rows address settings gauge s) where
     abbrev i : ℕ
     i = st .at-place
 
@@ -227,7 +227,7 @@ module _ (rows : List Row) (minute address count : ℕ) (bytes : List ℕ) (answ
         }
 
   -- another address
-  other-stands : (other settings gauge : ℕ) (s : Shows) → (address ≡ other → ⊥) → Stands rows other settings gauge s → Stands after other settings gauge s
+  other-stands : (other settings gauge : ℕ) (s : BoardShows) → (address ≡ other → ⊥) → Stands rows other settings gauge s → Stands after other settings gauge s
   other-stands other settings gauge s apart st =
       let d = did rows (st .so-kept) minute address count bytes answer after small shaped call in
       record {
@@ -243,7 +243,7 @@ module _ (rows : List Row) (minute address count : ℕ) (bytes : List ℕ) (answ
       }
 
 -- A poll more at the end.
-shown-more : (settings gauge address : ℕ) (s : Shows) (ps : List Poll) (p : Poll)
+shown-more : (settings gauge address : ℕ) (s : BoardShows) (ps : List Poll) (p : Poll)
     → shownBy settings gauge address s (ps ++ p ∷ [])
     ≡ pick (eqb (p .asked .address) address) (afterReply settings gauge (p .asked .minute) (p .read .says) (shownBy settings gauge address s ps)) (shownBy settings gauge address s ps)
 unfolding shownBy
@@ -252,7 +252,7 @@ shown-more settings gauge address s (q ∷ ps) p =
     shown-more settings gauge address (pick (eqb (q .asked .address) address) (afterReply settings gauge (q .asked .minute) (q .read .says) s) s) ps p
 
 -- The reply that was handed over, as the poll reads it.
-poll-form : (p : Poll) (count : ℕ) (bytes : List ℕ) → Heard (p .asked .timing) (p .sensed .samples) count bytes
+poll-form : (p : Poll) (count : ℕ) (bytes : List ℕ) → HeardOnLines (p .asked .timing) (p .sensed .samples) count bytes
     → (formed count bytes ≡ true) × ReadsReply (p .asked .settings) (p .asked .address) count bytes (p .read .says)
 poll-form p count bytes h =
     let held = heard-so (p .asked .timing) (p .asked .timing-fine) (p .sensed) count bytes refl h in
@@ -261,7 +261,7 @@ poll-form p count bytes h =
       record { answers = p .read .reads .answers ∙ sym (λ i. replyOf (p .asked .settings) (p .asked .address) (same .0 i) (same .1 i)) },
     )
 
-pub stands : {start : List Row} {ps : List Poll} {rows : List Row} → OnTheBoard start ps rows → (address settings gauge : ℕ) (s : Shows) → Stands start address settings gauge s
+pub stands : {start : List Row} {ps : List Poll} {rows : List Row} → OnTheBoard start ps rows → (address settings gauge : ℕ) (s : BoardShows) → Stands start address settings gauge s
     → Stands rows address settings gauge (shownBy settings gauge address s ps)
 unfolding shownBy
 stands none-heard address settings gauge s st = st

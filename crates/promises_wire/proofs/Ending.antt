@@ -13,7 +13,7 @@ use Rattle.frame.specs.Line.{mark}
 use Rattle.lines.specs.declared.SoFar.{SoFar}
 use Rattle.lines.specs.SoFar.{atRest}
 use Rattle.lines.specs.Step.{closes}
-use Rattle.lines.specs.Hearing.{Told, numberTold}
+use Rattle.lines.specs.Hearing.{MessageTold, numberTold}
 use Rattle.lines.proofs.Cases.{none-of}
 use Rattle.polling.specs.declared.Pace.{Pace}
 use Rattle.polling.specs.declared.Polling.{Polling}
@@ -75,7 +75,7 @@ module _ (p : Pace) (fine : badPace p ≡ false) (from : Polling) where
 
   -- A try.
   data TryEnds (xs : List Stood) (w : Polling) (s : Stood) : Type 0 where
-    stands : (told : Told) (n : ℕ) → listen p atRest 0 (s .samples) ≡ settledBy told n
+    stands : (told : MessageTold) (n : ℕ) → listen p atRest 0 (s .samples) ≡ settledBy told n
         → Running p from (xs ++ takenOf s n ∷ []) [] (answeredWith (s .minute) told (listens w atRest 0)) → TryEnds xs w s
     again : w .tried + 1 < p .tries → Running p from xs [] (askedAgain (listens w atRest 0)) → TryEnds xs w s
 
@@ -103,7 +103,7 @@ module _ (p : Pace) (fine : badPace p ≡ false) (from : Polling) where
           subst (λ (c : LeftByHearing). Running p from (xs ++ stoodBy c (s .minute) (s .samples) []) (sinceAfter c (s .samples) []) (c .polling)) is
           (heard (s .minute) (s .samples) a fits (polled xs w r e z) call)
 
-      by : (told : Told) (n : ℕ) → listen p atRest 0 (s .samples) ≡ settledBy told n → (b : Bool) → isAnswered p v told ≡ b
+      by : (told : MessageTold) (n : ℕ) → listen p atRest 0 (s .samples) ≡ settledBy told n → (b : Bool) → isAnswered p v told ≡ b
           → a ≡ pick b (settledOf (answeredWith (s .minute) told v) n (w .at) 1 (mark (isOver (answeredWith (s .minute) told v))) (numberTold told)) (settledOf (askedAgain v) n (w .at) 0 0 (numberTold told))
           → TryEnds xs w s
       by told n is true f answer = stands told n is (after _ answer)
@@ -117,7 +117,7 @@ module _ (p : Pace) (fine : badPace p ≡ false) (from : Polling) where
   -- A row's turn.
   record TurnEnds (xs : List Stood) (w : Polling) (comes : ℕ → Stood) : Type 0 where
     tried : ℕ
-    told : Told
+    told : MessageTold
     taken : ℕ
     few : tried < p .tries
     is : listen p atRest 0 (comes tried .samples) ≡ settledBy told taken

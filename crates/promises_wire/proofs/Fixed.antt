@@ -7,12 +7,12 @@ use Rattle.frame.specs.Pick.{pick}
 use Rattle.frame.specs.Reply.{replyOf}
 use Rattle.sheet.specs.Record.{entryOf}
 use Rattle.promises_wire.specs.Polls.{bitsSensed, Poll}
-use Rattle.promises_wire.specs.Expected.{Known, storesFor, Morning, known, shared, knownIn}
-use Rattle.promises_wire.specs.Board.{Shows, afterReply, shownBy}
+use Rattle.promises_wire.specs.Expected.{KnownSave, storesFor, Morning, knownSave, shared, knownIn}
+use Rattle.promises_wire.specs.Board.{BoardShows, afterReply, shownBy}
 use Rattle.promises_wire.specs.TankToDesk.{Noted, noted, NotedMorning, notes}
 use Rattle.promises_wire.proofs.Polled.{Held, same-held, read-held}
 
-same-poll : (p q : Poll) → noted p ≡ noted q → (given : ℕ) → known given p ≡ known given q
+same-poll : (p q : Poll) → noted p ≡ noted q → (given : ℕ) → knownSave given p ≡ knownSave given q
 same-poll p q e given =
     let settings : p .asked .settings ≡ q .asked .settings = ap (λ (x : Noted). x .settings) e in
     let minute : p .asked .minute ≡ q .asked .minute = ap (λ (x : Noted). x .minute) e in
@@ -32,8 +32,8 @@ same-polls [] (q ∷ qs) e given = absurd (nil≢cons e)
 same-polls (p ∷ ps) [] e given = absurd (cons≢nil e)
 same-polls (p ∷ ps) (q ∷ qs) e given =
     let one = same-poll p q (head-eq-of-cons-eq e) given in
-    ap₂ (λ (a : Known) (l : List Known). a ∷ l) one
-    (same-polls ps qs (tail-eq-of-cons-eq e) (given - storesFor (known given p)) ∙ ap (λ (x : Known). shared (given - storesFor x) qs) one)
+    ap₂ (λ (a : KnownSave) (l : List KnownSave). a ∷ l) one
+    (same-polls ps qs (tail-eq-of-cons-eq e) (given - storesFor (knownSave given p)) ∙ ap (λ (x : KnownSave). shared (given - storesFor x) qs) one)
 
 pub same-known : (ms qs : List Morning) → map notes ms ≡ map notes qs → knownIn ms ≡ knownIn qs
 unfolding knownIn
@@ -42,12 +42,12 @@ same-known [] (q ∷ qs) e = absurd (nil≢cons e)
 same-known (m ∷ ms) [] e = absurd (cons≢nil e)
 same-known (m ∷ ms) (q ∷ qs) e =
     let one : notes m ≡ notes q = head-eq-of-cons-eq e in
-    ap₂ (λ (a b : List Known). a ++ b)
+    ap₂ (λ (a b : List KnownSave). a ++ b)
     (same-polls (m .polls) (q .polls) (ap (λ (x : NotedMorning). x .polls) one) (m .allowance) ∙ ap (λ (x : NotedMorning). shared (x .allowance) (q .polls)) one)
     (same-known ms qs (tail-eq-of-cons-eq e))
 
 -- And what the board shows of them.
-pub same-shown : (settings gauge address : ℕ) (s : Shows) (ps qs : List Poll) → map noted ps ≡ map noted qs → shownBy settings gauge address s ps ≡ shownBy settings gauge address s qs
+pub same-shown : (settings gauge address : ℕ) (s : BoardShows) (ps qs : List Poll) → map noted ps ≡ map noted qs → shownBy settings gauge address s ps ≡ shownBy settings gauge address s qs
 unfolding shownBy
 same-shown settings gauge address s [] [] e = refl
 same-shown settings gauge address s [] (q ∷ qs) e = absurd (nil≢cons e)
@@ -56,6 +56,6 @@ same-shown settings gauge address s (p ∷ ps) (q ∷ qs) e =
     let one = same-poll p q (head-eq-of-cons-eq e) 0 in
     same-shown settings gauge address (pick (eqb (p .asked .address) address) (afterReply settings gauge (p .asked .minute) (p .read .says) s) s) ps qs (tail-eq-of-cons-eq e)
     ∙ ap
-    (λ (x : Known).
+    (λ (x : KnownSave).
     shownBy settings gauge address (pick (eqb (x .entry .address) address) (afterReply settings gauge (x .entry .minute) (x .says) s) s) qs)
     one

@@ -40,7 +40,7 @@ use Rattle.promises_lines.proofs.Tellings.{answerTo, answers}
 use Rattle.promises_card.specs.listing.Calls.{Wrote}
 use Rattle.promises_card.proofs.round.OneOutcome.{round-outcome}
 use Rattle.promises_wire.specs.Polls.{Asked, Sensed, bitsSensed, Poll, pollEntry}
-use Rattle.promises_wire.specs.Heard.{Heard, heard}
+use Rattle.promises_wire.specs.Heard.{HeardOnLines, heard}
 use Rattle.promises_wire.specs.Wire.{evenly}
 use Rattle.promises_wire.specs.Expected.{Morning}
 use Rattle.promises_wire.specs.Month.{Replies, Month, round-saved}
@@ -56,7 +56,7 @@ any-samples q samples =
     let l : List ℕ = take (a .taken) samples in
     let g = grouped l in
     let x : Sensed = record { samples = l; runs = g .runs; apart = g .apart; spells = g .spells } in
-    let one : Heard t l (a .count) (bytesIn a) = heard samples a begun (answers t samples) in
+    let one : HeardOnLines t l (a .count) (bytesIn a) = heard samples a begun (answers t samples) in
     let h : Held (bitsSensed t (x .runs)) (a .count) (bytesIn a) = heard-so t (q .timing-fine) x (a .count) (bytesIn a) refl one in
     record {
       poll = record {

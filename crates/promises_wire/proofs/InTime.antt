@@ -18,7 +18,7 @@ use Rattle.lines.specs.declared.SoFar.{SoFar}
 use Rattle.lines.specs.Sample.{sampleOf}
 use Rattle.lines.specs.SoFar.{atRest, isRest, legal}
 use Rattle.lines.specs.Step.{after, closes}
-use Rattle.lines.specs.Hearing.{Told, nothing, message, toldOf}
+use Rattle.lines.specs.Hearing.{MessageTold, nothing, message, toldOf}
 use Rattle.lines.proofs.Cases.{none-of}
 use Rattle.round.specs.declared.Polled.{Polled}
 use Rattle.round.specs.Replies.{entryIn}
@@ -45,12 +45,12 @@ use Rattle.promises_wire.proofs.Tries.{isSettled, takenBy, Beside, both
 use Rattle.promises_wire.proofs.Running.{Good, Ear, drawing-now, listening-now, ByPoll, by-poll, all-so, long-so, take-past, good-run, good-begun, begun-by, beginning-is}
 use Rattle.promises_wire.proofs.Timely.{listens-to}
 
-abbrev toldBy : Listened → Told
+abbrev toldBy : Listened → MessageTold
 toldBy (goesOn left taken) = nothing
 toldBy (settledBy told taken) = told
 
 -- What settles a part settles the whole.
-pub listen-settled : (p : Pace) (s : SoFar) (q : ℕ) (xs ys : List ℕ) (told : Told) (n : ℕ) → listen p s q xs ≡ settledBy told n → listen p s q (xs ++ ys) ≡ settledBy told n
+pub listen-settled : (p : Pace) (s : SoFar) (q : ℕ) (xs ys : List ℕ) (told : MessageTold) (n : ℕ) → listen p s q xs ≡ settledBy told n → listen p s q (xs ++ ys) ≡ settledBy told n
 unfolding listen settle
 listen-settled p s q [] ys told n e = absurd (omega (arith, ap isSettled e))
 listen-settled p s q (x ∷ xs) ys told n e =
@@ -61,7 +61,7 @@ listen-settled p s q (x ∷ xs) ys told n e =
 
     go : (a b c : Bool) → pick a (settledBy (toldOf m) 1) (pick b (settledBy nothing 1) (pick c (settledBy (givenUp m) 1) (later 1 (listen p m (q + 1) xs)))) ≡ settledBy told n
         → (l : Listened) → listen p m (q + 1) xs ≡ l
-        → ((told : Told) (n : ℕ) → listen p m (q + 1) xs ≡ settledBy told n → listen p m (q + 1) (xs ++ ys) ≡ settledBy told n)
+        → ((told : MessageTold) (n : ℕ) → listen p m (q + 1) xs ≡ settledBy told n → listen p m (q + 1) (xs ++ ys) ≡ settledBy told n)
         → pick a (settledBy (toldOf m) 1) (pick b (settledBy nothing 1) (pick c (settledBy (givenUp m) 1) (later 1 (listen p m (q + 1) (xs ++ ys))))) ≡ settledBy told n
     go true b c h l r more = h
     go false true c h l r more = h
@@ -126,7 +126,7 @@ module _ (p : Pace) (rows : List Row) (xs : List Stood) (since : List ℕ) (w : 
 
     -- all of it
     module _ (x : Sent) (timely : InTime p x) (more : List ℕ) (is : since ++ samples ≡ samplesOf (x .drawing) ++ more) where
-      abbrev told : Told
+      abbrev told : MessageTold
       told = let r = listens-to p (way .paced) x timely more in message (r .count) (r .bits)
 
       abbrev answer : ℕ → LeftByHearing
@@ -149,7 +149,7 @@ module _ (p : Pace) (rows : List Row) (xs : List Stood) (since : List ℕ) (w : 
           go (goesOn left k) e = absurd (omega (arith, ap isSettled (sym (ap (later (w .passed)) e) ∙ all)))
           go (settledBy u k) e =
               let both : settledBy u (w .passed + k) ≡ settledBy told (length (samplesOf (x .drawing))) = sym (ap (later (w .passed)) e) ∙ all in
-              let by : listen p (w .lines) (w .passed) samples ≡ settledBy told k = e ∙ ap (λ (v : Told). settledBy v k) (ap toldBy both) in
+              let by : listen p (w .lines) (w .passed) samples ≡ settledBy told k = e ∙ ap (λ (v : MessageTold). settledBy v k) (ap toldBy both) in
               let sum : w .passed + k ≡ length (samplesOf (x .drawing)) = ap takenBy both in
               record {
                 k = k;

@@ -14,14 +14,14 @@ use Rattle.frame.specs.Reply.{replyOf}
 use Rattle.sheet.specs.Record.{Entry, lengthOf}
 use Rattle.sheet.specs.Slots.{Slot, blank, spoiled, holds, recordIn, sizeAllowed, slots, slotAt, slotOf, listOf}
 use Rattle.sheet.specs.Save.{storesMade}
-use Rattle.listing.specs.Text.{ascii, decimal}
-use Rattle.listing.specs.Lines.{headLine, recordText, lineOf, linesUpTo, countLine, listingOf}
+use Rattle.listing.specs.Text.{ascii, inDecimal}
+use Rattle.listing.specs.Lines.{headLine, recordText, listedLine, linesUpTo, countLine, listingOf}
 use Rattle.promises_card.specs.sheet.History.{Save, allStores, isClosed, recordsOf}
 use Rattle.promises_card.specs.sheet.SlotsInOrder.{hasSlot, slotOfSave, slotsOfSaves}
 use Rattle.promises_card.specs.listing.InOrder.{joined}
 use Rattle.promises_card.proofs.sheet.ListAndFull.{slots-of, long-so, sized, list-and-full}
 use Rattle.promises_card.proofs.sheet.SlotsInOrder.{fills, slots-in-order}
-use Rattle.promises_wire.specs.Expected.{Known, storesFor, uncut, lineFor, linesFrom, recordsFrom, recordsFor, listingFor}
+use Rattle.promises_wire.specs.Expected.{KnownSave, storesFor, uncut, expectedLine, linesFrom, recordsFrom, recordsFor, listingFor}
 use Rattle.promises_wire.proofs.Stored.{Order, Stored, takesSlot, slotFor, rowFrom, rowed}
 
 -- Lines joined: the first one first.
@@ -43,29 +43,29 @@ joined-none (suc k) = ap (λ (l : List ℕ). l ++ []) (joined-none k)
 -- The lines of a row of slots that begins with slot k, and its records.
 abbrev linesOfRow : ℕ → List Slot → List ℕ
 linesOfRow k [] = []
-linesOfRow k (y ∷ ys) = lineOf k y ++ linesOfRow (suc k) ys
+linesOfRow k (y ∷ ys) = listedLine k y ++ linesOfRow (suc k) ys
 
 abbrev held : List Slot → List Entry
 held [] = []
 held (y ∷ ys) = recordIn y ++ held ys
 
-row-lines : (row : List Slot) (base k : ℕ) → length row ≤ k → joined (λ j. lineOf (base + j) (getD row j blank)) k ≡ linesOfRow base row
+row-lines : (row : List Slot) (base k : ℕ) → length row ≤ k → joined (λ j. listedLine (base + j) (getD row j blank)) k ≡ linesOfRow base row
 row-lines [] base k h = joined-none k
 row-lines (y ∷ ys) base zero h = absurd (omega arith)
 row-lines (y ∷ ys) base (suc k) h =
-    joined-first (λ j. lineOf (base + j) (getD (y ∷ ys) j blank)) k
-    ∙ ap₂ (λ (a b : List ℕ). a ++ b) (ap (λ (j : ℕ). lineOf j y) (add-zero base))
-    (joined-same (λ j. lineOf (base + suc j) (getD ys j blank)) (λ j. lineOf (suc base + j) (getD ys j blank)) k
-    (λ j l. let place : base + suc j ≡ suc base + j = omega arith in ap (λ (i : ℕ). lineOf i (getD ys j blank)) place)
+    joined-first (λ j. listedLine (base + j) (getD (y ∷ ys) j blank)) k
+    ∙ ap₂ (λ (a b : List ℕ). a ++ b) (ap (λ (j : ℕ). listedLine j y) (add-zero base))
+    (joined-same (λ j. listedLine (base + suc j) (getD ys j blank)) (λ j. listedLine (suc base + j) (getD ys j blank)) k
+    (λ j l. let place : base + suc j ≡ suc base + j = omega arith in ap (λ (i : ℕ). listedLine i (getD ys j blank)) place)
     ∙ row-lines ys (suc base) k (omega arith))
 
 sheet-lines : (s : List ℕ) (row : List Slot) (k : ℕ) → ((j : ℕ) → j < k → slotOf (slotAt s j) ≡ getD row j blank)
-    → linesUpTo s k ≡ joined (λ j. lineOf (0 + j) (getD row j blank)) k
+    → linesUpTo s k ≡ joined (λ j. listedLine (0 + j) (getD row j blank)) k
 unfolding linesUpTo joined
 sheet-lines s row zero e = refl
 sheet-lines s row (suc k) e =
     ap₂ (λ (a b : List ℕ). a ++ b) (sheet-lines s row k (λ j h. e j (omega arith)))
-    (ap (lineOf k) (e k (omega arith)) ∙ ap (λ (i : ℕ). lineOf i (getD row k blank)) (sym (zero-add k)))
+    (ap (listedLine k) (e k (omega arith)) ∙ ap (λ (i : ℕ). listedLine i (getD row k blank)) (sym (zero-add k)))
 
 -- The records of a history are those of its slots.
 held-append : (ys zs : List Slot) → held (ys ++ zs) ≡ held ys ++ held zs
@@ -88,7 +88,7 @@ records-held (x ∷ h) =
     ∙ sym (held-append (slotsOfSaves h) (pick (hasSlot x) (slotOfSave x ∷ []) []))
 
 -- What is expected of a record.
-abbrev pub knownOrder : Order → Known
+abbrev pub knownOrder : Order → KnownSave
 knownOrder o =
     record {
       entry = o .entry;
@@ -99,11 +99,11 @@ knownOrder o =
 pub stores-as : (o : Order) → lengthOf (o .entry) + 2 ≡ storesFor (knownOrder o)
 stores-as o = omega arith
 
-slot-line : (k : ℕ) (o : Order) → lineOf k (slotFor o) ≡ lineFor k (knownOrder o)
+slot-line : (k : ℕ) (o : Order) → listedLine k (slotFor o) ≡ expectedLine k (knownOrder o)
 unfolding recordText
 slot-line k o = go (leb (lengthOf (o .entry) + 2) (o .given)) (ap (λ (m : ℕ). leb m (o .given)) (stores-as o))
   where
-    go : (b : Bool) → b ≡ uncut (knownOrder o) → lineOf k (pick b (holds (o .entry)) spoiled) ≡ lineFor k (knownOrder o)
+    go : (b : Bool) → b ≡ uncut (knownOrder o) → listedLine k (pick b (holds (o .entry)) spoiled) ≡ expectedLine k (knownOrder o)
     go true e = rw (sym e)
     go false e = rw (sym e)
 
@@ -122,7 +122,7 @@ order-lines n k (o ∷ os) = go (takesSlot n k o) (order-lines n (suc k) os) (or
     go : (b : Bool) → linesOfRow (suc k) (rowFrom n (suc k) os) ≡ linesFrom n (suc k) (map knownOrder os)
         → linesOfRow k (rowFrom n k os) ≡ linesFrom n k (map knownOrder os)
         → linesOfRow k (pick b (slotFor o ∷ rowFrom n (suc k) os) (rowFrom n k os))
-        ≡ pick b (lineFor k (knownOrder o) ++ linesFrom n (suc k) (map knownOrder os)) (linesFrom n k (map knownOrder os))
+        ≡ pick b (expectedLine k (knownOrder o) ++ linesFrom n (suc k) (map knownOrder os)) (linesFrom n k (map knownOrder os))
     go true e f = ap₂ (λ (a b : List ℕ). a ++ b) (slot-line k o) e
     go false e f = f
 
@@ -139,11 +139,11 @@ order-records n k (o ∷ os) = go (takesSlot n k o) (order-records n (suc k) os)
     go false e f = f
 
 listing-is : (s : List ℕ) (n m : ℕ) (lines : List ℕ) → sizeAllowed s ≡ true → slots s ≡ n → linesUpTo s n ≡ lines → length (listOf s) ≡ m
-    → listingOf s ≡ (ascii "sheet " ++ decimal n ++ ascii "\n") ++ lines ++ (ascii "records " ++ decimal m ++ ascii "\n")
+    → listingOf s ≡ (ascii "sheet " ++ inDecimal n ++ ascii "\n") ++ lines ++ (ascii "records " ++ inDecimal m ++ ascii "\n")
 unfolding listingOf headLine countLine
 listing-is s n m lines size all e c =
     rw size
-    (λ i. (ascii "sheet " ++ decimal (all i) ++ ascii "\n") ++ (ap (linesUpTo s) all ∙ e) i ++ (ascii "records " ++ decimal (c i) ++ ascii "\n"))
+    (λ i. (ascii "sheet " ++ inDecimal (all i) ++ ascii "\n") ++ (ap (linesUpTo s) all ∙ e) i ++ (ascii "records " ++ inDecimal (c i) ++ ascii "\n"))
 
 -- The list and the listing of a sheet on which records were stored.
 module _ (n : ℕ) (few : n ≤ 2048) (os : List Order) (s : List ℕ) (st : Stored n os s) where

@@ -35,7 +35,7 @@ use Rattle.promises_card.proofs.summary.Afresh.{afresh-made}
 use Rattle.promises_card.proofs.summary.AtAnyMoment.{at-any-moment}
 use Rattle.promises_card.proofs.round.AtAnyMoment.{rounds-at-any-moment}
 use Rattle.promises_wire.specs.Polls.{Poll, pollEntry}
-use Rattle.promises_wire.specs.Expected.{Known, storesFor, recordsFor, listingFor, Morning, known, shared, knownIn}
+use Rattle.promises_wire.specs.Expected.{KnownSave, storesFor, recordsFor, listingFor, Morning, knownSave, shared, knownIn}
 use Rattle.promises_wire.specs.Month.{Replies, morning, Month, begun, summed, one-saved, round-saved, one-kept, round-kept, unsaved, gone}
 use Rattle.promises_wire.proofs.Stored.{Order, order, Stored, none-yet, stored, size-of}
 use Rattle.promises_wire.proofs.Rounds.{ordersFrom, Paged, unpaged, paged, keep-is-save, no-stores, round-stored}
@@ -55,15 +55,15 @@ orders-more (x ∷ ms) m =
     ∙ sym (append-assoc (ordersFrom (x .allowance) (map pollEntry (x .polls))) (ordersIn ms) (ordersFrom (m .allowance) (map pollEntry (m .polls))))
 
 -- They are what is known of the polls.
-known-poll : (given : ℕ) (p : Poll) → knownOrder (order (pollEntry p) given) ≡ known given p
+known-poll : (given : ℕ) (p : Poll) → knownOrder (order (pollEntry p) given) ≡ knownSave given p
 known-poll given p = ap (λ (r : Reply). record { entry = pollEntry p; says = r; given = given }) (sym (p .read .reads .answers))
 
 shared-are : (given : ℕ) (ps : List Poll) → map knownOrder (ordersFrom given (map pollEntry ps)) ≡ shared given ps
 unfolding ordersFrom shared
 shared-are given [] = refl
 shared-are given (p ∷ ps) =
-    let less : lengthOf (pollEntry p) + 2 ≡ storesFor (known given p) = stores-as (order (pollEntry p) given) in
-    ap₂ (λ (a : Known) (l : List Known). a ∷ l) (known-poll given p)
+    let less : lengthOf (pollEntry p) + 2 ≡ storesFor (knownSave given p) = stores-as (order (pollEntry p) given) in
+    ap₂ (λ (a : KnownSave) (l : List KnownSave). a ∷ l) (known-poll given p)
     (shared-are (given - (lengthOf (pollEntry p) + 2)) ps ∙ ap (λ (k : ℕ). shared (given - k) ps) less)
 
 map-append : {A B : Type 0} (f : A → B) (xs ys : List A) → map f (xs ++ ys) ≡ map f xs ++ map f ys
@@ -75,7 +75,7 @@ unfolding ordersIn knownIn
 known-are [] = refl
 known-are (m ∷ ms) =
     map-append knownOrder (ordersFrom (m .allowance) (map pollEntry (m .polls))) (ordersIn ms)
-    ∙ ap₂ (λ (a b : List Known). a ++ b) (shared-are (m .allowance) (m .polls)) (known-are ms)
+    ∙ ap₂ (λ (a b : List KnownSave). a ++ b) (shared-are (m .allowance) (m .polls)) (known-are ms)
 
 dated : (ps : List Poll) → Dated (map pollEntry ps)
 dated [] = none-dated

@@ -23,8 +23,8 @@ use Rattle.promises_lines.specs.Runs.{byRuns}
 use Rattle.promises_lines.proofs.Form.{form}
 use Rattle.promises_lines.proofs.Runs.{runs}
 use Rattle.promises_lines.proofs.Messages.{bits-long, same-bytes, handed-bytes, handed-bits}
-use Rattle.promises_wire.specs.Polls.{Asked, Sensed, firstBits, bitsSensed, Reads, Poll, entryFor, pollEntry}
-use Rattle.promises_wire.specs.Heard.{Heard, heard}
+use Rattle.promises_wire.specs.Polls.{Asked, Sensed, bitsToldFirst, bitsSensed, SensedAndRead, Poll, entryFor, pollEntry}
+use Rattle.promises_wire.specs.Heard.{HeardOnLines, heard}
 use Rattle.promises_wire.specs.Month.{Replies, none-polled, one-polled}
 use Rattle.promises_wire.proofs.Stored.{Fit}
 use Rattle.promises_wire.proofs.Rounds.{AllFit, none-fit, one-fit}
@@ -40,11 +40,11 @@ unfolding formed
 no-form = refl
 
 -- The first that a call tells is its bits.
-first-told : (a : LinesTold) → firstBits (tellings a) ≡ bitsOf (a .count) (a .message)
+first-told : (a : LinesTold) → bitsToldFirst (tellings a) ≡ bitsOf (a .count) (a .message)
 unfolding bitsOf
 first-told a = go (eqb (a .number) 0) (eqb (a .count) 0) refl
   where
-    go : (b c : Bool) → eqb (a .count) 0 ≡ c → firstBits (pick (b && c) [] (said a ∷ [])) ≡ bitsOf (a .count) (a .message)
+    go : (b c : Bool) → eqb (a .count) 0 ≡ c → bitsToldFirst (pick (b && c) [] (said a ∷ [])) ≡ bitsOf (a .count) (a .message)
     go true true e = sym (ap (λ (k : ℕ). bitsOf k (a .message)) (eqb-true (a .count) 0 e))
     go true false e = refl
     go false c e = refl
@@ -58,7 +58,7 @@ formed-so s t batch a fine c = go (eqb (a .count) 0) refl
     go false e = form .formed s (t .least) (t .most) (t .gap) batch a fine c (eqb-false (a .count) 0 e) .2
 
 -- What was heard is what the runs tell.
-pub heard-so : (t : Timing) → badTiming t ≡ false → (x : Sensed) (count : ℕ) (bytes : List ℕ) {samples : List ℕ} → samples ≡ x .samples → Heard t samples count bytes
+pub heard-so : (t : Timing) → badTiming t ≡ false → (x : Sensed) (count : ℕ) (bytes : List ℕ) {samples : List ℕ} → samples ≡ x .samples → HeardOnLines t samples count bytes
     → Held (bitsSensed t (x .runs)) count bytes
 heard-so t fine x count bytes e (heard {samples = before} {s = s} batch a h c) =
     let told : tellings a ≡ byRuns t [] (x .runs)
@@ -67,7 +67,7 @@ heard-so t fine x count bytes e (heard {samples = before} {s = s} batch a h c) =
     record {
       are-bytes = handed-bytes s (t .least) (t .most) (t .gap) batch a c;
       in-form = formed-so s t batch a fine c;
-      bits-are = handed-bits a ∙ sym (first-told a) ∙ ap firstBits told;
+      bits-are = handed-bits a ∙ sym (first-told a) ∙ ap bitsToldFirst told;
     }
 
 -- The same bits are in the same bytes.
@@ -80,7 +80,7 @@ same-held bits count other bytes others p q =
           (ap (λ (k : ℕ). bitsOf k bytes) (sym many) ∙ e),
     )
 
-pub read-held : {q : Asked} {x : Sensed} (r : Reads q x) → Held (bitsSensed (q .timing) (x .runs)) (r .count) (r .bytes)
+pub read-held : {q : Asked} {x : Sensed} (r : SensedAndRead q x) → Held (bitsSensed (q .timing) (x .runs)) (r .count) (r .bytes)
 read-held r = record { are-bytes = r .are-bytes; in-form = r .in-form; bits-are = r .bits-are }
 
 entry-same : (q : Asked) (count other : ℕ) (bytes others : List ℕ) → (count ≡ other) × (bytes ≡ others) → entryFor q count bytes ≡ entryFor q other others

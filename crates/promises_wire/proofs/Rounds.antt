@@ -19,10 +19,10 @@ use Rattle.summary.specs.declared.Summary.{Summary}
 use Rattle.summary.specs.Worked.{summaryOf}
 use Rattle.summary.specs.Handed.{handedFault}
 use Rattle.summary.specs.Updated.{withRecord}
-use Rattle.summary.specs.Calls.{keptOf, keepFault, closes, SavesWith}
+use Rattle.summary.specs.Calls.{keptOf, keepFault, closesRecord, SavesWith}
 use Rattle.summary.proofs.Seen.{few-slots}
 use Rattle.summary.proofs.Shaped.{handed-worked}
-use Rattle.round.specs.Saving.{Page, none, kept, replyFault, pageWith, Standing, standing, withStores, stoppedBy, tried, savedAll}
+use Rattle.round.specs.Saving.{Page, none, kept, saveRefusal, pageWith, Standing, standing, withStores, stoppedBy, tried, savedAll}
 use Rattle.promises_card.specs.summary.Chain.{Step}
 use Rattle.promises_card.specs.summary.Chain as chain
 use Rattle.promises_card.proofs.summary.AtAnyMoment.{at-any-moment}
@@ -52,16 +52,16 @@ pub keep-is-save : (s : List ℕ) → sizeAllowed s ≡ true → (page : Summary
 unfolding keepFault
 keep-is-save s size page is e = ap (λ (k : ℕ). pick (eqb k 0) (saveFault s e) k) (clean s size page is)
 
-fault-same : (s : List ℕ) → sizeAllowed s ≡ true → (page : Page) → Paged s page → (e : Entry) → replyFault s page e ≡ saveFault s e
+fault-same : (s : List ℕ) → sizeAllowed s ≡ true → (page : Page) → Paged s page → (e : Entry) → saveRefusal s page e ≡ saveFault s e
 fault-same s size none p e = refl
 fault-same s size (kept page) (paged is) e = keep-is-save s size page is e
 
 -- One save leaves the summary of the list that it leaves.
 module _ (s : List ℕ) (size : sizeAllowed s ≡ true) (e : Entry) (fit : Fit e) (left : ℕ) where
   kept-after : (page : Summary) → page ≡ summaryOf (listOf s) → keepFault s page e ≡ 0
-      → pick (closes e left) (withRecord e page) page ≡ summaryOf (listOf (after s e left))
+      → pick (closesRecord e left) (withRecord e page) page ≡ summaryOf (listOf (after s e left))
   kept-after page is clear =
-      let answer = keptOf (pick (closes e left) (withRecord e page) page) (min left (lengthOf e + 2)) 0 in
+      let answer = keptOf (pick (closesRecord e left) (withRecord e page) page) (min left (lengthOf e + 2)) 0 in
       let m : SavesWith s page e left answer (after s e left) =
       record {
         answers = sym (ap (λ (k : ℕ). pick (eqb k 0) answer (keptOf page 0 k)) clear);
@@ -71,13 +71,13 @@ module _ (s : List ℕ) (size : sizeAllowed s ≡ true) (e : Entry) (fit : Fit e
       at-any-moment .equals s size (x ∷ []) (after s e left) (answer .summary)
       (subst (λ (p : Summary). chain.Chain s p (x ∷ []) (after s e left) (answer .summary)) is (chain.kept x chain.begun m))
 
-  paged-after : (page : Page) → Paged s page → replyFault s page e ≡ 0 → Paged (after s e left) (pick (closes e left) (pageWith e page) page)
-  paged-after none p clear = go (closes e left)
+  paged-after : (page : Page) → Paged s page → saveRefusal s page e ≡ 0 → Paged (after s e left) (pick (closesRecord e left) (pageWith e page) page)
+  paged-after none p clear = go (closesRecord e left)
     where
       go : (b : Bool) → Paged (after s e left) (pick b (pageWith e none) none)
       go true = unpaged
       go false = unpaged
-  paged-after (kept page) (paged is) clear = go (closes e left) (kept-after page is clear)
+  paged-after (kept page) (paged is) clear = go (closesRecord e left) (kept-after page is clear)
     where
       go : (b : Bool) → pick b (withRecord e page) page ≡ summaryOf (listOf (after s e left)) → Paged (after s e left) (pick b (pageWith e (kept page)) (kept page))
       go true q = paged q
@@ -139,7 +139,7 @@ module _ (n : ℕ) (few : n ≤ 2048) where
     size : sizeAllowed s ≡ true
     size = size-of n few st
 
-    same : replyFault s page e ≡ saveFault s e
+    same : saveRefusal s page e ≡ saveFault s e
     same = fault-same s size page p e
 
     saves : saveFault s e ≡ 0 → Saves s e left (Stores (min left (lengthOf e + 2))) (after s e left)
@@ -149,24 +149,24 @@ module _ (n : ℕ) (few : n ≤ 2048) where
           leaves = sym (ap (λ (k : ℕ). pick (eqb k 0) (after s e left) s) clear);
         }
 
-    by-fault : (b : Bool) → eqb (replyFault s page e) 0 ≡ b → Ends (end (pick b (withStores left x e) (stoppedBy (replyFault s page e) x)))
+    by-fault : (b : Bool) → eqb (saveRefusal s page e) 0 ≡ b → Ends (end (pick b (withStores left x e) (stoppedBy (saveRefusal s page e) x)))
     unfolding ordersFrom
     by-fault true f =
-        let clear : replyFault s page e ≡ 0 = eqb-true (replyFault s page e) 0 f in
+        let clear : saveRefusal s page e ≡ 0 = eqb-true (saveRefusal s page e) 0 f in
         let given : allowance - (stores + min left (lengthOf e + 2)) ≡ left - (lengthOf e + 2) = omega arith in
         let now = stored (order e left) (Stores (min left (lengthOf e + 2))) (after s e left) st fit (saves (sym same ∙ clear)) in
-        let all = rest (after s e left) (pick (closes e left) (pageWith e page) page) (closed + pick (closes e left) 1 0)
+        let all = rest (after s e left) (pick (closesRecord e left) (pageWith e page) page) (closed + pick (closesRecord e left) 1 0)
         (stores + min left (lengthOf e + 2)) (os ++ order e left ∷ []) now (paged-after s size e fit left page p clear) in
         subst (λ (l : List Order). Stored n l (end (withStores left x e)))
         (one-then os (order e left) (ordersFrom (allowance - (stores + min left (lengthOf e + 2))) es) ∙ ap (λ (k : ℕ). os ++ order e left ∷ ordersFrom k es) given) all
     by-fault false f =
-        let some : replyFault s page e ≡ 0 → ⊥ = eqb-false (replyFault s page e) 0 f in
+        let some : saveRefusal s page e ≡ 0 → ⊥ = eqb-false (saveRefusal s page e) 0 f in
         let full : n ≤ next s = no-slot n few st e fit (λ z. some (same ∙ z)) in
-        subst Ends (sym (stopped-stays allowance (stoppedBy (replyFault s page e) x) es some)) (no-room (e ∷ es) left full st)
+        subst Ends (sym (stopped-stays allowance (stoppedBy (saveRefusal s page e) x) es some)) (no-room (e ∷ es) left full st)
 
     by-stores : (b : Bool) → ltb stores allowance ≡ b → Ends (pick b (savedAll allowance (tried allowance x e) es) x .sheet)
     unfolding tried ordersFrom
-    by-stores true l = by-fault (eqb (replyFault s page e) 0) refl
+    by-stores true l = by-fault (eqb (saveRefusal s page e) 0) refl
     by-stores false l =
         let nothing : 0 ≡ allowance - stores = omega (arith, ltb-false stores allowance l) in
         subst (λ (k : ℕ). Stored n (os ++ ordersFrom k (e ∷ es)) s) nothing (no-stores (e ∷ es) st)

@@ -16,12 +16,12 @@ use Rattle.frame.specs.Reply.{replyOf}
 use Rattle.board.specs.declared.Row.{Row}
 use Rattle.board.specs.Row.{isFree}
 use Rattle.board.specs.Rows.{boardOf}
-use Rattle.board.specs.Order.{kept}
+use Rattle.board.specs.Order.{inAddressOrder}
 use Rattle.lines.specs.declared.SoFar.{SoFar}
 use Rattle.lines.specs.SoFar.{atRest, legal}
 use Rattle.lines.specs.SoFar as lines
 use Rattle.lines.specs.Timing.{badTiming}
-use Rattle.lines.specs.Hearing.{Told, nothing, message, spoiled, countTold, bytesTold, numberTold}
+use Rattle.lines.specs.Hearing.{MessageTold, nothing, message, spoiled, countTold, bytesTold, numberTold}
 use Rattle.lines.proofs.Cases.{none-of}
 use Rattle.round.specs.declared.Polled.{Polled}
 use Rattle.round.specs.declared.Round.{Round}
@@ -48,7 +48,7 @@ use Rattle.promises_polling.proofs.Drawn.{leaves}
 use Rattle.promises_polling.proofs.Heard as polling
 use Rattle.promises_polling.proofs.Heard.{timing-fine}
 use Rattle.promises_wire.specs.Polls.{Asked, Sensed, bitsSensed, Poll, entryFor, pollEntry}
-use Rattle.promises_wire.specs.Heard.{Heard}
+use Rattle.promises_wire.specs.Heard.{HeardOnLines}
 use Rattle.promises_wire.specs.Month.{Replies, none-polled, one-polled, round-saved, round-kept}
 use Rattle.promises_wire.specs.Running.{Stood, sinceAfter, stoodBy, Running, just-begun, heard, Enrolled, PollOf, InStep, none-in-step, one-in-step, RanSo, Ended, RunByTheRecorder}
 use Rattle.promises_wire.specs.Running as running
@@ -61,7 +61,7 @@ step-more : {p : Pace} {rows : List Row} {xs : List Stood} {qs : List Poll} (row
 step-more row x q none-in-step is = one-in-step row x q is none-in-step
 step-more row x q (one-in-step r y s first others) is = one-in-step r y s first (step-more row x q others is)
 
-replies-more : {qs : List Poll} {es : List Entry} (q : Poll) (count : ℕ) (bytes : List ℕ) → Heard (q .asked .timing) (q .sensed .samples) count bytes → Replies qs es
+replies-more : {qs : List Poll} {es : List Entry} (q : Poll) (count : ℕ) (bytes : List ℕ) → HeardOnLines (q .asked .timing) (q .sensed .samples) count bytes → Replies qs es
     → Replies (qs ++ q ∷ []) (es ++ entryFor (q .asked) count bytes ∷ [])
 replies-more q count bytes h none-polled = one-polled q count bytes h none-polled
 replies-more q count bytes h (one-polled p c b g others) = one-polled p c b g (replies-more q count bytes h others)
@@ -71,7 +71,7 @@ map-more f [] x = refl
 map-more f (y ∷ xs) x = ap (λ l. f y ∷ l) (map-more f xs x)
 
 -- A poll of which this was heard.
-poll-for : (q : Asked) (samples : List ℕ) (count : ℕ) (bytes : List ℕ) → Heard (q .timing) samples count bytes → Poll
+poll-for : (q : Asked) (samples : List ℕ) (count : ℕ) (bytes : List ℕ) → HeardOnLines (q .timing) samples count bytes → Poll
 poll-for q samples count bytes h =
     let g = grouped samples in
     let x : Sensed = record { samples = samples; runs = g .runs; apart = g .apart; spells = g .spells } in
@@ -90,14 +90,14 @@ poll-for q samples count bytes h =
       };
     }
 
-few-bytes : (q : Asked) (samples : List ℕ) (count : ℕ) (bytes : List ℕ) → Heard (q .timing) samples count bytes → bytesFor count ≤ 8
+few-bytes : (q : Asked) (samples : List ℕ) (count : ℕ) (bytes : List ℕ) → HeardOnLines (q .timing) samples count bytes → bytesFor count ≤ 8
 unfolding poll-for
 few-bytes q samples count bytes h =
     let r = poll-for q samples count bytes h .read in
     let small = bits-are-bits .form count bytes (r .are-bytes) .0 (r .in-form) .at-most-64 in
     omega arith
 
-bytes-eight : (told : Told) → length (bytesTold told) ≡ 8
+bytes-eight : (told : MessageTold) → length (bytesTold told) ≡ 8
 bytes-eight nothing = length-firstBytes 8 0 (omega arith)
 bytes-eight (message count bits) = length-firstBytes 8 bits (omega arith)
 bytes-eight (spoiled number) = length-firstBytes 8 0 (omega arith)
@@ -253,7 +253,7 @@ module _ (p : Pace) (fine : badTiming (timingOf p) ≡ false) (m : ℕ) (used : 
         }
 
     -- polled again
-    again : (told : Told) (k : ℕ) → GoodAfter (settledOf (askedAgain w) k (w .at) 0 0 (numberTold told))
+    again : (told : MessageTold) (k : ℕ) → GoodAfter (settledOf (askedAgain w) k (w .at) 0 0 (numberTold told))
     again told k =
         record {
           round = subst (λ (l : List Stood). Holds p m used l (w .round) (w .at)) (sym (append-nil xs)) (g .round);
@@ -261,7 +261,7 @@ module _ (p : Pace) (fine : badTiming (timingOf p) ≡ false) (m : ℕ) (used : 
         }
 
     -- the reply stands
-    module _ (told : Told) (k : ℕ) (e : listen p (w .lines) (w .passed) samples ≡ settledBy told k) (row : Row) (others : List Row)
+    module _ (told : MessageTold) (k : ℕ) (e : listen p (w .lines) (w .passed) samples ≡ settledBy told k) (row : Row) (others : List Row)
         (h : Holds p m used xs (w .round) (w .at)) (left-is : h .left ≡ row ∷ others) where
       abbrev x : Stood
       x = record { minute = minute; samples = since ++ take k samples }
@@ -288,9 +288,9 @@ module _ (p : Pace) (fine : badTiming (timingOf p) ≡ false) (m : ℕ) (used : 
       abbrev bytes : List ℕ
       bytes = take (bytesFor c) (bytesTold told)
 
-      was-heard : Heard (timingOf p) (since ++ take k samples) c bytes
+      was-heard : HeardOnLines (timingOf p) (since ++ take k samples) c bytes
       was-heard =
-          subst (λ (l : List ℕ). Heard (timingOf p) l c bytes) (take-past since samples (w .passed) k (long-so p since (w .lines) (w .passed) so-far))
+          subst (λ (l : List ℕ). HeardOnLines (timingOf p) l c bytes) (take-past since samples (w .passed) k (long-so p since (w .lines) (w .passed) so-far))
           (try-heard p fine (since ++ samples) told (w .passed + k) (all-so ∙ ap (later (w .passed)) e))
 
       abbrev poll : Poll
@@ -360,7 +360,7 @@ module _ (p : Pace) (fine : badTiming (timingOf p) ≡ false) (m : ℕ) (used : 
         omega (arith, all, g .round .count, g .round .here, g .round .as-many, leb-false (w .round .count) (w .at) more)
 
     -- a reply stands where a row is left
-    answers-so : (told : Told) (k : ℕ) → listen p (w .lines) (w .passed) samples ≡ settledBy told k → leb (w .round .count) (w .at) ≡ false
+    answers-so : (told : MessageTold) (k : ℕ) → listen p (w .lines) (w .passed) samples ≡ settledBy told k → leb (w .round .count) (w .at) ≡ false
         → Holds p m used (xs ++ record { minute = minute; samples = since ++ take k samples } ∷ []) (roundWith (w .round) (w .at) (replied minute told (turnOf w))) (w .at + 1)
     answers-so told k e more = go (g .round .left) refl
       where
@@ -369,7 +369,7 @@ module _ (p : Pace) (fine : badTiming (timingOf p) ≡ false) (m : ℕ) (used : 
         go [] is = absurd (some-left more is)
         go (row ∷ others) is = stands-so told k e row others (g .round) is
 
-    pub by-poll : (told : Told) (k : ℕ) → listen p (w .lines) (w .passed) samples ≡ settledBy told k → leb (w .round .count) (w .at) ≡ false
+    pub by-poll : (told : MessageTold) (k : ℕ) → listen p (w .lines) (w .passed) samples ≡ settledBy told k → leb (w .round .count) (w .at) ≡ false
         → ByPoll p w (record { minute = minute; samples = since ++ take k samples }) (replied minute told (turnOf w))
     by-poll told k e more = go (g .round .left) refl
       where
@@ -427,7 +427,7 @@ used-few (row ∷ l) = go (isFree row) (used-few l)
     go false h = omega arith
 
 pub begun-by : (rows : List Row) (minute : ℕ) (b : Begun) → BeginsPolling rows minute b → b .number ≡ 0 → b .polling ≡ beginning minute (boardOf rows)
-begun-by rows minute b call zero-said = go (kept (boardOf rows)) (call .answers)
+begun-by rows minute b call zero-said = go (inAddressOrder (boardOf rows)) (call .answers)
   where
     go : (c : Bool) → b ≡ pick c (begun (beginning minute (boardOf rows)) 0) (begun nothingBegun 38) → b .polling ≡ beginning minute (boardOf rows)
     go true e = ap (λ (x : Begun). x .polling) e

@@ -16,7 +16,7 @@ use Rattle.frame.specs.Pick.{pick}
 use Rattle.frame.specs.Line.{mark, formed, firstBytes}
 use Rattle.frame.specs.Temperature.{isAbsent}
 use Rattle.frame.specs.Reply.{ReadsReply, replyFault, replyOf, countFor, sizeFor, replyLine}
-use Rattle.listing.specs.Text.{ascii, decimal}
+use Rattle.listing.specs.Text.{ascii, inDecimal}
 use Rattle.listing.specs.Lines.{replyText}
 use Rattle.lines.specs.declared.LinesTold.{LinesTold}
 use Rattle.lines.specs.Timing.{Timing}
@@ -36,7 +36,7 @@ use Rattle.promises_lines.proofs.Drawn.{drawn-then-heard}
 use Rattle.promises_lines.proofs.Messages.{bits-long, bit-in, handed-bits}
 use Rattle.promises_lines.proofs.Tellings.{answerTo, answers}
 use Rattle.promises_wire.specs.Polls.{Asked, bitsSensed, Poll, entryFor}
-use Rattle.promises_wire.specs.Heard.{Heard, heard}
+use Rattle.promises_wire.specs.Heard.{HeardOnLines, heard}
 use Rattle.promises_wire.specs.Wire.{Drawing, samplesOf, Sent}
 use Rattle.promises_wire.specs.TankToDesk.{AskedAlike, SaysSo, ListedFault}
 use Rattle.promises_wire.proofs.Polled.{Held, heard-so, same-held, read-held}
@@ -111,8 +111,8 @@ module _ (x : Sent) where
       let full = is-heard .2 in
       take-all (a .taken) (samplesOf d) (omega arith)
 
-  pub sent-heard : Heard t (samplesOf d) (a .count) (bytesIn a)
-  sent-heard = subst (λ (l : List ℕ). Heard t l (a .count) (bytesIn a)) all-taken (heard (samplesOf d) a begun (answers t (samplesOf d)))
+  pub sent-heard : HeardOnLines t (samplesOf d) (a .count) (bytesIn a)
+  sent-heard = subst (λ (l : List ℕ). HeardOnLines t l (a .count) (bytesIn a)) all-taken (heard (samplesOf d) a begun (answers t (samplesOf d)))
 
   heard-bits : bitsOf (a .count) (bytesIn a) ≡ bitsOf (countFor (x .reading)) (x .bytes)
   heard-bits = handed-bits a ∙ is-heard .1 ∙ x .draws .shows
@@ -127,7 +127,7 @@ said-so x p alike e =
     let b = bitsSensed (p .asked .timing) (p .sensed .runs) in
     let h : Held b (a x .count) (bytesIn (a x))
     = heard-so (p .asked .timing) (p .asked .timing-fine) (p .sensed) (a x .count) (bytesIn (a x)) (sym e)
-    (subst (λ (u : Timing). Heard u (samplesOf (x .drawing)) (a x .count) (bytesIn (a x))) (sym (alike .timing)) (sent-heard x)) in
+    (subst (λ (u : Timing). HeardOnLines u (samplesOf (x .drawing)) (a x .count) (bytesIn (a x))) (sym (alike .timing)) (sent-heard x)) in
     let bits : bitsOf (countFor (x .reading)) (x .bytes) ≡ b = sym (heard-bits x) ∙ h .bits-are in
     let s = sent-held x in
     let own : Held b (countFor (x .reading)) (x .bytes) = record { are-bytes = s .are-bytes; in-form = s .in-form; bits-are = bits } in
@@ -195,8 +195,8 @@ module _ (x : Sent) (p : Poll) (alike : AskedAlike (p .asked) (x .asked)) (other
     where
       go : (y : Reply) → p .read .says ≡ y
           → (rest : List ℕ)
-          × (decimal (p .asked .minute) ++ ascii " " ++ decimal (p .asked .address) ++ ascii " " ++ replyText y
-          ≡ decimal (p .asked .minute) ++ ascii " " ++ decimal (p .asked .address) ++ ascii " " ++ (ascii "fault " ++ rest))
+          × (inDecimal (p .asked .minute) ++ ascii " " ++ inDecimal (p .asked .address) ++ ascii " " ++ replyText y
+          ≡ inDecimal (p .asked .minute) ++ ascii " " ++ inDecimal (p .asked .address) ++ ascii " " ++ (ascii "fault " ++ rest))
       go (Read q) is = absurd (never-read q is)
-      go (Refused n) is = (decimal n, refl)
-      go (Unreadable place) is = (ascii "7 " ++ decimal place, refl)
+      go (Refused n) is = (inDecimal n, refl)
+      go (Unreadable place) is = (ascii "7 " ++ inDecimal place, refl)

@@ -17,7 +17,7 @@ use Rattle.lines.specs.Sample.{sampleOf}
 use Rattle.lines.specs.Timing.{Timing, badTiming}
 use Rattle.lines.specs.SoFar.{atRest, isRest}
 use Rattle.lines.specs.Step.{longerIdle, afterIdle, after, closes}
-use Rattle.lines.specs.Hearing.{Told, nothing, message, spoiled, toldOf, countTold, bytesTold, hear}
+use Rattle.lines.specs.Hearing.{MessageTold, nothing, message, spoiled, toldOf, countTold, bytesTold, hear}
 use Rattle.lines.specs.Hearing as lines
 use Rattle.lines.specs.Calls.{answered}
 use Rattle.polling.specs.declared.Pace.{Pace}
@@ -39,7 +39,7 @@ use Rattle.promises_wire.proofs.SaidSo.{few-pulses}
 use Rattle.promises_wire.proofs.Tries.{listen-then}
 
 -- Nothing, a message and a spoiled one are not the same.
-abbrev kindTold : Told → ℕ
+abbrev kindTold : MessageTold → ℕ
 kindTold nothing = 0
 kindTold (message count bits) = 1
 kindTold (spoiled number) = 2
@@ -49,7 +49,7 @@ some-heard : (t : Timing) (s : SoFar) (x : ℕ) (xs : List ℕ) → 1 ≤ hear t
 unfolding hear
 some-heard t s x xs = go (closes t (after t s (sampleOf x)))
   where
-    go : (a : Bool) → 1 ≤ pick a (lines.heard (toldOf (after t s (sampleOf x))) atRest 1) (lines.later 1 (hear t (after t s (sampleOf x)) xs)) .taken
+    go : (a : Bool) → 1 ≤ pick a (lines.hearing (toldOf (after t s (sampleOf x))) atRest 1) (lines.later 1 (hear t (after t s (sampleOf x)) xs)) .taken
     go true = omega arith
     go false = omega arith
 
@@ -59,18 +59,18 @@ module _ (p : Pace) (fine : badPace p ≡ false) where
 
   -- From a low sample on.
   heard-in-time : (c b : ℕ) (left : SoFar) (xs : List ℕ) (s : SoFar) → Legal s → (x : ℕ) → (isRest s && isIdle (sampleOf x)) ≡ false → (q n : ℕ)
-      → hear t s (x ∷ xs) ≡ lines.heard (message c b) left n → q + n ≤ p .longest → listen p s q (x ∷ xs) ≡ settledBy (message c b) n
+      → hear t s (x ∷ xs) ≡ lines.hearing (message c b) left n → q + n ≤ p .longest → listen p s q (x ∷ xs) ≡ settledBy (message c b) n
   unfolding hear listen settle
   heard-in-time c b left [] s l x stirs q n e short = go (closes t (after t s (sampleOf x))) e
     where
       m : SoFar
       m = after t s (sampleOf x)
 
-      go : (a : Bool) → pick a (lines.heard (toldOf m) atRest 1) (lines.later 1 (lines.heard nothing m 0)) ≡ lines.heard (message c b) left n
+      go : (a : Bool) → pick a (lines.hearing (toldOf m) atRest 1) (lines.later 1 (lines.hearing nothing m 0)) ≡ lines.hearing (message c b) left n
           → pick a (settledBy (toldOf m) 1) (pick (isRest m && leb (p .wait) (q + 1)) (settledBy nothing 1) (pick (leb (p .longest) (q + 1)) (settledBy (givenUp m) 1) (later 1 (goesOn m 0))))
           ≡ settledBy (message c b) n
-      go true h = ap (λ (y : lines.Heard). settledBy (y .told) (y .taken)) h
-      go false h = absurd (omega (arith, ap (λ (y : lines.Heard). kindTold (y .told)) h))
+      go true h = ap (λ (y : lines.Hearing). settledBy (y .told) (y .taken)) h
+      go false h = absurd (omega (arith, ap (λ (y : lines.Hearing). kindTold (y .told)) h))
   heard-in-time c b left (y ∷ ys) s l x stirs q n e short =
       go (closes t m) refl e (λ ok k f far. heard-in-time c b left ys m ok y (ap (λ (r : Bool). r && isIdle (sampleOf y)) stirred) (q + 1) k f far)
     where
@@ -80,15 +80,15 @@ module _ (p : Pace) (fine : badPace p ≡ false) where
       stirred : isRest m ≡ false
       stirred = rest-step t l (sampleOf x) ∙ stirs
 
-      go : (a : Bool) → closes t m ≡ a → pick a (lines.heard (toldOf m) atRest 1) (lines.later 1 (hear t m (y ∷ ys))) ≡ lines.heard (message c b) left n
-          → (Legal m → (k : ℕ) → hear t m (y ∷ ys) ≡ lines.heard (message c b) left k → q + 1 + k ≤ p .longest → listen p m (q + 1) (y ∷ ys) ≡ settledBy (message c b) k)
+      go : (a : Bool) → closes t m ≡ a → pick a (lines.hearing (toldOf m) atRest 1) (lines.later 1 (hear t m (y ∷ ys))) ≡ lines.hearing (message c b) left n
+          → (Legal m → (k : ℕ) → hear t m (y ∷ ys) ≡ lines.hearing (message c b) left k → q + 1 + k ≤ p .longest → listen p m (q + 1) (y ∷ ys) ≡ settledBy (message c b) k)
           → pick a (settledBy (toldOf m) 1) (pick (isRest m && leb (p .wait) (q + 1)) (settledBy nothing 1) (pick (leb (p .longest) (q + 1)) (settledBy (givenUp m) 1) (later 1 (listen p m (q + 1) (y ∷ ys)))))
           ≡ settledBy (message c b) n
-      go true f h more = ap (λ (z : lines.Heard). settledBy (z .told) (z .taken)) h
+      go true f h more = ap (λ (z : lines.Hearing). settledBy (z .told) (z .taken)) h
       go false f h more =
           let k : ℕ = hear t m (y ∷ ys) .taken in
-          let count : 1 + k ≡ n = ap (λ (z : lines.Heard). z .taken) h in
-          let same : hear t m (y ∷ ys) ≡ lines.heard (message c b) left k = λ i. lines.heard (h i .told) (h i .left) k in
+          let count : 1 + k ≡ n = ap (λ (z : lines.Hearing). z .taken) h in
+          let same : hear t m (y ∷ ys) ≡ lines.hearing (message c b) left k = λ i. lines.hearing (h i .told) (h i .left) k in
           let some : 1 ≤ k = some-heard t m y ys in
           let early : leb (p .longest) (q + 1) ≡ false = lt-leb (p .longest) (q + 1) (omega (arith, count, some, short)) in
           let on : listen p m (q + 1) (y ∷ ys) ≡ settledBy (message c b) k = more (stays-legal p fine l (sampleOf x) f) k same (omega (arith, count, short)) in
@@ -119,7 +119,7 @@ record HeardAs (t : Timing) (xs : List ℕ) (n : ℕ) : Type 0 where
   count : ℕ
   bits : ℕ
   left : SoFar
-  is : hear t atRest xs ≡ lines.heard (message count bits) left n
+  is : hear t atRest xs ≡ lines.hearing (message count bits) left n
 
 hears-drawn : (t : Timing) → badTiming t ≡ false → (p : Pulse) (ps : List Pulse) → WellDrawn t p ps → length (p ∷ ps) ≤ 64 → (more : List ℕ)
     → HeardAs t (drawn (p ∷ ps) ++ more) (length (drawn (p ∷ ps)))
@@ -141,7 +141,7 @@ hears-drawn t fine p ps timed few more =
     no-bits : (bytes : List ℕ) → bitsOf 0 bytes ≡ map (λ q. frame.mark (q .isMark)) (p ∷ ps) → ⊥
     no-bits bytes e = unfold bitsOf in omega (arith, ap (length {A = ℕ}) e)
 
-    go : (x : lines.Heard) → hear t atRest ys ≡ x → HeardAs t ys (length (drawn (p ∷ ps)))
+    go : (x : lines.Hearing) → hear t atRest ys ≡ x → HeardAs t ys (length (drawn (p ∷ ps)))
     go x e = by (x .told) refl
       where
         so : a ≡ answered x
@@ -150,12 +150,12 @@ hears-drawn t fine p ps timed few more =
         bits : bitsOf (countTold (x .told)) (bytesTold (x .told)) ≡ map (λ q. frame.mark (q .isMark)) (p ∷ ps)
         bits = sym (ap (λ (y : LinesTold). said y .bits) so) ∙ h .1
 
-        by : (told : Told) → x .told ≡ told → HeardAs t ys (length (drawn (p ∷ ps)))
-        by nothing f = absurd (no-bits _ (sym (ap (λ (u : Told). bitsOf (countTold u) (bytesTold u)) f) ∙ bits))
-        by (spoiled number) f = absurd (no-bits _ (sym (ap (λ (u : Told). bitsOf (countTold u) (bytesTold u)) f) ∙ bits))
+        by : (told : MessageTold) → x .told ≡ told → HeardAs t ys (length (drawn (p ∷ ps)))
+        by nothing f = absurd (no-bits _ (sym (ap (λ (u : MessageTold). bitsOf (countTold u) (bytesTold u)) f) ∙ bits))
+        by (spoiled number) f = absurd (no-bits _ (sym (ap (λ (u : MessageTold). bitsOf (countTold u) (bytesTold u)) f) ∙ bits))
         by (message c b) f =
             let took : x .taken ≡ length (drawn (p ∷ ps)) = sym (ap (λ (y : LinesTold). y .taken) so) ∙ h .2 ∙ zero-add (length (drawn (p ∷ ps))) in
-            record { count = c; bits = b; left = x .left; is = e ∙ (λ i. lines.heard (f i) (x .left) (took i)) }
+            record { count = c; bits = b; left = x .left; is = e ∙ (λ i. lines.hearing (f i) (x .left) (took i)) }
 
 -- A drawing begins with a low sample.
 begins-low : (p : Pulse) (ps : List Pulse) → 1 ≤ p .low → (ys : List ℕ) × (drawn (p ∷ ps) ≡ pick (p .isMark) 1 2 ∷ ys)

@@ -6,7 +6,7 @@ use native.Mathlib.Omega.{arith}
 use Rattle.frame.specs.Pick.{pick}
 use Rattle.board.specs.declared.Row.{Row}
 use Rattle.board.specs.Rows.{boardOf}
-use Rattle.board.specs.Order.{kept}
+use Rattle.board.specs.Order.{inAddressOrder}
 use Rattle.round.specs.declared.Round.{Round}
 use Rattle.polling.specs.declared.Begun.{Begun}
 use Rattle.polling.specs.declared.Pace.{Pace}
@@ -23,7 +23,7 @@ use Rattle.promises_wire.proofs.Running.{run-by-the-recorder, beginning
 use Rattle.promises_wire.proofs.Ending.{round-ends}
 
 -- From a board in order.
-module _ (p : Pace) (fine : badPace p ≡ false) (rows : List Row) (ordered : kept (boardOf rows) ≡ true) (ok : Enrolled (usedRows (boardOf rows))) where
+module _ (p : Pace) (fine : badPace p ≡ false) (rows : List Row) (ordered : inAddressOrder (boardOf rows) ≡ true) (ok : Enrolled (usedRows (boardOf rows))) where
   abbrev b : Begun
   b = begun (beginning 0 (boardOf rows)) 0
 

@@ -17,7 +17,7 @@ use Rattle.lines.specs.Sample.{sampleOf}
 use Rattle.lines.specs.Timing.{Timing, badTiming}
 use Rattle.lines.specs.SoFar.{atRest, legal, isRest}
 use Rattle.lines.specs.Step.{after, closes}
-use Rattle.lines.specs.Hearing.{Told, nothing, message, toldOf, countTold, bytesTold, hear}
+use Rattle.lines.specs.Hearing.{MessageTold, nothing, message, toldOf, countTold, bytesTold, hear}
 use Rattle.lines.specs.Hearing as lines
 use Rattle.lines.specs.Calls.{answered}
 use Rattle.polling.specs.declared.Pace.{Pace}
@@ -27,7 +27,7 @@ use Rattle.promises_lines.specs.History.{begun}
 use Rattle.promises_lines.proofs.Legal.{rest, is-legal, view}
 use Rattle.promises_lines.proofs.Ends.{good, Ends, still-open, closed-at, split, meant-itself, heard-by}
 use Rattle.promises_lines.proofs.Tellings.{answerTo, answers}
-use Rattle.promises_wire.specs.Heard.{Heard, heard}
+use Rattle.promises_wire.specs.Heard.{HeardOnLines, heard}
 
 -- What is settled and what goes on are not the same.
 abbrev pub isSettled : Listened → ℕ
@@ -43,17 +43,17 @@ left-in (goesOn left taken) = left
 left-in (settledBy told taken) = atRest
 
 -- The bits of one telling are those of another.
-pub record SameBits (told : Told) (other : Told) : Type 0 where
+pub record SameBits (told : MessageTold) (other : MessageTold) : Type 0 where
   pub count : countTold other ≡ countTold told
   pub bytes : bytesTold other ≡ bytesTold told
 
-alike : (told : Told) → SameBits told told
+alike : (told : MessageTold) → SameBits told told
 alike told = record { count = refl; bytes = refl }
 
 -- A listening beside a hearing of the samples that it took.
 pub data Beside (t : Timing) (s : SoFar) (xs : List ℕ) : Listened → Type 0 where
-  both-go-on : (left : SoFar) (n : ℕ) → n ≡ length xs → hear t s xs ≡ lines.heard nothing left n → Beside t s xs (goesOn left n)
-  both-ended : (told : Told) (n : ℕ) (h : lines.Heard) → n ≤ length xs → hear t s (take n xs) ≡ h → h .taken ≡ n → SameBits told (h .told) → Beside t s xs (settledBy told n)
+  both-go-on : (left : SoFar) (n : ℕ) → n ≡ length xs → hear t s xs ≡ lines.hearing nothing left n → Beside t s xs (goesOn left n)
+  both-ended : (told : MessageTold) (n : ℕ) (h : lines.Hearing) → n ≤ length xs → hear t s (take n xs) ≡ h → h .taken ≡ n → SameBits told (h .told) → Beside t s xs (settledBy told n)
 
 module _ (p : Pace) where
   abbrev t : Timing
@@ -63,13 +63,13 @@ module _ (p : Pace) where
   unfolding hear
   one-later s n x xs is unclosed {l} (both-go-on left k all e) =
       let step : hear t s (x ∷ xs) ≡ lines.later 1 (hear t n xs)
-      = ap (λ (m : SoFar). pick (closes t m) (lines.heard (toldOf m) atRest 1) (lines.later 1 (hear t m xs))) (sym is)
-      ∙ ap (λ (b : Bool). pick b (lines.heard (toldOf n) atRest 1) (lines.later 1 (hear t n xs))) unclosed in
+      = ap (λ (m : SoFar). pick (closes t m) (lines.hearing (toldOf m) atRest 1) (lines.later 1 (hear t m xs))) (sym is)
+      ∙ ap (λ (b : Bool). pick b (lines.hearing (toldOf n) atRest 1) (lines.later 1 (hear t n xs))) unclosed in
       both-go-on left (1 + k) (omega (arith, all)) (step ∙ ap (lines.later 1) e)
   one-later s n x xs is unclosed {l} (both-ended told k h few e took same) =
       let step : hear t s (x ∷ take k xs) ≡ lines.later 1 (hear t n (take k xs))
-      = ap (λ (m : SoFar). pick (closes t m) (lines.heard (toldOf m) atRest 1) (lines.later 1 (hear t m (take k xs)))) (sym is)
-      ∙ ap (λ (b : Bool). pick b (lines.heard (toldOf n) atRest 1) (lines.later 1 (hear t n (take k xs)))) unclosed in
+      = ap (λ (m : SoFar). pick (closes t m) (lines.hearing (toldOf m) atRest 1) (lines.later 1 (hear t m (take k xs)))) (sym is)
+      ∙ ap (λ (b : Bool). pick b (lines.hearing (toldOf n) atRest 1) (lines.later 1 (hear t n (take k xs)))) unclosed in
       let more : 1 + k ≡ suc k = omega arith in
       both-ended told (1 + k) (lines.later 1 h) (omega arith) (ap (λ (m : ℕ). hear t s (take m (x ∷ xs))) more ∙ step ∙ ap (lines.later 1) e) (ap (λ (m : ℕ). 1 + m) took) (record { count = same .count; bytes = same .bytes })
 
@@ -77,15 +77,15 @@ module _ (p : Pace) where
   first-closed : (s : SoFar) (x : ℕ) (xs : List ℕ) → closes t (after t s (sampleOf x)) ≡ true → Beside t s (x ∷ xs) (settledBy (toldOf (after t s (sampleOf x))) 1)
   unfolding hear
   first-closed s x xs c =
-      both-ended (toldOf (after t s (sampleOf x))) 1 (lines.heard (toldOf (after t s (sampleOf x))) atRest 1) (omega arith)
-      (ap (λ (b : Bool). pick b (lines.heard (toldOf (after t s (sampleOf x))) atRest 1) (lines.later 1 (hear t (after t s (sampleOf x)) []))) c) refl
+      both-ended (toldOf (after t s (sampleOf x))) 1 (lines.hearing (toldOf (after t s (sampleOf x))) atRest 1) (omega arith)
+      (ap (λ (b : Bool). pick b (lines.hearing (toldOf (after t s (sampleOf x))) atRest 1) (lines.later 1 (hear t (after t s (sampleOf x)) []))) c) refl
       (alike (toldOf (after t s (sampleOf x))))
 
-  first-ended : (s : SoFar) (x : ℕ) (xs : List ℕ) (told : Told) → closes t (after t s (sampleOf x)) ≡ false → SameBits told nothing → Beside t s (x ∷ xs) (settledBy told 1)
+  first-ended : (s : SoFar) (x : ℕ) (xs : List ℕ) (told : MessageTold) → closes t (after t s (sampleOf x)) ≡ false → SameBits told nothing → Beside t s (x ∷ xs) (settledBy told 1)
   unfolding hear
   first-ended s x xs told c same =
-      both-ended told 1 (lines.heard nothing (after t s (sampleOf x)) 1) (omega arith)
-      (ap (λ (b : Bool). pick b (lines.heard (toldOf (after t s (sampleOf x))) atRest 1) (lines.later 1 (hear t (after t s (sampleOf x)) []))) c) refl same
+      both-ended told 1 (lines.hearing nothing (after t s (sampleOf x)) 1) (omega arith)
+      (ap (λ (b : Bool). pick b (lines.hearing (toldOf (after t s (sampleOf x))) atRest 1) (lines.later 1 (hear t (after t s (sampleOf x)) []))) c) refl same
 
   pub beside : (s : SoFar) (passed : ℕ) (xs : List ℕ) → Beside t s xs (listen p s passed xs)
   unfolding hear listen settle
@@ -105,23 +105,23 @@ module _ (p : Pace) where
 
   -- A try that goes on leaves a legal state of the lines.
   module _ (fine : badTiming t ≡ false) where
-    pub legal-left : (s : SoFar) → legal s ≡ true → (xs : List ℕ) (left : SoFar) (n : ℕ) → hear t s xs ≡ lines.heard nothing left n → legal left ≡ true
+    pub legal-left : (s : SoFar) → legal s ≡ true → (xs : List ℕ) (left : SoFar) (n : ℕ) → hear t s xs ≡ lines.hearing nothing left n → legal left ≡ true
     legal-left s ok xs left n e = go (split t (good t fine) s (view s ok) xs)
       where
         go : Ends t s xs (hear t s xs) → legal left ≡ true
-        go (still-open x) = ap legal (sym (ap (λ (h : lines.Heard). h .left) e) ∙ ap (λ (h : lines.Heard). h .left) (x .is)) ∙ is-legal (x .ok)
-        go (closed-at x) = ap legal (sym (ap (λ (h : lines.Heard). h .left) e) ∙ ap (λ (h : lines.Heard). h .left) (x .is)) ∙ is-legal rest
+        go (still-open x) = ap legal (sym (ap (λ (h : lines.Hearing). h .left) e) ∙ ap (λ (h : lines.Hearing). h .left) (x .is)) ∙ is-legal (x .ok)
+        go (closed-at x) = ap legal (sym (ap (λ (h : lines.Hearing). h .left) e) ∙ ap (λ (h : lines.Hearing). h .left) (x .is)) ∙ is-legal rest
 
     -- One call of the lines over all that was taken tells the bits by which the try was settled.
-    pub try-heard : (xs : List ℕ) (told : Told) (n : ℕ) → listen p atRest 0 xs ≡ settledBy told n
-        → Heard t (take n xs) (countTold told) (take (bytesFor (countTold told)) (bytesTold told))
+    pub try-heard : (xs : List ℕ) (told : MessageTold) (n : ℕ) → listen p atRest 0 xs ≡ settledBy told n
+        → HeardOnLines t (take n xs) (countTold told) (take (bytesFor (countTold told)) (bytesTold told))
     try-heard xs told n e = go (listen p atRest 0 xs) e (beside atRest 0 xs)
       where
-        told-is : Listened → Told
+        told-is : Listened → MessageTold
         told-is (goesOn left taken) = nothing
         told-is (settledBy told taken) = told
 
-        go : (l : Listened) → l ≡ settledBy told n → Beside t atRest xs l → Heard t (take n xs) (countTold told) (take (bytesFor (countTold told)) (bytesTold told))
+        go : (l : Listened) → l ≡ settledBy told n → Beside t atRest xs l → HeardOnLines t (take n xs) (countTold told) (take (bytesFor (countTold told)) (bytesTold told))
         go (goesOn left taken) q b = absurd (omega (arith, ap isSettled q))
         go (settledBy other m) q (both-ended by k h few is took same) =
             let all : m ≡ n = ap takenBy q in
@@ -134,8 +134,8 @@ module _ (p : Pace) where
             let takes : take (a .taken) ys ≡ ys = take-all (a .taken) ys (omega (arith, ap (λ (b : LinesTold). b .taken) answer, took, all, length-take n xs)) in
             let count : a .count ≡ countTold told = ap (λ (b : LinesTold). b .count) answer ∙ same .count ∙ ap countTold (ap told-is q) in
             let bytes : a .message ≡ bytesTold told = ap (λ (b : LinesTold). b .message) answer ∙ same .bytes ∙ ap bytesTold (ap told-is q) in
-            subst (λ (l : List ℕ). Heard t l (countTold told) (take (bytesFor (countTold told)) (bytesTold told))) takes
-            (subst (λ (y : ℕ × List ℕ). Heard t (take (a .taken) ys) (y .0) (take (bytesFor (y .0)) (y .1))) (λ i. (count i, bytes i)) (heard ys a begun (answers t ys)))
+            subst (λ (l : List ℕ). HeardOnLines t l (countTold told) (take (bytesFor (countTold told)) (bytesTold told))) takes
+            (subst (λ (y : ℕ × List ℕ). HeardOnLines t (take (a .taken) ys) (y .0) (take (bytesFor (y .0)) (y .1))) (λ i. (count i, bytes i)) (heard ys a begun (answers t ys)))
 
   -- Samples heard in two parts.
   later-none : (l : Listened) → later 0 l ≡ l

@@ -55,14 +55,14 @@ pub data After {A : Type 0} : List A → ℕ → A → Type 0 where
   one-later : {x y : A} {xs : List A} {i : ℕ} → After xs i x → After (y ∷ xs) (suc i) x
 
 -- A transmitter sends a reading: in each turn in which the recorder listens to the one after so many others.
-abbrev pub Sending : {p : Pace} {from : Polling} {n : ℕ} {ys : List Stood} {since : List ℕ} {w : Polling} → ℕ → Sent → Turns p from n ys since w → Type 0
-Sending i x no-turn = 0 ≤ 0
-Sending i x (one-turn {ys = ys} {since = since} out after d minute samples a t room draw some fits hear) =
-    Sending i x t × (Listens (d .polling) → length ys ≡ i → Sends x since samples)
+abbrev pub SendsInTurns : {p : Pace} {from : Polling} {n : ℕ} {ys : List Stood} {since : List ℕ} {w : Polling} → ℕ → Sent → Turns p from n ys since w → Type 0
+SendsInTurns i x no-turn = 0 ≤ 0
+SendsInTurns i x (one-turn {ys = ys} {since = since} out after d minute samples a t room draw some fits hear) =
+    SendsInTurns i x t × (Listens (d .polling) → length ys ≡ i → Sends x since samples)
 
 -- Each of them sends its own.
 abbrev pub Answering : {p : Pace} {from : Polling} {n : ℕ} {ys : List Stood} {since : List ℕ} {w : Polling} → List Sent → Turns p from n ys since w → Type 0
-Answering xs t = (i : ℕ) (x : Sent) → After xs i x → Sending i x t
+Answering xs t = (i : ℕ) (x : Sent) → After xs i x → SendsInTurns i x t
 
 -- A host's habit: the room that it lends in each turn, and the samples, each one more than this, and the minute.
 pub record Habit : Type 0 where
@@ -115,7 +115,7 @@ pub record InAnyBatches : Type 0 where
   pub said : (p : Pace) → badPace p ≡ false → (rows : List Row) (minute : ℕ) (b : Begun) → BeginsPolling rows minute b → b .number ≡ 0
       → Enrolled (usedRows (boardOf rows)) → (i : ℕ) (row : Row) → After (usedRows (boardOf rows)) i row
       → (x : Sent) → InTime p x → SentBy (row .settings) (row .address) x
-      → (n : ℕ) (ys : List Stood) (since : List ℕ) (w : Polling) (t : Turns p (b .polling) n ys since w) → Sending i x t
+      → (n : ℕ) (ys : List Stood) (since : List ℕ) (w : Polling) (t : Turns p (b .polling) n ys since w) → SendsInTurns i x t
       → (ran : RanSo p rows ys w) (q : Poll) → After (ran .polls) i q → SaysSo x q
   -- Where each of them does, all polls of a round that is over say what was sent.
   pub say : (p : Pace) → badPace p ≡ false → (rows : List Row) (minute : ℕ) (b : Begun) → BeginsPolling rows minute b → b .number ≡ 0

@@ -13,7 +13,7 @@ use Rattle.promises_lines.specs.History.{History}
 use Rattle.promises_lines.specs.Form.{bytesIn}
 
 -- The samples taken, put end to end, and the reply's bits in the bytes that hold them.
-pub data Heard (t : Timing) : List ℕ → ℕ → List ℕ → Type 0 where
+pub data HeardOnLines (t : Timing) : List ℕ → ℕ → List ℕ → Type 0 where
   heard : {samples : List ℕ} {s : SoFar} (batch : List ℕ) (a : LinesTold) → History t atRest samples [] s
       → HearsLines s (t .least) (t .most) (t .gap) batch a
-      → Heard t (samples ++ take (a .taken) batch) (a .count) (bytesIn a)
+      → HeardOnLines t (samples ++ take (a .taken) batch) (a .count) (bytesIn a)

@@ -17,13 +17,13 @@ use Rattle.round.specs.Saving.{Page, none, kept}
 use Rattle.round.specs.Calls.{mostReplies, SavesRound, SavesRoundWith}
 use Rattle.promises_card.specs.sheet.History.{blankSheet}
 use Rattle.promises_wire.specs.Polls.{Poll, entryFor}
-use Rattle.promises_wire.specs.Heard.{Heard}
+use Rattle.promises_wire.specs.Heard.{HeardOnLines}
 use Rattle.promises_wire.specs.Expected.{Morning}
 
 -- The replies of polls, each as it was heard after its poll.
 pub data Replies : List Poll → List Entry → Type 0 where
   none-polled : Replies [] []
-  one-polled : {ps : List Poll} {es : List Entry} (p : Poll) (count : ℕ) (bytes : List ℕ) → Heard (p .asked .timing) (p .sensed .samples) count bytes
+  one-polled : {ps : List Poll} {es : List Entry} (p : Poll) (count : ℕ) (bytes : List ℕ) → HeardOnLines (p .asked .timing) (p .sensed .samples) count bytes
       → Replies ps es → Replies (p ∷ ps) (entryFor (p .asked) count bytes ∷ es)
 
 abbrev pub morning : List Poll → ℕ → Morning

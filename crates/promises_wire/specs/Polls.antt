@@ -32,15 +32,15 @@ pub record Sensed : Type 0 where
   pub spells : map sampleOf samples ≡ spelled runs
 
 -- The first that is told: the bits of a message, and none where nothing is told, or a spoiled message.
-abbrev pub firstBits : List Said → List ℕ
-firstBits [] = []
-firstBits (s ∷ more) = s .bits
+abbrev pub bitsToldFirst : List Said → List ℕ
+bitsToldFirst [] = []
+bitsToldFirst (s ∷ more) = s .bits
 
 abbrev pub bitsSensed : Timing → List Run → List ℕ
-bitsSensed t runs = firstBits (byRuns t [] runs)
+bitsSensed t runs = bitsToldFirst (byRuns t [] runs)
 
 -- The bits sensed, in the bytes that hold them, and what the frame reads these as.
-pub record Reads (q : Asked) (x : Sensed) : Type 0 where
+pub record SensedAndRead (q : Asked) (x : Sensed) : Type 0 where
   pub count : ℕ
   pub bytes : List ℕ
   pub are-bytes : AreBytes bytes
@@ -52,7 +52,7 @@ pub record Reads (q : Asked) (x : Sensed) : Type 0 where
 pub record Poll : Type 0 where
   pub asked : Asked
   pub sensed : Sensed
-  pub read : Reads asked sensed
+  pub read : SensedAndRead asked sensed
 
 -- The record of so many bits in these bytes, and that of a poll.
 abbrev pub entryFor : Asked → ℕ → List ℕ → Entry

@@ -7,7 +7,7 @@ use Rattle.frame.specs.declared.Reading.{Reading}
 use Rattle.frame.specs.declared.Reply.the-variants.{Read, Refused}
 use Rattle.frame.specs.Reply.{countFor}
 use Rattle.sheet.specs.Record.{Entry}
-use Rattle.listing.specs.Text.{ascii, decimal}
+use Rattle.listing.specs.Text.{ascii, inDecimal}
 use Rattle.listing.specs.Calls.{WritesListing}
 use Rattle.lines.specs.Timing.{Timing}
 use Rattle.board.specs.declared.Looked.{Looked}
@@ -26,9 +26,9 @@ use Rattle.promises_order.specs.Order.{SoKept}
 use Rattle.promises_board.specs.Calls.{IsRowOf}
 use Rattle.promises_card.specs.listing.Calls.{Wrote}
 use Rattle.promises_wire.specs.Polls.{Asked, Poll, bitsSensed, entryFor, pollEntry}
-use Rattle.promises_wire.specs.Heard.{Heard}
+use Rattle.promises_wire.specs.Heard.{HeardOnLines}
 use Rattle.promises_wire.specs.Wire.{samplesOf, evenly, Sent}
-use Rattle.promises_wire.specs.Expected.{saysText, recordsFor, listingFor, Morning, known, knownIn}
+use Rattle.promises_wire.specs.Expected.{saysText, recordsFor, listingFor, Morning, knownSave, knownIn}
 use Rattle.promises_wire.specs.Month.{Replies, Month}
 use Rattle.promises_wire.specs.Board.{OnTheBoard, showsIn, shownBy}
 
@@ -46,7 +46,7 @@ pub record SaysSo (x : Sent) (p : Poll) : Type 0 where
 -- What is listed of a poll is its minute and address, and then "fault".
 abbrev pub ListedFault : Poll → Type 0
 ListedFault p =
-    (rest : List ℕ) × (saysText (known 0 p) ≡ decimal (p .asked .minute) ++ ascii " " ++ decimal (p .asked .address) ++ ascii " " ++ (ascii "fault " ++ rest))
+    (rest : List ℕ) × (saysText (knownSave 0 p) ≡ inDecimal (p .asked .minute) ++ ascii " " ++ inDecimal (p .asked .address) ++ ascii " " ++ (ascii "fault " ++ rest))
 
 -- What fixes all of it: of a poll the timing, settings, minute and address, and the runs that were sensed; of a morning its polls, and how many stores its save was
 -- allowed.
@@ -82,7 +82,7 @@ pub record PolledSo (q : Asked) (samples : List ℕ) : Type 0 where
   pub sensed : poll .sensed .samples ≡ take taken samples
   pub count : ℕ
   pub bytes : List ℕ
-  pub heard : Heard (q .timing) (poll .sensed .samples) count bytes
+  pub heard : HeardOnLines (q .timing) (poll .sensed .samples) count bytes
 
 -- A reading sent so: this idle before it, every pulse so many samples low, and idle so long between two of them.
 pub record SentSo (q : Asked) (r : Reading) (quiet low still : ℕ) : Type 0 where

@@ -6,9 +6,9 @@ use Prim.Native.Nat.{ℕ, suc, _^_, _<_, _≤_}
 use lib.ListN.{length, take}
 use Rattle.board.specs.declared.Row.{Row}
 use Rattle.board.specs.Rows.{boardOf}
-use Rattle.board.specs.Order.{kept}
+use Rattle.board.specs.Order.{inAddressOrder}
 use Rattle.lines.specs.SoFar.{atRest}
-use Rattle.lines.specs.Hearing.{Told}
+use Rattle.lines.specs.Hearing.{MessageTold}
 use Rattle.round.specs.Saving.{Page, none}
 use Rattle.polling.specs.declared.Pace.{Pace}
 use Rattle.polling.specs.declared.Polling.{Polling}
@@ -32,7 +32,7 @@ Enough p comes = (row tried : ℕ) → (comes row tried .minute < 2 ^ 32) × (p 
 -- What stands of each row in turn: of what came after one of its polls, the samples up to the one that settled the try.
 pub data StandsFrom (p : Pace) : Comes → List Stood → Type 0 where
   none-stands : {comes : Comes} → StandsFrom p comes []
-  one-stands : {comes : Comes} {xs : List Stood} (x : Stood) (tried : ℕ) (told : Told) (taken : ℕ) → tried < p .tries
+  one-stands : {comes : Comes} {xs : List Stood} (x : Stood) (tried : ℕ) (told : MessageTold) (taken : ℕ) → tried < p .tries
       → listen p atRest 0 (comes 0 tried .samples) ≡ settledBy told taken
       → x .samples ≡ take taken (comes 0 tried .samples) → x .minute ≡ comes 0 tried .minute
       → StandsFrom p (λ row. comes (suc row)) xs
@@ -47,7 +47,7 @@ pub record Over (p : Pace) (rows : List Row) (stood : List Stood) : Type 0 where
 
 pub record ToTheEnd : Type 0 where
   -- Whatever comes.
-  pub whatever : (p : Pace) → badPace p ≡ false → (rows : List Row) → kept (boardOf rows) ≡ true → Enrolled (usedRows (boardOf rows))
+  pub whatever : (p : Pace) → badPace p ≡ false → (rows : List Row) → inAddressOrder (boardOf rows) ≡ true → Enrolled (usedRows (boardOf rows))
       → (comes : Comes) → Enough p comes → (stood : List Stood) × StandsFrom p comes stood × Over p rows stood
   -- Saved, with any allowance and wherever it stands, it is a morning more of any month.
   pub saved : (n : ℕ) (ms : List Morning) (sheet : List ℕ) (page : Page) → Month n ms sheet page

@@ -30,7 +30,7 @@ evenly low still gap (b ∷ []) = record { isMark = eqb b 1; low = low; still = 
 evenly low still gap (b ∷ c ∷ bs) = record { isMark = eqb b 1; low = low; still = still } ∷ evenly low still gap (c ∷ bs)
 
 -- It draws the first bits of these bytes, within the timing.
-pub record Draws (t : Timing) (count : ℕ) (bytes : List ℕ) (d : Drawing) : Type 0 where
+pub record DrawsBits (t : Timing) (count : ℕ) (bytes : List ℕ) (d : Drawing) : Type 0 where
   pub timed : WellDrawn t (d .first) (d .rest)
   pub shows : map (λ p. mark (p .isMark)) (d .first ∷ d .rest) ≡ bitsOf count bytes
 
@@ -42,4 +42,4 @@ pub record Sent : Type 0 where
   pub bytes : List ℕ
   pub left : ReplyLeft (asked .settings) (asked .address) reading bytes
   pub drawing : Drawing
-  pub draws : Draws (asked .timing) (countFor reading) bytes drawing
+  pub draws : DrawsBits (asked .timing) (countFor reading) bytes drawing

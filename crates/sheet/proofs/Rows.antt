@@ -10,11 +10,11 @@ use lib.Dec.{eqb}
 use lib.ListN.{length, take, drop, replicate, set, length-append, length-replicate, replicate-append-replicate}
 use lib.Seq.{paste, take-append-seam, drop-append-add, take-length, drop-at, set-append-seam, append-snoc}
 use Rattle.frame.specs.Pick.{pick}
-use Rattle.sheet.specs.Record.{Entry, bodyOf, lengthOf, lengthBytes}
+use Rattle.sheet.specs.Record.{Entry, afterLength, lengthOf, lengthBytes}
 use Rattle.sheet.specs.Slots.{next}
 use Rattle.sheet.specs.Stores.{Store, _puts_, ascending, stores}
 use Rattle.sheet.specs.Save.{saveFault}
-use Rattle.sheet.specs.StoresTold.{zerosBehind, telling, refusing, toldOf, laid, storesTold}
+use Rattle.sheet.specs.StoresTold.{zerosBehind, telling, refusing, saveTold, laid, storesTold}
 use Rattle.sheet.specs.inside.Rows.{upFrom, placesRow, bytesRow}
 use Rattle.sheet.proofs.Storing.{ascending-length}
 use Rattle.sheet.proofs.StorePlaces.{moved, stores-moved}
@@ -89,16 +89,16 @@ ascending-bytes p (b ∷ bs) = ap (λ (l : List ℕ). b ∷ l) (ascending-bytes 
 pub stores-places : (e : Entry) → map placeOf (stores 0 e) ≡ placesRow (lengthOf e)
 unfolding stores
 stores-places e =
-    map-append placeOf (ascending 2 (bodyOf e)) (1 puts _ ∷ 0 puts _ ∷ [])
-    ∙ ap (λ (l : List ℕ). l ++ 1 ∷ 0 ∷ []) (ascending-places 2 (bodyOf e))
+    map-append placeOf (ascending 2 (afterLength e)) (1 puts _ ∷ 0 puts _ ∷ [])
+    ∙ ap (λ (l : List ℕ). l ++ 1 ∷ 0 ∷ []) (ascending-places 2 (afterLength e))
 
 pub stores-bytes : (e : Entry) → lengthOf e < 256 → map byteOf (stores 0 e) ≡ bytesRow e
 unfolding stores
 stores-bytes e small =
     let low : lengthOf e / 1 % 256 ≡ lengthOf e = simp (div-one, mod-eq-of-lt small) in
     let high : lengthOf e / 256 % 256 ≡ 0 = simp (div-eq-of-lt small) in
-    map-append byteOf (ascending 2 (bodyOf e)) (1 puts _ ∷ 0 puts _ ∷ [])
-    ∙ (λ i. ascending-bytes 2 (bodyOf e) i ++ low i ∷ high i ∷ [])
+    map-append byteOf (ascending 2 (afterLength e)) (1 puts _ ∷ 0 puts _ ∷ [])
+    ∙ (λ i. ascending-bytes 2 (afterLength e) i ++ low i ∷ high i ∷ [])
 
 -- Read back: the first rows laid at a slot are the stores, moved there.
 laid-back : (at : ℕ) (ps : List Store) (xs ys : List ℕ) → take (length ps) (laid at (map placeOf ps ++ xs) (map byteOf ps ++ ys)) ≡ moved at ps
@@ -106,8 +106,8 @@ laid-back at [] xs ys = refl
 laid-back at (p ∷ ps) xs ys = ap (λ (l : List Store). (at + p .place) puts (p .byte) ∷ l) (laid-back at ps xs ys)
 
 -- So an answer tells the stores of the save, at their places in the sheet; of a refused one none.
-pub told-stores : (s : List ℕ) (e : Entry) → storesTold (toldOf s e) ≡ pick (eqb (saveFault s e) 0) (stores (32 * next s) e) []
-unfolding toldOf storesTold
+pub told-stores : (s : List ℕ) (e : Entry) → storesTold (saveTold s e) ≡ pick (eqb (saveFault s e) 0) (stores (32 * next s) e) []
+unfolding saveTold storesTold
 told-stores s e = go (eqb (saveFault s e) 0)
   where
     go : (b : Bool) → storesTold (pick b (telling (next s) (stores 0 e)) (refusing (saveFault s e))) ≡ pick b (stores (32 * next s) e) []

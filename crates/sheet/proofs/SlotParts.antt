@@ -8,7 +8,7 @@ use borrow.Author.Tests.{lt-ltb, ne-eqb}
 use lib.ListN.{length, length-take, length-drop}
 use Rattle.sheet.specs.declared.Found.the-variants.{Refused}
 use Rattle.sheet.specs.Slots.{sizeAllowed, slots, slotAt, slotOf}
-use Rattle.sheet.specs.Look.{bare, told, partOf, lookOf}
+use Rattle.sheet.specs.Look.{bare, lookTold, partOf, lookOf}
 
 -- the 32 bytes of a slot that are all there, and of one whose bytes are not
 pub slot-long : (s : List ℕ) (k : ℕ) → k < slots s → length (slotAt s k) ≡ 32
@@ -25,6 +25,6 @@ unfolding partOf
 no-slot x h = simp (ne-eqb (length x) 32 h)
 
 -- a look at a slot that is there
-pub look-within : (s : List ℕ) (k : ℕ) → sizeAllowed s ≡ true → k < slots s → lookOf s k ≡ told (slotOf (slotAt s k))
+pub look-within : (s : List ℕ) (k : ℕ) → sizeAllowed s ≡ true → k < slots s → lookOf s k ≡ lookTold (slotOf (slotAt s k))
 unfolding lookOf
 look-within s k sized near = simp (sized, lt-ltb k (slots s) near)

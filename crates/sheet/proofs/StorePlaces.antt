@@ -8,7 +8,7 @@ use native.Mathlib.Nat.{add-zero}
 use native.Mathlib.Omega.{arith}
 use lib.ListN.{length, getD, take, drop, set, length-set}
 use lib.Seq.{getD-set-same, getD-set-other, drop-set-add, take-set-lt}
-use Rattle.sheet.specs.Record.{Entry, bodyOf, lengthOf, lengthBytes}
+use Rattle.sheet.specs.Record.{Entry, afterLength, lengthOf, lengthBytes}
 use Rattle.sheet.specs.Stores.{Store, _puts_, made, ascending, lengthStores, stores}
 
 -- A rule that holds of every place of some stores.
@@ -56,10 +56,10 @@ ascending-between p (b ∷ bs) =
 pub stores-between : (at : ℕ) (e : Entry) → Places (Between at (at + (lengthOf e + 2))) (stores at e)
 unfolding stores
 stores-between at e =
-    let body = ascending (at + 2) (bodyOf e) in
+    let body = ascending (at + 2) (afterLength e) in
     let slot = Between at (at + (lengthOf e + 2)) in
     let wider : (n : ℕ) → Between (at + 2) (at + 2 + lengthOf e) n → slot n = λ n h. (omega arith, omega arith) in
-    let inside = places-weaker (Between (at + 2) (at + 2 + lengthOf e)) slot wider body (ascending-between (at + 2) (bodyOf e)) in
+    let inside = places-weaker (Between (at + 2) (at + 2 + lengthOf e)) slot wider body (ascending-between (at + 2) (afterLength e)) in
     places-append slot body (lengthStores at e) inside ((omega arith, omega arith), ((omega arith, omega arith), tt))
 
 -- Stores moved along by a distance.
@@ -88,8 +88,8 @@ stores-moved at e =
     let high = getD (lengthBytes e) 0 0 in
     let low = getD (lengthBytes e) 1 0 in
     let same : at ≡ at + 0 = sym (add-zero at) in
-    let front : ascending (at + 2) (bodyOf e) ≡ moved at (ascending 2 (bodyOf e)) = ascending-moved at 2 (at + 2) (bodyOf e) refl in
-    (λ i. front i ++ (at + 1) puts low ∷ same i puts high ∷ []) ∙ sym (moved-append at (ascending 2 (bodyOf e)) (1 puts low ∷ 0 puts high ∷ []))
+    let front : ascending (at + 2) (afterLength e) ≡ moved at (ascending 2 (afterLength e)) = ascending-moved at 2 (at + 2) (afterLength e) refl in
+    (λ i. front i ++ (at + 1) puts low ∷ same i puts high ∷ []) ∙ sym (moved-append at (ascending 2 (afterLength e)) (1 puts low ∷ 0 puts high ∷ []))
 
 -- A part of a sheet after stores that all go into it is the part with those stores made in it.
 pub part-made : (size at : ℕ) (s : List ℕ) (qs : List Store) → Places (λ n. n < size) qs

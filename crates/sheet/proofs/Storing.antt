@@ -11,8 +11,8 @@ use lib.Dec.{ltb, leb}
 use lib.ListN.{length, getD, take, replicate, set, length-append, length-set, getD-replicate, List·getD-append}
 use lib.Seq.{take-suc, take-all, take-length, getD-append-add}
 use Rattle.frame.specs.Pick.{pick}
-use Rattle.sheet.specs.Record.{Entry, bodyOf, lengthOf, lengthBytes}
-use Rattle.sheet.specs.inside.InSlot.{inSlot, turnOf}
+use Rattle.sheet.specs.Record.{Entry, afterLength, lengthOf, lengthBytes}
+use Rattle.sheet.specs.inside.InSlot.{inSlot, storePlace}
 use Rattle.sheet.specs.Stores.{Store, _puts_, made, ascending, stores}
 
 pub made-append : (s : List ℕ) (ps qs : List Store) → made s (ps ++ qs) ≡ made (made s ps) qs
@@ -129,10 +129,10 @@ module _ (at : ℕ) (e : Entry) (d : Store) where
   unfolding stores
   last-two k zero q h =
       let place : 1 ≡ lengthOf e + 1 - k = omega arith in
-      behind at (bodyOf e) low high d k 0 q ∙ ap stored place
+      behind at (afterLength e) low high d k 0 q ∙ ap stored place
   last-two k (suc zero) q h =
       let place : 0 ≡ lengthOf e + 1 - k = omega arith in
-      behind at (bodyOf e) low high d k 1 q ∙ ap (λ (n : ℕ). n puts getD (lengthBytes e) 0 0) (sym (add-zero at)) ∙ ap stored place
+      behind at (afterLength e) low high d k 1 q ∙ ap (λ (n : ℕ). n puts getD (lengthBytes e) 0 0) (sym (add-zero at)) ∙ ap stored place
   last-two k (suc (suc j)) q h = absurd (omega arith)
 
   first-ones : (k : ℕ) → k < lengthOf e → getD (stores at e) k d ≡ stored (2 + k)
@@ -140,11 +140,11 @@ module _ (at : ℕ) (e : Entry) (d : Store) where
   first-ones k h =
       let further : at + 2 + k ≡ at + (2 + k) = omega arith in
       let two : suc (suc k) ≡ 2 + k = omega arith in
-      let byte : getD (bodyOf e) k 0 ≡ getD (inSlot e) (2 + k) 0 =
-      sym (List·getD-append (bodyOf e) (replicate (8 - length (e .reply)) 0) 0 k h) ∙ ap (λ (n : ℕ). getD (inSlot e) n 0) two in
-      before-length at (bodyOf e) low high d k h ∙ (λ i. further i puts byte i)
+      let byte : getD (afterLength e) k 0 ≡ getD (inSlot e) (2 + k) 0 =
+      sym (List·getD-append (afterLength e) (replicate (8 - length (e .reply)) 0) 0 k h) ∙ ap (λ (n : ℕ). getD (inSlot e) n 0) two in
+      before-length at (afterLength e) low high d k h ∙ (λ i. further i puts byte i)
 
-  pub store-at : (k : ℕ) → k < lengthOf e + 2 → getD (stores at e) k d ≡ (at + turnOf (lengthOf e) k) puts getD (inSlot e) (turnOf (lengthOf e) k) 0
+  pub store-at : (k : ℕ) → k < lengthOf e + 2 → getD (stores at e) k d ≡ (at + storePlace (lengthOf e) k) puts getD (inSlot e) (storePlace (lengthOf e) k) 0
   store-at k h = go (ltb k (lengthOf e)) refl
     where
       go : (t : Bool) → ltb k (lengthOf e) ≡ t → getD (stores at e) k d ≡ stored (pick t (2 + k) (lengthOf e + 1 - k))

@@ -13,7 +13,7 @@ use lib.ListN.{length, getD, take, drop, replicate, set, length-append, getD-rep
 use lib.Seq.{sets, sets-eq, take-append-le, take-at}
 use Rattle.frame.specs.Line.{bytesFor}
 use Rattle.sheet.specs.Bytes.{FF, allBlank, same}
-use Rattle.sheet.specs.Record.{Entry, passes, bodyOf, lengthOf, lengthBytes, recordOf, picture, fieldsOf, isRecord}
+use Rattle.sheet.specs.Record.{Entry, passes, afterLength, lengthOf, lengthBytes, recordOf, picture, fieldsOf, isRecord}
 use Rattle.sheet.specs.Slots.{spoiled, holds, slotOf}
 use Rattle.sheet.specs.Stores.{Store, _puts_, made, ascending, stores}
 use Rattle.sheet.proofs.Numbers.{number-back}
@@ -65,16 +65,16 @@ module _ (e : Entry) (short : lengthOf e ≤ 17) where
   high = 0 puts getD (lengthBytes e) 0 0
 
   -- the body stands behind the two bytes of the length, which are still blank
-  body-made : made blankSlot (ascending 2 (bodyOf e)) ≡ FF ∷ FF ∷ bodyOf e ++ replicate (32 - (2 + lengthOf e)) FF
+  body-made : made blankSlot (ascending 2 (afterLength e)) ≡ FF ∷ FF ∷ afterLength e ++ replicate (32 - (2 + lengthOf e)) FF
   body-made =
-      made-ascending blankSlot 2 (bodyOf e) ∙ sets-eq (bodyOf e) blankSlot 2 (omega arith)
-      ∙ ap (λ (l : List ℕ). FF ∷ FF ∷ bodyOf e ++ l) (drop-replicate (2 + lengthOf e) 32)
+      made-ascending blankSlot 2 (afterLength e) ∙ sets-eq (afterLength e) blankSlot 2 (omega arith)
+      ∙ ap (λ (l : List ℕ). FF ∷ FF ∷ afterLength e ++ l) (drop-replicate (2 + lengthOf e) 32)
 
   pub all-made : made blankSlot (stores 0 e) ≡ picture e
   unfolding stores picture made
   all-made =
       let rest : 32 - (2 + lengthOf e) ≡ 32 - length (recordOf e) = omega arith in
-      made-append blankSlot (ascending 2 (bodyOf e)) (low ∷ high ∷ [])
+      made-append blankSlot (ascending 2 (afterLength e)) (low ∷ high ∷ [])
       ∙ ap (λ (x : List ℕ). set (set x 1 (low .byte)) 0 (high .byte)) body-made
       ∙ ap (λ (k : ℕ). recordOf e ++ replicate k FF) rest
 
@@ -82,15 +82,15 @@ module _ (e : Entry) (short : lengthOf e ≤ 17) where
   pub first-blank : (may : ℕ) → may ≤ lengthOf e + 1 → getD (made blankSlot (take may (stores 0 e))) 0 0 ≡ FF
   unfolding stores
   first-blank may h =
-      let front = ascending 2 (bodyOf e) ++ low ∷ [] in
-      let whole : ascending 2 (bodyOf e) ++ low ∷ high ∷ [] ≡ front ++ high ∷ [] =
-      sym (append-assoc (ascending 2 (bodyOf e)) (low ∷ []) (high ∷ [])) in
+      let front = ascending 2 (afterLength e) ++ low ∷ [] in
+      let whole : ascending 2 (afterLength e) ++ low ∷ high ∷ [] ≡ front ++ high ∷ [] =
+      sym (append-assoc (ascending 2 (afterLength e)) (low ∷ []) (high ∷ [])) in
       let long : length front ≡ lengthOf e + 1 = simp (length-append, ascending-length) (omega arith) in
-      let part : take may (ascending 2 (bodyOf e) ++ low ∷ high ∷ []) ≡ take may front =
+      let part : take may (ascending 2 (afterLength e) ++ low ∷ high ∷ []) ≡ take may front =
       ap (take may) whole ∙ take-append-le may front (high ∷ []) (omega arith) in
       let away : Places (λ n. n ≢ 0) front =
-      places-append (λ n. n ≢ 0) (ascending 2 (bodyOf e)) (low ∷ [])
-      (places-weaker (Between 2 (2 + lengthOf e)) (λ n. n ≢ 0) (λ n b. omega arith) (ascending 2 (bodyOf e)) (ascending-between 2 (bodyOf e)))
+      places-append (λ n. n ≢ 0) (ascending 2 (afterLength e)) (low ∷ [])
+      (places-weaker (Between 2 (2 + lengthOf e)) (λ n. n ≢ 0) (λ n b. omega arith) (ascending 2 (afterLength e)) (ascending-between 2 (afterLength e)))
       (omega arith, tt) in
       ap (λ (ps : List Store). getD (made blankSlot ps) 0 0) part
       ∙ made-keeps 0 0 blankSlot (take may front) (places-take (λ n. n ≢ 0) may front away)
@@ -100,7 +100,7 @@ module _ (e : Entry) (short : lengthOf e ≤ 17) where
   unfolding stores made ascending
   version-made zero h = absurd (omega arith)
   version-made (suc m) h =
-      let tail = drop 1 (bodyOf e) in
+      let tail = drop 1 (afterLength e) in
       let rest = ascending 3 tail ++ low ∷ high ∷ [] in
       let away : Places (λ n. n ≢ 2) rest =
       places-append (λ n. n ≢ 2) (ascending 3 tail) (low ∷ high ∷ [])

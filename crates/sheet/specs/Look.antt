@@ -26,19 +26,19 @@ abbrev pub entryWith : Head → List ℕ → Entry
 entryWith h reply = entryOf (h .settings) (h .minute) (h .address) (h .count) reply
 
 -- What is answered of a slot: of a record all that it says, its reply bytes from the first on and 0 after them.
-abbrev pub told : Slot → Looked
-told blank = bare Blank
-told spoiled = bare Spoiled
-told foreign = bare Foreign
-told (holds e) = record { found = Record (headOf e); reply = e .reply ++ replicate (8 - length (e .reply)) 0 }
+abbrev pub lookTold : Slot → Looked
+lookTold blank = bare Blank
+lookTold spoiled = bare Spoiled
+lookTold foreign = bare Foreign
+lookTold (holds e) = record { found = Record (headOf e); reply = e .reply ++ replicate (8 - length (e .reply)) 0 }
 
 -- A part of a sheet that is read as a slot has 32 bytes; any other is refused.
 unfoldable pub partOf : List ℕ → Looked
-partOf x = pick (eqb (length x) 32) (told (slotOf x)) (bare (Refused 12))
+partOf x = pick (eqb (length x) 32) (lookTold (slotOf x)) (bare (Refused 12))
 
 -- Looking at a slot: 12 where the sheet's size is not allowed or the slot lies beyond the last.
 unfoldable pub lookOf : List ℕ → ℕ → Looked
-lookOf s k = pick (sizeAllowed s && ltb k (slots s)) (told (slotOf (slotAt s k))) (bare (Refused 12))
+lookOf s k = pick (sizeAllowed s && ltb k (slots s)) (lookTold (slotOf (slotAt s k))) (bare (Refused 12))
 
 -- What `look` answers.
 pub record Looks (sheet : List ℕ) (slot : ℕ) (answer : Looked) : Type 0 where

@@ -28,18 +28,18 @@ unfoldable pub passes : Entry → Bool
 passes e = eqb (firstOf (checks e)) 0
 
 -- What follows the length: version 1, settings, minute (4), polled address (2), bit count (1), reply bytes (0 to 8).
-abbrev pub bodyOf : Entry → List ℕ
-bodyOf e = 1 ∷ e .settings ∷ bigEndian 4 (e .minute) ++ bigEndian 2 (e .address) ++ e .count ∷ e .reply
+abbrev pub afterLength : Entry → List ℕ
+afterLength e = 1 ∷ e .settings ∷ bigEndian 4 (e .minute) ++ bigEndian 2 (e .address) ++ e .count ∷ e .reply
 
 -- The length counts what follows it. It takes 2 bytes, the high one first.
 abbrev pub lengthOf : Entry → ℕ
-lengthOf e = length (bodyOf e)
+lengthOf e = length (afterLength e)
 
 abbrev pub lengthBytes : Entry → List ℕ
 lengthBytes e = bigEndian 2 (lengthOf e)
 
 abbrev pub recordOf : Entry → List ℕ
-recordOf e = lengthBytes e ++ bodyOf e
+recordOf e = lengthBytes e ++ afterLength e
 
 -- The 32 bytes of a slot that holds a record: FF follows it.
 unfoldable pub picture : Entry → List ℕ

@@ -2,7 +2,7 @@
 use mathlib.Core.List.{List, [], _∷_, _++_}
 use Prim.Native.Nat.{ℕ, _+_, _*_}
 use lib.ListN.{getD, take, set}
-use Rattle.sheet.specs.Record.{Entry, bodyOf, lengthBytes}
+use Rattle.sheet.specs.Record.{Entry, afterLength, lengthBytes}
 use Rattle.sheet.specs.Slots.{next}
 
 -- A store changes one byte of a sheet.
@@ -30,7 +30,7 @@ lengthStores at e = (at + 1) puts getD (lengthBytes e) 1 0 ∷ at puts getD (len
 
 -- A record's stores, in order: version to the last reply byte, ascending; then the length.
 unfoldable pub stores : ℕ → Entry → List Store
-stores at e = ascending (at + 2) (bodyOf e) ++ lengthStores at e
+stores at e = ascending (at + 2) (afterLength e) ++ lengthStores at e
 
 -- The sheet after a save into a slot that may make so many stores: the first of a record's; and after a save, into the slot that it goes to.
 unfoldable pub afterInto : List ℕ → ℕ → Entry → ℕ → List ℕ

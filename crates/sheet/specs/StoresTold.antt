@@ -32,12 +32,12 @@ refusing number =
     record { slot = 0; places = replicate 19 0; bytes = replicate 19 0; count = 0; number = number }
 
 -- What a save would do is told, or what it would be refused by: the stores of its record, in order, within the slot that it goes to.
-unfoldable pub toldOf : List ℕ → Entry → SaveStores
-toldOf s e = pick (eqb (saveFault s e) 0) (telling (next s) (stores 0 e)) (refusing (saveFault s e))
+unfoldable pub saveTold : List ℕ → Entry → SaveStores
+saveTold s e = pick (eqb (saveFault s e) 0) (telling (next s) (stores 0 e)) (refusing (saveFault s e))
 
 -- What `save_stores` answers. It changes nothing.
 pub record TellsStores (sheet : List ℕ) (e : Entry) (answer : SaveStores) : Type 0 where
-  pub answers : answer ≡ toldOf sheet e
+  pub answers : answer ≡ saveTold sheet e
 
 -- A store goes to byte 32 * slot + place of the sheet. The count alone says what is a store.
 abbrev pub laid : ℕ → List ℕ → List ℕ → List Store

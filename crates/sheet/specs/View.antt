@@ -14,11 +14,11 @@ use Rattle.sheet.specs.Slots.{lengthAllowed, sizeAllowed, slots, slotAt}
 use Rattle.sheet.specs.Look.{partOf}
 
 -- What `count_slots` answers: the slots of a sheet, or 12 where its size is not allowed.
-unfoldable pub countOf : List ℕ → Counted
-countOf s = pick (sizeAllowed s) (Slots (slots s)) (Refused 12)
+unfoldable pub slotsCounted : List ℕ → Counted
+slotsCounted s = pick (sizeAllowed s) (Slots (slots s)) (Refused 12)
 
 pub record Counts (sheet : List ℕ) (answer : Counted) : Type 0 where
-  pub answers : answer ≡ countOf sheet
+  pub answers : answer ≡ slotsCounted sheet
 
 -- The slots that so many bytes make: none where the size is not allowed.
 unfoldable pub slotsFor : ℕ → ℕ

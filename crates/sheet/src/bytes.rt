@@ -1,8 +1,8 @@
-// Bytes as numbers, numbers as bytes, and the test for blank ones.
+// Bytes as numbers, and the test for blank ones.
 ghost use mathlib.Core.Path.{_≡_};
 ghost use Prim.Native.Nat.{_-_, _*_, _^_, _≤_};
 ghost use lib.ListN.{length};
-ghost use Rattle.sheet.specs.Bytes.{bigEndian, numberIn, allBlank};
+ghost use Rattle.sheet.specs.Bytes.{numberIn, allBlank};
 
 pub(crate) fn wide(byte: u8) -> u64
     ensures { λ r. ⌜ r ≡ byte ⌝ }
@@ -55,20 +55,4 @@ pub(crate) fn past_bytes(size: usize) -> u64
 {
     let half = 4 * size;
     (0xffff_ffff_ffff_ffff >> half) >> half
-}
-
-// The bytes of a word, the highest first. The compiler makes one store of them.
-pub(crate) fn bytes_of(word: u64) -> [u8; 8]
-    ensures { λ r. ⌜ r ≡ bigEndian 8 word ⌝ }
-{
-    [
-        ((word >> 56) % 256) as u8,
-        ((word >> 48) % 256) as u8,
-        ((word >> 40) % 256) as u8,
-        ((word >> 32) % 256) as u8,
-        ((word >> 24) % 256) as u8,
-        ((word >> 16) % 256) as u8,
-        ((word >> 8) % 256) as u8,
-        (word % 256) as u8,
-    ]
 }

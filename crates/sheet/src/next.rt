@@ -3,7 +3,7 @@ use crate::bytes::blank;
 ghost use mathlib.Core.Path.{_≡_};
 ghost use Prim.Native.Nat.{_-_, _≤_};
 ghost use Rattle.sheet.specs.Slots.{slots, next};
-ghost use Rattle.sheet.specs.inside.Passing.{Passes, Stops};
+ghost use Rattle.sheet.specs.inside.Passing.{Passes, StopsAt};
 
 // The first of the last eight slots.
 fn eight_before(slots: usize) -> usize
@@ -16,7 +16,7 @@ fn eight_before(slots: usize) -> usize
 fn pass_slots(sheet: &[u8], from: usize, low: usize) -> usize
     requires { ⌜ low ≤ from ⌝ }
     requires { ⌜ from ≤ slots (now sheet) ⌝ }
-    ensures { λ r. ⌜ Stops (now (sheet .entry)) from low r ⌝ }
+    ensures { λ r. ⌜ StopsAt (now (sheet .entry)) from low r ⌝ }
 {
     let mut k = from;
     while low < k {

@@ -1,11 +1,11 @@
 // A record in the bytes of a slot: its checks, what it says, and whether it is one.
 use crate::Head;
-use crate::bytes::bytes_of;
 use crate::bytes::number;
 use crate::bytes::past;
 use crate::bytes::past_bytes;
 use crate::bytes::wide;
 use crate::words::blank_after;
+use frame::bytes_of;
 ghost use mathlib.Core.Path.{_≡_};
 ghost use Prim.Native.Nat.{_≤_};
 ghost use lib.ListN.{length, take, drop};

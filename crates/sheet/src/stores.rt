@@ -4,7 +4,7 @@ ghost use mathlib.Core.Path.{_≡_};
 ghost use mathlib.Core.List.{[], _∷_};
 ghost use Prim.Native.Nat.{_+_, _-_, _≤_, _<_, min};
 ghost use lib.ListN.{length, set, take};
-ghost use Rattle.sheet.specs.Record.{bodyOf};
+ghost use Rattle.sheet.specs.Record.{afterLength};
 ghost use Rattle.sheet.specs.Stores.{_puts_, made, ascending};
 ghost use Rattle.sheet.specs.Look.{entryWith};
 ghost use Rattle.sheet.specs.inside.InSlot.{MakesStores};
@@ -37,7 +37,7 @@ fn left_after(allowance: usize, stores: usize) -> usize
 // The bytes of a record between its length and its reply.
 pub fn before_reply(head: Head) -> [u8; 9]
     requires { ⌜ head .count ≤ 64 ⌝ }
-    ensures { λ r. ⌜ r ≡ bodyOf (entryWith head []) ⌝ }
+    ensures { λ r. ⌜ r ≡ afterLength (entryWith head []) ⌝ }
 {
     let settings = head.settings;
     let minute = head.minute;

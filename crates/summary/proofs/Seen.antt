@@ -20,8 +20,8 @@ use Rattle.sheet.specs.declared.view.Counted.the-variants as counted
 use Rattle.sheet.specs.Bytes.{FF, allBlank}
 use Rattle.sheet.specs.Record.{Entry, isRecord, fieldsOf}
 use Rattle.sheet.specs.Slots.{Slot, blank, spoiled, foreign, holds, sizeAllowed, slots, slotAt, slotOf, recordIn, listUpTo}
-use Rattle.sheet.specs.Look.{Looks, told, headOf, entryWith, recordTold}
-use Rattle.sheet.specs.View.{Counts, countOf}
+use Rattle.sheet.specs.Look.{Looks, lookTold, headOf, entryWith, recordTold}
+use Rattle.sheet.specs.View.{Counts, slotsCounted}
 use Rattle.sheet.proofs.Records.{record-passes, passes-formed, formed-few}
 use Rattle.sheet.proofs.SlotParts.{look-within}
 
@@ -36,7 +36,7 @@ record Tells (t : Slot) (looked : Looked) : Type 0 where
   records : recordTold (looked .found) (looked .reply) ≡ recordIn t
   bits : bitsTold (looked .found) ≤ 64
 
-in-form : (x : List ℕ) → isRecord x ≡ true → Tells (holds (fieldsOf x)) (told (holds (fieldsOf x)))
+in-form : (x : List ℕ) → isRecord x ≡ true → Tells (holds (fieldsOf x)) (lookTold (holds (fieldsOf x)))
 in-form x is =
     let y = fieldsOf x in
     let few = formed-few (y .count) (y .reply) (passes-formed y (record-passes x is)) in
@@ -44,11 +44,11 @@ in-form x is =
     take-at (y .reply) (replicate (8 - length (y .reply)) 0) (bytesFor (y .count)) (few .1) in
     record { records = ap (λ (r : List ℕ). entryWith (headOf y) r ∷ []) reply; bits = few .0 }
 
-tells : (x : List ℕ) → Tells (slotOf x) (told (slotOf x))
+tells : (x : List ℕ) → Tells (slotOf x) (lookTold (slotOf x))
 unfolding slotOf
 tells x = go (allBlank x) (eqb (getD x 0 0) FF) (isRecord x) refl
   where
-    go : (a f r : Bool) → isRecord x ≡ r → let t : Slot = pick a blank (pick f spoiled (pick r (holds (fieldsOf x)) foreign)) in Tells t (told t)
+    go : (a f r : Bool) → isRecord x ≡ r → let t : Slot = pick a blank (pick f spoiled (pick r (holds (fieldsOf x)) foreign)) in Tells t (lookTold t)
     go true f r e = record { records = refl; bits = omega arith }
     go false true r e = record { records = refl; bits = omega arith }
     go false false true e = in-form x e
@@ -78,8 +78,8 @@ few-slots s h = go (eqb (length s % 32) 0) (leb (length s) 65536) refl h
     go false b e q = let z : _≡_ {A = ℕ} 0 1 = cc in absurd (omega arith)
 
 -- what a count of the slots tells of the size
-by-size : (s : List ℕ) (a : Bool) → sizeAllowed s ≡ a → countOf s ≡ pick a (counted.Slots (slots s)) (counted.Refused 12)
-unfolding countOf
+by-size : (s : List ℕ) (a : Bool) → sizeAllowed s ≡ a → slotsCounted s ≡ pick a (counted.Slots (slots s)) (counted.Refused 12)
+unfolding slotsCounted
 by-size s a e = simp e
 
 module _ (s : List ℕ) (answer : Counted) (n : ℕ) (counts : Counts s answer) where

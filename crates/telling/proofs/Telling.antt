@@ -12,18 +12,18 @@ use Rattle.sheet.specs.Record.{Entry, checks, passes}
 use Rattle.sheet.specs.Slots.{sizeAllowed, slots, next}
 use Rattle.sheet.specs.Stores.{stores}
 use Rattle.sheet.specs.Save.{saveFault}
-use Rattle.sheet.specs.StoresTold.{telling, refusing, toldOf, TellsStores}
+use Rattle.sheet.specs.StoresTold.{telling, refusing, saveTold, TellsStores}
 use Rattle.sheet.proofs.Refusals.{save-fault, Clear, clear-fault}
 
 module _ (s : List ℕ) (e : Entry) (answer : SaveStores) where
   pub tells-refusal : (n : ℕ) → saveFault s e ≡ n → eqb n 0 ≡ false → answer ≡ refusing n → TellsStores s e answer
-  unfolding toldOf
+  unfolding saveTold
   tells-refusal n f z is =
       let told = telling (next s) (stores 0 e) in
       record { answers = is ∙ sym (ap (λ (k : ℕ). pick (eqb k 0) told (refusing k)) f ∙ ap (λ (t : Bool). pick t told (refusing n)) z) }
 
   pub tells-stores : Clear s e → answer ≡ telling (next s) (stores 0 e) → TellsStores s e answer
-  unfolding toldOf
+  unfolding saveTold
   tells-stores c is =
       let told = telling (next s) (stores 0 e) in
       record { answers = is ∙ sym (ap (λ (k : ℕ). pick (eqb k 0) told (refusing k)) (clear-fault s e c)) }

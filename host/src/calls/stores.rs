@@ -1,4 +1,4 @@
-//! A save told as its stores, request 19.
+//! A save told as its stores, our request 19.
 
 use crate::types::stores::SaveStores;
 use crate::types::Entry;

@@ -26,7 +26,7 @@ fn a_day_at_the_desk() {
     desk::day(&Library);
 }
 
-/// The tables of document 02's requests.
+/// The tables of the requests.
 mod vectors {
     crate::vectors::tests_on!(crate::library::Library);
 }

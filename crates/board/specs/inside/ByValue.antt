@@ -23,7 +23,7 @@ use Rattle.board.specs.declared.value.Search.{Search}
 use Rattle.board.specs.Gauge.{outsideBy, unmarked, atOnce}
 use Rattle.board.specs.Row.{isFree, freeRow, withReading, withFault, setsFault}
 use Rattle.board.specs.Rows.{boardOf, placeBy, placeOf, onBoard, rowOf, placeFree}
-use Rattle.board.specs.Order.{kept, inOrder}
+use Rattle.board.specs.Order.{inAddressOrder, ifInOrder}
 use Rattle.board.specs.Calls.{enrolNumber, enrolRows, hearNumber, hearPlace, hearRows, heardAs, findNumber, removeRows, lookedAt, refusedLook}
 
 -- A board by value: its rows, and free ones behind them up to thirty.
@@ -48,13 +48,13 @@ abbrev pub overUsed : ℕ → Search → Row → Search
 overUsed address s row =
     record { vacant = s .vacant; below = pick (ltb (row .address) address) (s .below + 1) (s .below); least = row .address + 1; kept = s .kept }
 
-abbrev pub passed : ℕ → Search → Row → Search
-passed address s row = pick (isFree row) (overFree s) (pick (ltb (row .address) (s .least)) (overLow s) (overUsed address s row))
+abbrev pub overRow : ℕ → Search → Row → Search
+overRow address s row = pick (isFree row) (overFree s) (pick (ltb (row .address) (s .least)) (overLow s) (overUsed address s row))
 
 -- And once all have been passed.
 unfoldable pub searched : ℕ → Search → List Row → Search
 searched address s [] = s
-searched address s (row ∷ rows) = searched address (passed address s row) rows
+searched address s (row ∷ rows) = searched address (overRow address s row) rows
 
 abbrev pub unsearched : Search
 unsearched = record { vacant = 0; below = 0; least = 0; kept = true }
@@ -64,8 +64,8 @@ abbrev pub foundBy : Search → ℕ → Row → ℕ → Found
 foundBy s n row address =
     record { at = pick (ltb (s .below) (30 - s .vacant) && eqb (row .address) address) (s .below) n; n = n; row = row; free = 30 - s .vacant; spot = s .below; kept = true }
 
-abbrev pub unkept : ℕ → Found
-unkept n = record { at = n; n = n; row = freeRow; free = 0; spot = 0; kept = false }
+abbrev pub notInOrder : ℕ → Found
+notInOrder n = record { at = n; n = n; row = freeRow; free = 0; spot = 0; kept = false }
 
 -- The places that a search names are in their order.
 pub record Bounded (f : Found) : Type 0 where
@@ -77,20 +77,20 @@ pub record Bounded (f : Found) : Type 0 where
 pub record Finds (board : List Row) (address : ℕ) (f : Found) : Type 0 where
   pub count : f .n ≡ length board
   pub bounds : Bounded f
-  pub order : f .kept ≡ kept board
-  pub place : kept board ≡ true → f .at ≡ placeOf address board
-  pub there : kept board ≡ true → f .at < f .n → f .row ≡ rowOf address board
-  pub vacant : kept board ≡ true → f .free ≡ placeFree board
-  pub stands : kept board ≡ true → f .spot ≡ placeFor address board
+  pub order : f .kept ≡ inAddressOrder board
+  pub place : inAddressOrder board ≡ true → f .at ≡ placeOf address board
+  pub there : inAddressOrder board ≡ true → f .at < f .n → f .row ≡ rowOf address board
+  pub vacant : inAddressOrder board ≡ true → f .free ≡ placeFree board
+  pub stands : inAddressOrder board ≡ true → f .spot ≡ placeFor address board
   pub found : f .at < f .n → f .spot ≡ f .at
 
 -- How many of so many rows count.
-abbrev pub counted : ℕ → ℕ
-counted n = pick (ltb 30 n) 30 n
+abbrev pub rowsThatCount : ℕ → ℕ
+rowsThatCount n = pick (ltb 30 n) 30 n
 
 -- It is found in the array of every board so long, of which as many rows count.
 pub record FindsOn (held : List Row) (len address : ℕ) (f : Found) : Type 0 where
-  pub on : (board : List Row) → length board ≡ counted len → held ≡ filled board → Finds board address f
+  pub on : (board : List Row) → length board ≡ rowsThatCount len → held ≡ filled board → Finds board address f
 
 -- A row carried over `count` places: each takes the row that comes, and hands on the one that stood in it. The places go on from `at`, where
 -- `up` is 1 and `down` 0, or back from the one before it, where `up` is 0 and `down` 1.
@@ -142,7 +142,7 @@ saidOf c = heardAs (c .number) (c .place)
 
 -- The change is the call's on every board on which a search for the address finds f: 38, and no row, on one not so kept.
 pub record ChangesOn (f : Found) (address : ℕ) (number : List Row → ℕ) (after : List Row → List Row) (c : Change) : Type 0 where
-  pub on : (board : List Row) → Finds board address f → Changes board (inOrder board (number board) 38) (inOrder board (after board) board) c
+  pub on : (board : List Row) → Finds board address f → Changes board (ifInOrder board (number board) 38) (ifInOrder board (after board) board) c
 
 abbrev pub EnrolsOn : Found → (settings address gauge : ℕ) → Change → Type 0
 EnrolsOn f settings address gauge =
@@ -151,14 +151,14 @@ EnrolsOn f settings address gauge =
 -- Of a hearing the change names the place too.
 pub record HearsOn (f : Found) (minute address count : ℕ) (reply : List ℕ) (c : Change) : Type 0 where
   pub changes : ChangesOn f address (λ board. hearNumber board address count reply) (λ board. hearRows board minute address count reply) c
-  pub names : (board : List Row) → Finds board address f → c .place ≡ inOrder board (hearPlace board address count reply) 0
+  pub names : (board : List Row) → Finds board address f → c .place ≡ ifInOrder board (hearPlace board address count reply) 0
 
 abbrev pub RemovesOn : Found → ℕ → Change → Type 0
 RemovesOn f address = ChangesOn f address (λ board. findNumber board address) (λ board. removeRows board address)
 
 -- The answer is that of looking, on every such board.
 pub record LooksOn (f : Found) (address : ℕ) (answer : Looked) : Type 0 where
-  pub on : (board : List Row) → Finds board address f → answer ≡ inOrder board (lookedAt board address) (refusedLook 38)
+  pub on : (board : List Row) → Finds board address f → answer ≡ ifInOrder board (lookedAt board address) (refusedLook 38)
 
 -- Whether a row may be polled so: 11, 17, 28, and 0 where it may.
 unfoldable pub mayPoll : List Row → (address raise reset : ℕ) → ℕ
@@ -172,7 +172,7 @@ mayPoll board address raise reset =
     ∷ [])
 
 pub record MayPollOn (f : Found) (address raise reset : ℕ) (number : ℕ) : Type 0 where
-  pub on : (board : List Row) → Finds board address f → number ≡ inOrder board (mayPoll board address raise reset) 38
+  pub on : (board : List Row) → Finds board address f → number ≡ ifInOrder board (mayPoll board address raise reset) 38
 
 -- A number that was answered already, or what writing the poll answers.
 abbrev pub orPoll : (number address : ℕ) → List ℕ → ℕ

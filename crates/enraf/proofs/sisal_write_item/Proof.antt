@@ -7,7 +7,7 @@ use native.Mathlib.Omega.{arith}
 use borrow.Author.Tests.{lt-ltb, le-ltb, not-true, not-false}
 use lib.ListN.{length}
 use Rattle.enraf.specs.Item.{Item, itemOf, textFits}
-use Rattle.enraf.specs.Record.{recordOf}
+use Rattle.enraf.specs.Record.{itemRecord}
 use Rattle.enraf.specs.Writing.{done}
 use Rattle.enraf.proofs.ByTests.{write-fault-by}
 use Rattle.enraf.proofs.SixKinds.{fits-kind}
@@ -73,7 +73,7 @@ returns-4 : tie.Need-returns-4
 returns-4 c =
     let long = record-long (item (c .before .before .before .before .before .before .before .before .before)) in
     let size = c .before .before .tail-size .ensures .0 in
-    let short : length (c .before .before .before .before .before .before .before .before .before .args .out .now) < length (recordOf (item (c .before .before .before .before .before .before .before .before .before))) = omega arith in
+    let short : length (c .before .before .before .before .before .before .before .before .before .args .out .now) < length (itemRecord (item (c .before .before .before .before .before .before .before .before .before))) = omega arith in
     let f =
     write-fault-by (item (c .before .before .before .before .before .before .before .before .before)) (c .before .before .before .before .before .before .before .before .before .args .out .now) false false true true (le-ltb _ _ (c .before .before .before .before .before .before .if1 .left)) (le-ltb _ _ (c .before .before .before .before .before .if2 .left)) (fitting (c .before .before .before))
     (lt-ltb _ _ short) in
@@ -102,8 +102,8 @@ returns-5 c =
     let out = c .before .before .before .before .before .before .before .before .before .before .before .before .before .before .before .before .before .before .before .before .args .out .now in
     let long = record-long i in
     let size = c .before .before .before .before .before .before .before .before .before .before .before .before .before .tail-size .ensures .0 in
-    let room : length (recordOf i) ≤ length out = omega arith in
-    let whole : 10 + c .before .before .before .before .before .before .before .before .before .before .before .before .before .tail-size .result ≡ length (recordOf i) = omega arith in
+    let room : length (itemRecord i) ≤ length out = omega arith in
+    let whole : 10 + c .before .before .before .before .before .before .before .before .before .before .before .before .before .tail-size .result ≡ length (itemRecord i) = omega arith in
     let f =
     write-fault-by i out false false true false (le-ltb _ _ (c .before .before .before .before .before .before .before .before .before .before .before .before .before .before .before .before .before .if1 .left)) (le-ltb _ _ (c .before .before .before .before .before .before .before .before .before .before .before .before .before .before .before .before .if2 .left)) (fitting (c .before .before .before .before .before .before .before .before .before .before .before .before .before .before)) (le-ltb _ _ room) in
     writes i out _ _ f (ap (λ (n : ℕ). done n 0) whole)

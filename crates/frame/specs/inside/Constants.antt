@@ -7,7 +7,7 @@ pub use Rattle.frame.specs.declared.modes.Constants.{Constants}
 use Rattle.frame.specs.Pick.{pick}
 use Rattle.frame.specs.Level.{readRow}
 use Rattle.frame.specs.Pairs.{readPairs, uncounted}
-use Rattle.frame.specs.inside.Packed.{rowOf, levelNumber, writeUp}
+use Rattle.frame.specs.inside.Packed.{digitRow, levelNumber, writeUp}
 
 abbrev pub fractional : Constants
 fractional = record { digits = 4; first = 17; before = 1; after = 6; largest = 15359; charts = 0x5432; start = false }
@@ -40,7 +40,7 @@ cutAt first after n = n / 2 ^ (27 + after) % 2 ^ digitBits first after
 abbrev pub readAt : ℕ → ℕ → ℕ → ℕ → ℕ → ℕ → Bool → ℕ → ℕ
 readAt digits first before after largest charts start n =
     pick (fillAt n before after)
-    (levelNumber largest (readRow (rowOf charts digits) (cutAt first after n) start 0 0))
+    (levelNumber largest (readRow (digitRow charts digits) (cutAt first after n) start 0 0))
     (6 * 2 ^ 16)
 
 abbrev pub readBy : Constants → ℕ → ℕ

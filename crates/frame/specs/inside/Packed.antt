@@ -44,9 +44,9 @@ digitOf c code odd =
     pick (ltb at (sizeOf c)) (turned odd (sizeOf c) at) 16
 
 -- A row of `left` digits, the number of each digit's chart in four bits, the top digit's lowest; every digit is read in four bits.
-unfoldable pub rowOf : ℕ → ℕ → List Chart
-rowOf row zero = []
-rowOf row (suc left) = record { width = 4; codes = chartOf (row % 16) .codes } ∷ rowOf (row / 16) left
+unfoldable pub digitRow : ℕ → ℕ → List Chart
+digitRow row zero = []
+digitRow row (suc left) = record { width = 4; codes = chartOf (row % 16) .codes } ∷ digitRow (row / 16) left
 
 -- What the digit reader gives: the level, or 2 ^ 32 and the place of the first digit in no chart.
 abbrev pub readCode : Level → ℕ

@@ -18,18 +18,6 @@ frontOf settings address r =
     put 1 1 + putThree address 4 + putLevel (modeIn settings) (r .level) + put (mark (r .alarm1)) 38
     + put (mark (r .alarm0)) 39
 
-abbrev pub isAbove : Temperature → Bool
-isAbove (Degrees d) = false
-isAbove Above = true
-isAbove Below = false
-isAbove Absent = false
-
-abbrev pub isBelow : Temperature → Bool
-isBelow (Degrees d) = false
-isBelow Above = false
-isBelow Below = true
-isBelow Absent = false
-
 -- A temperature as a number of tenths: above and below as the ends of what 16 bits hold, both beyond the range of either type.
 abbrev pub tenthsFor : Temperature → ℤ
 tenthsFor (Degrees d) = d

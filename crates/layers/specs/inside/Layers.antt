@@ -3,9 +3,9 @@ use mathlib.Core.Bool.{Bool}
 use mathlib.Core.List.{List, [], _∷_}
 use Prim.Native.Nat.{ℕ}
 use Rattle.sheet.specs.Record.{Entry}
-use Rattle.layers.specs.Drawing.{goesOn}
+use Rattle.layers.specs.Drawing.{lineGoesOn}
 
 unfoldable pub joinedAfter : ℕ → Bool → List Entry → Bool
-unfolding goesOn
+unfolding lineGoesOn
 joinedAfter layer joined [] = joined
-joinedAfter layer joined (e ∷ l) = joinedAfter layer (goesOn layer e) l
+joinedAfter layer joined (e ∷ l) = joinedAfter layer (lineGoesOn layer e) l

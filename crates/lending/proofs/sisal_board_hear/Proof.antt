@@ -46,7 +46,7 @@ use Rattle.board.specs.declared.value.Change.{Change}
 use Rattle.board.specs.declared.value.Found.{Found}
 use Rattle.board.specs.Rows.{boardOf}
 use Rattle.frame.specs.Pick.{pick as by-test}
-use Rattle.board.specs.Order.{kept, inOrder}
+use Rattle.board.specs.Order.{inAddressOrder, ifInOrder}
 use Rattle.board.specs.Calls.{Hears, heardAs, hearNumber, hearPlace}
 use Rattle.board.specs.inside.ByValue.{Finds, moved, HearsOn, saidOf}
 use Rattle.lending.proofs.LendShared.{Kept, lends, has-back}
@@ -89,7 +89,7 @@ stayed = (gave-slice (0 ∷ []) tt (plain (λ _. T.the-row)), (stay-none (λ _. 
 settled : (ys : List Row) (m a k : ℕ) (y : List ℕ) (r : Found) (c : Change) → Finds (boardOf ys) a r → HearsOn r m a k y c → (h : Heard) → h ≡ saidOf c → (zs : List Row) → zs ≡ moved c ys → Hears ys m a k y h zs
 settled ys m a k y r c finds made h is zs e =
     let s = settles ys a r finds _ _ c (made .changes) (c .number) zs (refl, e) in
-    record { answers = is ∙ ap (λ (n : ℕ). heardAs n (c .place)) (s .0) ∙ ap (heardAs (inOrder (boardOf ys) (hearNumber (boardOf ys) a k y) 38)) (made .names (boardOf ys) finds) ∙ said-by (kept (boardOf ys)); leaves = s .1 }
+    record { answers = is ∙ ap (λ (n : ℕ). heardAs n (c .place)) (s .0) ∙ ap (heardAs (ifInOrder (boardOf ys) (hearNumber (boardOf ys) a k y) 38)) (made .names (boardOf ys) finds) ∙ said-by (inAddressOrder (boardOf ys)); leaves = s .1 }
   where
     said-by : (t : Bool) → heardAs (by-test t (hearNumber (boardOf ys) a k y) 38) (by-test t (hearPlace (boardOf ys) a k y) 0) ≡ by-test t (heardAs (hearNumber (boardOf ys) a k y) (hearPlace (boardOf ys) a k y)) (heardAs 38 0)
     said-by true = refl

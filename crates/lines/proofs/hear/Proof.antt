@@ -12,7 +12,7 @@ use Rattle.lines.specs.Sample.{sampleOf}
 use Rattle.lines.specs.Timing.{Timing, timing}
 use Rattle.lines.specs.Step.{after, closes}
 use Rattle.lines.specs.SoFar.{atRest}
-use Rattle.lines.specs.Hearing.{heard, toldOf, later, hear}
+use Rattle.lines.specs.Hearing.{hearing, toldOf, later, hear}
 use Rattle.lines.specs.Calls.{answered}
 use Rattle.lines.specs.inside.Safe.{Safe}
 use Rattle.lines.specs.inside.Runs.{RunTo, wantedOf, grown}
@@ -52,7 +52,7 @@ module _ (t : Timing) (s n : SoFar) (xs : List ℕ) (i end : ℕ) (more : i < le
             ∙ ap (λ (m : ℕ). later m (hear t (grown x k n) (drop m xs))) place,
       )
 
-  closed-within : (w : ℕ) → w ≡ wantedOf (t .gap) x n → w ≤ end - (i + 1) → length xs < 2 ^ 64 → later i (hear t s (drop i xs)) ≡ heard (toldOf n) atRest (i + 1 + w)
+  closed-within : (w : ℕ) → w ≡ wantedOf (t .gap) x n → w ≤ end - (i + 1) → length xs < 2 ^ 64 → later i (hear t s (drop i xs)) ≡ hearing (toldOf n) atRest (i + 1 + w)
   closed-within w e h long =
       next-open t s n xs i more step on
       ∙ enough-more t x n gap left-safe left-kind on xs (i + 1) w e (omega (arith, run .there)) (omega (arith, run .forward, run .there)) (λ j a b. run .alike j a (omega (arith, run .forward)))
@@ -61,7 +61,7 @@ loop-holds : tie.Need-loop-holds Inv-loop μ-loop
 loop-holds c =
     let b = c .before in
     let h = hear (timing (b .args .least) (b .args .most) (b .args .gap)) (b .args .begun) (b .args .samples .now) in
-    (omega arith, b .pre .1 .1, ap (heard (h .told) (h .left)) (sym (zero-add (h .taken))))
+    (omega arith, b .pre .1 .1, ap (hearing (h .told) (h .left)) (sym (zero-add (h .taken))))
 
 shared-slice-read-sample : tie.Need-shared-slice-read-sample Inv-loop μ-loop
 shared-slice-read-sample c = omega arith

@@ -4,9 +4,10 @@ use mathlib.Core.Bool.{false, _||_, not}
 use Prim.Native.Nat.{_≤_}
 use borrow.Author.Tests.{leb-true, not-false}
 use lib.Dec.{leb, ltb}
+use Rattle.frame.specs.Pick.{within}
 use Rattle.frame.specs.Faults.{firstOf}
 use Rattle.frame.proofs.Both.{both}
-use Rattle.lines.specs.Timing.{Timing, timing, within, badTiming, timingFault}
+use Rattle.lines.specs.Timing.{Timing, timing, badTiming, timingFault}
 use Rattle.lines.specs.Calls.{linesAnswer}
 use Rattle.lines.specs.Hearing.{hear}
 use Rattle.lines.proofs.Cases.{none-of}

@@ -25,12 +25,12 @@ pub record RunTo (samples : List ℕ) (from to x : ℕ) : Type 0 where
   pub alike : Alike samples from to x
 
 -- More samples than any batch has.
-abbrev pub never : ℕ
-never = 0xffff_ffff_ffff_ffff
+abbrev pub endless : ℕ
+endless = 0xffff_ffff_ffff_ffff
 
 -- How many samples more like the last one close what is open.
 unfoldable pub wantedOf : (gap x : ℕ) → SoFar → ℕ
-wantedOf gap x s = pick (eqb x 0 && isOpen s) (gap - s .run) never
+wantedOf gap x s = pick (eqb x 0 && isOpen s) (gap - s .run) endless
 
 -- What was heard after so many samples more like the last one, where they close nothing: idle after what is open, or a run of marks or of spaces,
 -- is longer; all else stays.

@@ -4,7 +4,7 @@ use mathlib.Core.List.{_++_}
 use Prim.Native.Nat.{ℕ}
 use native.Mathlib.Omega.{arith}
 use lib.Seq.{length-take-le}
-use Rattle.listing.specs.Text.{ascii, decimal}
+use Rattle.listing.specs.Text.{ascii, inDecimal}
 use Rattle.listing.specs.Lines.{headLine}
 use Rattle.listing.proofs.Answers.{refused-12, put-first, handed}
 use Rattle.listing.proofs.Counted.{told-slots, told-refused}
@@ -60,7 +60,7 @@ returns c =
     let counted = put .before .before .before .before in
     let start = counted .before .before .before .before .before in
     let told = told-slots (start .args .sheet .now) _ (counted .counted .given .0 .0) (counted .before .before .count-slots .ensures) (counted .counted .given .1) in
-    let text = ap (λ (n : ℕ). ascii "sheet " ++ decimal n ++ ascii "\n") (told .1) in
+    let text = ap (λ (n : ℕ). ascii "sheet " ++ inDecimal n ++ ascii "\n") (told .1) in
     handed _ _ _ _ _ _ (told .0) (put-first _ _ _ _ _ (omega (arith, put .put-count .ensures .within)) (put .put-count .ensures) ∙ text) (over .hand-over .ensures)
 
 returns-2 : tie.Need-returns-2

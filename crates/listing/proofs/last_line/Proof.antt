@@ -7,7 +7,7 @@ use Prim.Native.Nat.{ℕ}
 use native.Mathlib.Omega.{arith}
 use lib.Seq.{length-take-le}
 use Rattle.sheet.specs.Slots.{sizeAllowed, slots}
-use Rattle.listing.specs.Text.{ascii, decimal}
+use Rattle.listing.specs.Text.{ascii, inDecimal}
 use Rattle.listing.specs.Lines.{countLine}
 use Rattle.listing.proofs.Answers.{refused-12, put-first, handed}
 use Rattle.listing.proofs.Counted.{told-slots, told-refused}
@@ -69,7 +69,7 @@ returns c =
     let put = over .before .before .before .before in
     let records = put .before .before .before in
     let counted = records .before .before in
-    let text = ap (λ (n : ℕ). ascii "records " ++ decimal n ++ ascii "\n") (records .count-records .ensures) in
+    let text = ap (λ (n : ℕ). ascii "records " ++ inDecimal n ++ ascii "\n") (records .count-records .ensures) in
     handed _ _ _ _ _ _ (told counted .0) (put-first _ _ _ _ _ (omega (arith, put .put-count .ensures .within)) (put .put-count .ensures) ∙ text) (over .hand-over .ensures)
 
 returns-2 : tie.Need-returns-2

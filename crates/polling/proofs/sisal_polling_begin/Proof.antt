@@ -43,7 +43,7 @@ use Rattle.polling.specs.declared.Begun.{Begun}
 use Rattle.board.specs.Rows.{boardOf}
 use Rattle.board.specs.inside.ByValue.{filled}
 use Rattle.polling.specs.Calls.{BeginsPolling}
-use Rattle.polling.specs.inside.Boards.{Holds, BeginsOn}
+use Rattle.polling.specs.inside.Boards.{HoldsBoard, BeginsOn}
 use Rattle.board.proofs.LentRows.{length-counted}
 use Rattle.lending.proofs.Thin.{shared-rows, lent-as, slice-val}
 use Rattle.lending.proofs.Loading.{Thirty, thirty, mach, tells, Load, load-says, Own, to-load, goes-load}
@@ -108,7 +108,7 @@ module _ {M : Type 1} (𝓤 : URA M) (H : Heap 𝓤) (A : Atoms 𝓤) (W : Given
   abbrev to-core : List Row → Core 𝓤 H A mem run .Ghost
   to-core xs = ((tt, tt, tt, (xs, (length ys, (a, tt))), (mach xs ∷ [], (vint w64 (length ys) ∷ [], (vint w32 a ∷ [], tt)))), tt)
 
-  goes-core : (xs : List Row) → Holds xs (length ys) → Is Thirty xs (mach xs ∷ []) → ent 𝓤 (emp 𝓤) (Core 𝓤 H A mem run .pre (to-core xs))
+  goes-core : (xs : List Row) → HoldsBoard xs (length ys) → Is Thirty xs (mach xs ∷ []) → ent 𝓤 (emp 𝓤) (Core 𝓤 H A mem run .pre (to-core xs))
   goes-core xs holds is =
       qed W [] ∵ says ! holds $ nothing ! $ nothing ! $ owned ! u32 (Is u32) (uint-makes 𝓤 H A W w32) a _ (refl, a-fits) $ fjoin ! $ owned ! usize (Is usize) (uint-makes 𝓤 H A W w64) (length ys) _ (refl, gn .0) $ fjoin ! $
       owned ! Thirty (Is Thirty) (array-makes 𝓤 H A W T.the-row (LL.makes T.the-type T′.the-plain 𝓤 H A) 30) xs _ is $ fjoin ! $ move ! (1 ∷ 0 ∷ []) $ done !

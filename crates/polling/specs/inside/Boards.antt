@@ -4,8 +4,8 @@ use mathlib.Core.List.{List}
 use Prim.Native.Nat.{ℕ}
 use lib.ListN.{length}
 use Rattle.board.specs.declared.Row.{Row}
-use Rattle.board.specs.Order.{inOrder}
-use Rattle.board.specs.inside.ByValue.{counted, filled}
+use Rattle.board.specs.Order.{ifInOrder}
+use Rattle.board.specs.inside.ByValue.{rowsThatCount, filled}
 use Rattle.lines.specs.SoFar.{atRest}
 use Rattle.round.specs.declared.Polled.{Polled}
 use Rattle.polling.specs.declared.Begun.{Begun}
@@ -17,12 +17,12 @@ begunBy replies count number =
     begun (record { round = record { replies = replies; count = count }; lines = atRest; passed = 0; at = 0; tried = 0; listening = 0 }) number
 
 -- The rows are those of some board so long, of which as many count, and free ones behind them.
-pub record Holds (held : List Row) (len : ℕ) : Type 0 where
+pub record HoldsBoard (held : List Row) (len : ℕ) : Type 0 where
   pub board : List Row
-  pub count : length board ≡ counted len
+  pub count : length board ≡ rowsThatCount len
   pub is : held ≡ filled board
 
 -- It is begun so from every such board.
 pub record BeginsOn (held : List Row) (len minute : ℕ) (answer : Begun) : Type 0 where
-  pub on : (board : List Row) → length board ≡ counted len → held ≡ filled board
-      → answer ≡ inOrder board (begun (beginning minute board) 0) (begun nothingBegun 38)
+  pub on : (board : List Row) → length board ≡ rowsThatCount len → held ≡ filled board
+      → answer ≡ ifInOrder board (begun (beginning minute board) 0) (begun nothingBegun 38)

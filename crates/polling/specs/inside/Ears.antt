@@ -9,7 +9,7 @@ use Rattle.frame.specs.Line.{firstBytes, mark}
 use Rattle.lines.specs.declared.SoFar.{SoFar}
 use Rattle.lines.specs.declared.LinesTold.{LinesTold}
 use Rattle.lines.specs.SoFar.{atRest, isRest}
-use Rattle.lines.specs.Hearing.{Told, nothing, numberTold, countTold, bytesTold}
+use Rattle.lines.specs.Hearing.{MessageTold, nothing, numberTold, countTold, bytesTold}
 use Rattle.lines.specs.inside.Safe.{Safe}
 use Rattle.round.specs.declared.Polled.{Polled}
 use Rattle.polling.specs.declared.Pace.{Pace}
@@ -33,7 +33,7 @@ pub record Ready (s : SoFar) : Type 0 where
 abbrev pub limitOf : Pace → SoFar → ℕ
 limitOf p s = pick (isRest s) (p .wait) (p .longest)
 
-abbrev pub endOf : SoFar → Told
+abbrev pub endOf : SoFar → MessageTold
 endOf s = pick (isRest s) nothing (givenUp s)
 
 -- As many samples as come before the limit or reach it, and at least one; and as many of those that there are.

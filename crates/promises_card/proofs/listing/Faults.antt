@@ -4,13 +4,13 @@ use mathlib.Core.List.{List, _++_}
 use Prim.Native.Nat.{ℕ}
 use Rattle.frame.specs.declared.Reply.{Reply}
 use Rattle.sheet.specs.Record.{Entry}
-use Rattle.listing.specs.Text.{ascii, decimal}
+use Rattle.listing.specs.Text.{ascii, inDecimal}
 use Rattle.listing.specs.Lines.{replyText, recordText}
 use Rattle.promises_card.specs.listing.Faults.{ListingFaults}
 use Rattle.promises_frame.proofs.Unreadable.{unreadable-digit}
 
 abbrev by : Entry → Reply → List ℕ
-by e got = decimal (e .minute) ++ ascii " " ++ decimal (e .address) ++ ascii " " ++ replyText got
+by e got = inDecimal (e .minute) ++ ascii " " ++ inDecimal (e .address) ++ ascii " " ++ replyText got
 
 pub listing-faults : ListingFaults
 unfolding recordText

@@ -6,8 +6,8 @@ use Prim.Native.Nat.{ℕ, zero, suc, _+_, _<_}
 use native.Mathlib.Omega.{arith}
 use lib.ListN.{length, length-append}
 use Rattle.sheet.specs.Slots.{Slot, blank, spoiled, foreign, holds, sizeAllowed, slots, slotAt, slotOf}
-use Rattle.listing.specs.Text.{ascii, decimal}
-use Rattle.listing.specs.Lines.{headLine, slotLine, lineOf, linesUpTo, lastLine, listingOf, recordText}
+use Rattle.listing.specs.Text.{ascii, inDecimal}
+use Rattle.listing.specs.Lines.{headLine, slotLine, listedLine, linesUpTo, lastLine, listingOf, recordText}
 use Rattle.promises_card.specs.listing.InOrder.{ListingInOrder, joined}
 use Rattle.promises_card.proofs.listing.Written.{wrote}
 
@@ -34,11 +34,11 @@ ended t b u e =
     let none : length (t ++ b ∷ u) ≡ 0 = ap length e in
     omega arith
 
-some-line : (k : ℕ) (t : Slot) → (t ≡ blank → ⊥) → lineOf k t ≡ [] → ⊥
+some-line : (k : ℕ) (t : Slot) → (t ≡ blank → ⊥) → listedLine k t ≡ [] → ⊥
 some-line k blank used e = used refl
-some-line k spoiled used e = ended (decimal k) _ _ e
-some-line k foreign used e = ended (decimal k) _ _ e
-some-line k (holds r) used e = ended (decimal k ++ ascii " " ++ recordText r) _ _ e
+some-line k spoiled used e = ended (inDecimal k) _ _ e
+some-line k foreign used e = ended (inDecimal k) _ _ e
+some-line k (holds r) used e = ended (inDecimal k ++ ascii " " ++ recordText r) _ _ e
 
 pub listing-in-order : ListingInOrder
 listing-in-order =
@@ -49,7 +49,7 @@ listing-in-order =
           let middle = lines s line (slots s) each in
           let end = wrote _ _ (lastLine s) last t in
           wrote _ _ (listingOf s) listing w ∙ listing-is s size ∙ (λ i. sym first i ++ sym middle i ++ sym end i);
-      blank-has-none = λ s line k w e. wrote _ _ (slotLine s k) line w ∙ ap (lineOf k) e;
+      blank-has-none = λ s line k w e. wrote _ _ (slotLine s k) line w ∙ ap (listedLine k) e;
       others-have-one = λ s line k w used e. some-line k (slotOf (slotAt s k)) used (sym (wrote _ _ (slotLine s k) line w) ∙ e);
       bad-size = λ s listing size w. wrote _ _ (listingOf s) listing w ∙ bad-is s size;
     }

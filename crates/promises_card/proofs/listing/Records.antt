@@ -6,14 +6,14 @@ use native.Mathlib.Omega.{arith}
 use lib.ListN.{length}
 use Rattle.sheet.proofs.FewRecords.{few-records}
 use Rattle.sheet.specs.Slots.{slots, listOf}
-use Rattle.listing.specs.Text.{ascii, decimal}
+use Rattle.listing.specs.Text.{ascii, inDecimal}
 use Rattle.listing.specs.Lines.{countLine, lastLine}
 use Rattle.listing.proofs.Seen.{size-small}
 use Rattle.promises_card.specs.listing.Records.{ListingRecords}
 use Rattle.promises_card.proofs.listing.Written.{wrote, was-there}
 use Rattle.promises_card.proofs.listing.Decimals.{listing-decimals}
 
-last-is : (s : List ℕ) → lastLine s ≡ ascii "records " ++ decimal (length (listOf s)) ++ ascii "\n"
+last-is : (s : List ℕ) → lastLine s ≡ ascii "records " ++ inDecimal (length (listOf s)) ++ ascii "\n"
 unfolding countLine
 last-is s = refl
 
@@ -22,5 +22,5 @@ listing-records =
     record {
       counted = λ s last w.
           let few : length (listOf s) < 10 ^ 10 = omega (arith, few-records s (slots s), size-small s (was-there _ _ (lastLine s) last w)) in
-          record { digits = decimal (length (listOf s)); text = wrote _ _ (lastLine s) last w ∙ last-is s; number = listing-decimals .number (length (listOf s)) few };
+          record { digits = inDecimal (length (listOf s)); text = wrote _ _ (lastLine s) last w ∙ last-is s; number = listing-decimals .number (length (listOf s)) few };
     }

@@ -20,7 +20,7 @@ use Rattle.frame.specs.Reply.{replyTests, replyFault, refusedBy, replyOf, readi
 use Rattle.frame.proofs.Tables.{pick-case}
 use Rattle.frame.proofs.EachMode.{small-levels}
 use Rattle.frame.proofs.Verdict.{place-small}
-use Rattle.listing.specs.Text.{ascii, decimal, digitsUpTo}
+use Rattle.listing.specs.Text.{ascii, inDecimal, digitsUpTo}
 use Rattle.listing.specs.Lines.{temperatureText, alarmText, readingText, replyText}
 use Rattle.listing.proofs.Numbers.{few-digits}
 use Rattle.promises_frame.proofs.Temperatures.{magnitude-signed}
@@ -73,7 +73,7 @@ degrees-few : (plus : Bool) (m : ℕ) → m < 100000 → length (temperatureText
 degrees-few plus m small =
     let d = signed plus m in
     let sign : length (pick (isPlus d) [] (ascii "-")) ≤ 1 = pick-case (λ (t : List ℕ). length t ≤ 1) (isPlus d) (omega arith) (omega arith) in
-    let digits : length (decimal (magnitude d)) ≤ 5 = rw (magnitude-signed plus m) (few-digits 4 m small) in
+    let digits : length (inDecimal (magnitude d)) ≤ 5 = rw (magnitude-signed plus m) (few-digits 4 m small) in
     simp length-append (omega arith)
 
 abbrev Short : Heat → Type 0

@@ -17,7 +17,7 @@ use Rattle.sheet.specs.Record.{Entry, isRecord, fieldsOf}
 use Rattle.sheet.specs.Slots.{Slot, sizeAllowed, slots, slotAt, slotOf, listOf}
 use Rattle.sheet.proofs.Numbers.{AreBytes, bytes-take, bytes-drop, number-lt}
 use Rattle.listing.specs.Text.{ascii}
-use Rattle.listing.specs.Lines.{headLine, recordText, lineOf, slotLine, linesUpTo, countLine, lastLine, listingOf}
+use Rattle.listing.specs.Lines.{headLine, recordText, listedLine, slotLine, linesUpTo, countLine, lastLine, listingOf}
 use Rattle.listing.specs.Calls.{Writes, writeFault, roomFor}
 use Rattle.listing.proofs.Numbers.{few-digits}
 use Rattle.listing.proofs.Seen.{size-small}
@@ -41,7 +41,7 @@ fields-few x bytes =
 
 -- a slot's line
 abbrev Fits40 : ℕ → Slot → Type 0
-Fits40 k t = length (lineOf k t) ≤ 40
+Fits40 k t = length (listedLine k t) ≤ 40
 
 line-few : (k : ℕ) (x : List ℕ) → k ≤ 2048 → AreBytes x → Fits40 k (slotOf x)
 unfolding slotOf

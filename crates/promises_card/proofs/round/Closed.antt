@@ -15,12 +15,12 @@ use Rattle.sheet.specs.Save.{saveFault, savedNumber, storesMade}
 use Rattle.summary.specs.declared.Summary.{Summary}
 use Rattle.summary.specs.declared.Kept.{Kept}
 use Rattle.summary.specs.Updated.{withRecord}
-use Rattle.summary.specs.Calls.{keptOf, keepFault, closes}
-use Rattle.promises_card.specs.sheet.History.{Save, Takes, History}
+use Rattle.summary.specs.Calls.{keptOf, keepFault, closesRecord}
+use Rattle.promises_card.specs.sheet.History.{Save, TakesSheet, History}
 use Rattle.promises_card.specs.sheet.History as history
 use Rattle.promises_card.specs.summary.Chain.{Step, Goes, Chain}
 use Rattle.promises_card.specs.summary.Chain as chain
-use Rattle.promises_card.specs.round.Tries.{Try, trySave, tryStep, storesOf, numberOf, Rules, none-yet, next}
+use Rattle.promises_card.specs.round.Tries.{Try, trySave, tryStep, storesInTries, numberOf, Rules, none-yet, next}
 
 -- what a save can have answered: so many stores as it was given or has, or a refusal
 pub data Real (x : Try) : Type 0 where
@@ -31,7 +31,7 @@ pub data AllReal : List Try → Type 0 where
   none-real : AllReal []
   one-real : {h : List Try} {x : Try} → Real x → AllReal h → AllReal (x ∷ h)
 
-save-real : (s : List ℕ) (x : Save) (t : List ℕ) → Takes s x t → Real (trySave x)
+save-real : (s : List ℕ) (x : Save) (t : List ℕ) → TakesSheet s x t → Real (trySave x)
 save-real s x t m = go (eqb (saveFault s (x .entry)) 0) refl (m .answers)
   where
     go : (b : Bool) → eqb (saveFault s (x .entry)) 0 ≡ b
@@ -48,7 +48,7 @@ step-real s page x t m = go (eqb (keepFault s page (x .entry)) 0) refl (m .answe
   where
     go : (b : Bool) → eqb (keepFault s page (x .entry)) 0 ≡ b
         → x .answer
-        ≡ pick b (keptOf (pick (closes (x .entry) (x .allowance)) (withRecord (x .entry) page) page) (min (x .allowance) (lengthOf (x .entry) + 2)) 0)
+        ≡ pick b (keptOf (pick (closesRecord (x .entry) (x .allowance)) (withRecord (x .entry) page) page) (min (x .allowance) (lengthOf (x .entry) + 2)) 0)
         (keptOf page 0 (keepFault s page (x .entry)))
         → Real (tryStep x)
     go true h a = made (ap (λ (k : Kept). k .number) a) (ap (λ (k : Kept). k .count) a)
@@ -64,8 +64,8 @@ pub data AllClosed : List Try → Type 0 where
   none-closed : AllClosed []
   one-closed : {h : List Try} {x : Try} → x .stores ≡ lengthOf (x .entry) + 2 → x .number ≡ 0 → AllClosed h → AllClosed (x ∷ h)
 
-pub closed-before : (allowance : ℕ) (h : List Try) → Rules allowance h → AllReal h → numberOf h ≡ 0 → storesOf h < allowance → AllClosed h
-unfolding storesOf
+pub closed-before : (allowance : ℕ) (h : List Try) → Rules allowance h → AllReal h → numberOf h ≡ 0 → storesInTries h < allowance → AllClosed h
+unfolding storesInTries
 closed-before allowance [] none-yet none-real n l = none-closed
 closed-before allowance (x ∷ h) (next y rules before left given) (one-real (made z s) real) n l =
     let all : x .stores ≡ lengthOf (x .entry) + 2 = omega (arith, given, s, l) in

@@ -14,12 +14,12 @@ use Rattle.sheet.specs.Record.{Entry, lengthOf}
 use Rattle.sheet.specs.Slots.{next}
 use Rattle.sheet.specs.Stores.{Store, made, stores, after}
 use Rattle.sheet.proofs.Storing.{made-append, stores-length}
-use Rattle.summary.specs.Calls.{closes}
+use Rattle.summary.specs.Calls.{closesRecord}
 use Rattle.round.specs.declared.Round.{Round}
 use Rattle.round.specs.declared.Rounded.{Rounded}
 use Rattle.round.specs.declared.RoundedPage.{RoundedPage}
 use Rattle.round.specs.Replies.{entriesOf}
-use Rattle.round.specs.Saving.{Page, none, kept, replyFault, pageWith, Standing, standing, stoppedBy, savedAll}
+use Rattle.round.specs.Saving.{Page, none, kept, saveRefusal, pageWith, Standing, standing, stoppedBy, savedAll}
 use Rattle.round.specs.Calls.{roundOf}
 use Rattle.round.proofs.Turns.{next-tried, refused-stays, used-stays, too-many, not-many}
 use Rattle.round.proofs.Trying.{tried-by}
@@ -66,9 +66,9 @@ module _ (may : ℕ) where
     abbrev left : ℕ
     left = may - n
 
-    opened : (b : Bool) → eqb (replyFault s page e) 0 ≡ b → storesFrom s page (e ∷ es) ≡ pick b (own ++ others) []
+    opened : (b : Bool) → eqb (saveRefusal s page e) 0 ≡ b → storesFrom s page (e ∷ es) ≡ pick b (own ++ others) []
     opened b h =
-        let by : storesFrom s page (e ∷ es) ≡ pick (eqb (replyFault s page e) 0) (own ++ others) [] = unfold storesFrom in refl in
+        let by : storesFrom s page (e ∷ es) ≡ pick (eqb (saveRefusal s page e) 0) (own ++ others) [] = unfold storesFrom in refl in
         by ∙ ap (λ (t : Bool). pick t (own ++ others) []) h
 
     abbrev done : Type 0
@@ -81,27 +81,27 @@ module _ (may : ℕ) where
         unmoved s n x _ _ (used-stays may x (e ∷ es) u) refl refl (ap (λ (k : ℕ). take k (storesFrom s page (e ∷ es))) zero)
 
     -- the reply is refused
-    refused : n < may → eqb (replyFault s page e) 0 ≡ false → done
+    refused : n < may → eqb (saveRefusal s page e) 0 ≡ false → done
     refused u h =
-        let stopped = tried-by may x e (replyFault s page e) false refl h in
-        let stays : savedAll may x (e ∷ es) ≡ stoppedBy (replyFault s page e) x =
+        let stopped = tried-by may x e (saveRefusal s page e) false refl h in
+        let stays : savedAll may x (e ∷ es) ≡ stoppedBy (saveRefusal s page e) x =
         next-tried may x e es refl u ∙ ap (λ (y : Standing). savedAll may y es) stopped
-        ∙ refused-stays may (stoppedBy (replyFault s page e) x) es (eqb-false (replyFault s page e) 0 h) in
-        unmoved s n (stoppedBy (replyFault s page e) x) _ _ stays refl refl (ap (take left) (opened false h) ∙ take-nil left)
+        ∙ refused-stays may (stoppedBy (saveRefusal s page e) x) es (eqb-false (saveRefusal s page e) 0 h) in
+        unmoved s n (stoppedBy (saveRefusal s page e) x) _ _ stays refl refl (ap (take left) (opened false h) ∙ take-nil left)
 
     many : length own ≡ lengthOf e + 2
     many = stores-length (32 * next s) e
 
-    turn : n < may → eqb (replyFault s page e) 0 ≡ true → (c : Bool) → closes e left ≡ c
+    turn : n < may → eqb (saveRefusal s page e) 0 ≡ true → (c : Bool) → closesRecord e left ≡ c
         → savedAll may x (e ∷ es)
         ≡ savedAll may (standing (made s (take left own)) (pick c (pageWith e page) page) (closed + pick c 1 0) (n + min left (lengthOf e + 2)) 0) es
     turn u h c q =
         let first : after s e left ≡ made s (take left own) = unfold after in refl in
-        next-tried may x e es refl u ∙ ap (λ (y : Standing). savedAll may y es) (tried-by may x e (replyFault s page e) true refl h)
+        next-tried may x e es refl u ∙ ap (λ (y : Standing). savedAll may y es) (tried-by may x e (saveRefusal s page e) true refl h)
         ∙ (λ i. savedAll may (standing (first i) (pick (q i) (pageWith e page) page) (closed + pick (q i) 1 0) (n + min left (lengthOf e + 2)) 0) es)
 
     -- it makes all its stores
-    whole : n < may → eqb (replyFault s page e) 0 ≡ true → closes e left ≡ true → done
+    whole : n < may → eqb (saveRefusal s page e) 0 ≡ true → closesRecord e left ≡ true → done
     whole u h q =
         let covers : lengthOf e + 2 ≤ may - n = leb-true (lengthOf e + 2) (may - n) q in
         let all : take left own ≡ own = take-all left own (omega (arith, many)) in
@@ -123,7 +123,7 @@ module _ (may : ℕ) where
         number covers = omega (arith, many, covers)
 
     -- it makes the first of them, and uses the allowance up
-    part : n < may → eqb (replyFault s page e) 0 ≡ true → closes e left ≡ false → done
+    part : n < may → eqb (saveRefusal s page e) 0 ≡ true → closesRecord e left ≡ false → done
     part u h q =
         let short : may - n < lengthOf e + 2 = leb-false (lengthOf e + 2) (may - n) q in
         let sum : n + min left (lengthOf e + 2) ≡ may = omega arith in
@@ -139,16 +139,16 @@ module _ (may : ℕ) where
     one-more : done
     one-more = by-left (ltb n may) refl
       where
-        by-closes : n < may → eqb (replyFault s page e) 0 ≡ true → (c : Bool) → closes e left ≡ c → done
+        by-closes : n < may → eqb (saveRefusal s page e) 0 ≡ true → (c : Bool) → closesRecord e left ≡ c → done
         by-closes u h true q = whole u h q
         by-closes u h false q = part u h q
 
-        by-fault : n < may → (b : Bool) → eqb (replyFault s page e) 0 ≡ b → done
-        by-fault u true h = by-closes u h (closes e left) refl
+        by-fault : n < may → (b : Bool) → eqb (saveRefusal s page e) 0 ≡ b → done
+        by-fault u true h = by-closes u h (closesRecord e left) refl
         by-fault u false h = refused u h
 
         by-left : (b : Bool) → ltb n may ≡ b → done
-        by-left true h = by-fault (ltb-true n may h) (eqb (replyFault s page e) 0) refl
+        by-left true h = by-fault (ltb-true n may h) (eqb (saveRefusal s page e) 0) refl
         by-left false h = used (ltb-false n may h)
 
   all-of : (es : List Entry) → Holds es

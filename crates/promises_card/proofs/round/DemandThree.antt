@@ -23,9 +23,9 @@ use Rattle.round.specs.declared.Rounded.{Rounded}
 use Rattle.round.specs.Replies.{entriesOf}
 use Rattle.round.specs.Saving.{none, Standing}
 use Rattle.round.proofs.Turns.{too-many}
-use Rattle.promises_card.specs.sheet.History.{Save, Takes, History, blankSheet, closedIn, brokenIn}
+use Rattle.promises_card.specs.sheet.History.{Save, TakesSheet, History, blankSheet, closedIn, brokenIn}
 use Rattle.promises_card.specs.sheet.History as history
-use Rattle.promises_card.specs.round.Tries.{trySave, storesOf, Rules, WentSo}
+use Rattle.promises_card.specs.round.Tries.{trySave, storesInTries, Rules, WentSo}
 use Rattle.promises_card.specs.round.Tries as tries
 use Rattle.promises_card.specs.round.OneByOne.{BySaves}
 use Rattle.promises_card.specs.round.Histories.{Called, Rounds, none-called, called, Flattened, nothing, tried, not-tried}
@@ -81,7 +81,7 @@ checks-not-13 e = unfold firstOf in go (ltb 15 (e .settings)) (ltb 999 (e .addre
     go false false true q = omega arith
     go false false false q = omega arith
 
-good-13 : (s : List ℕ) (x : Save) (t : List ℕ) → Takes s x t → savedNumber (x .answer) ≡ 13 → passes (x .entry) ≡ true
+good-13 : (s : List ℕ) (x : Save) (t : List ℕ) → TakesSheet s x t → savedNumber (x .answer) ≡ 13 → passes (x .entry) ≡ true
 good-13 s x t m n = by (sizeAllowed s) (passes (x .entry)) (leb (slots s) (next s)) refl (sym (save-fault s (x .entry)) ∙ fault (eqb (saveFault s (x .entry)) 0) (m .answers))
   where
     fault : (b : Bool) → x .answer ≡ pick b (Stores (min (x .allowance) (lengthOf (x .entry) + 2))) (Refused (saveFault s (x .entry))) → saveFault s (x .entry) ≡ 13
@@ -103,7 +103,7 @@ module _ (n : ℕ) (few : n ≤ 2048) (h : List Save) (s : List ℕ) (before-it 
       full : passes (x .entry) ≡ true → (savedNumber (x .answer) ≡ 13) ↔ (closedIn (g ++ h) + brokenIn (g ++ h) ≡ n)
       full = list-and-full .full n (g ++ h) u (record { allowed = few; history = then before-it made }) x t m
 
-      left : Rules allowance (map trySave (x ∷ g)) → storesOf (map trySave g) < allowance
+      left : Rules allowance (map trySave (x ∷ g)) → storesInTries (map trySave g) < allowance
       left (tries.next z rules before l given) = l
 
       there : number ≡ 13 → StoppedFull n h allowance (x ∷ g)

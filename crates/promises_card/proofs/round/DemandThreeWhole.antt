@@ -28,15 +28,15 @@ use Rattle.round.specs.declared.Rounded.{Rounded}
 use Rattle.round.specs.declared.RoundedPage.{RoundedPage}
 use Rattle.round.specs.Replies.{entriesOf}
 use Rattle.round.specs.Calls.{SavesRoundWith}
-use Rattle.promises_card.specs.sheet.History.{Save, Takes, History, SheetAfter, blankSheet, isClosed, countOf, closedIn, brokenIn, recordsOf}
+use Rattle.promises_card.specs.sheet.History.{Save, TakesSheet, History, SheetAfter, blankSheet, isClosed, countOf, closedIn, brokenIn, recordsOf}
 use Rattle.promises_card.specs.sheet.History as history
 use Rattle.promises_card.specs.sheet.ListAndFull.{covered, Begins}
-use Rattle.promises_card.specs.summary.Chain.{Step, Goes, summaryRefused, savedAs, asSave, tried}
+use Rattle.promises_card.specs.summary.Chain.{Step, Goes, summaryRefused, savedAs, asSave, savesTried}
 use Rattle.promises_card.specs.summary.Chain as chain
 use Rattle.promises_card.specs.round.Tries.{Try, trySave, tryStep, WentSo}
 use Rattle.promises_card.specs.round.Told.{answersTold}
 use Rattle.promises_card.specs.round.Histories.{Called, CalledWith, none-called-with, called-with}
-use Rattle.promises_card.specs.round.AnyCalls.{Call, one, one-with, round, round-with, Does, Calls, none-called, called, storesIn, storesTold, closedBy, answersBy, slotsTaken, closedAll, takenAll, Keeps, begun, kept-one, kept-round, afresh}
+use Rattle.promises_card.specs.round.AnyCalls.{Call, one, one-with, round, round-with, Does, Calls, none-called, called, storesByCall, storesToldBy, closedRecords, answersBy, slotsTaken, closedAll, takenAll, Keeps, begun, kept-one, kept-round, afresh}
 use Rattle.promises_card.specs.round.DemandThreeWhole.{NoSlotLeft, DemandThreeWhole}
 use Rattle.promises_card.proofs.sheet.ListAndFull.{records, long, listed-closed, long-so, slots-of, sized, used, list-and-full}
 use Rattle.promises_card.proofs.sheet.OneSave.{one-save}
@@ -57,14 +57,14 @@ use Rattle.promises_card.proofs.round.Cut.{round-cut}
 record Came (s : List ℕ) (c : Call) (t : List ℕ) : Type 0 where
   saves : List Save
   made-them : History s saves t
-  closed : recordsOf saves ≡ closedBy c
+  closed : recordsOf saves ≡ closedRecords c
   taken : closedIn saves + brokenIn saves ≡ slotsTaken (answersBy c)
 
 one-slot : (k n : ℕ) → slotsTaken ((k, n) ∷ []) ≡ 0 + pick (ltb 0 k) 1 0
 one-slot k n = unfold slotsTaken in omega arith
 
 -- a single save
-came-one : (s : List ℕ) (x : Save) (t : List ℕ) → Takes s x t → Came s (one x) t
+came-one : (s : List ℕ) (x : Save) (t : List ℕ) → TakesSheet s x t → Came s (one x) t
 came-one s x t m =
     let hist : History s (x ∷ []) t = history.saved x history.begun m in
     let taken-is : takenIn (trySave x ∷ []) ≡ 0 + pick (ltb 0 (storesMade (x .answer))) 1 0 = unfold takenIn in refl in
@@ -83,10 +83,10 @@ came-one-with s page x t m =
     let records-are : recordsIn (tryStep x ∷ []) ≡ pick (chain.isClosed x) (x .entry ∷ []) [] = unfold recordsIn in refl in
     let taken-is : takenIn (tryStep x ∷ []) ≡ 0 + pick (ltb 0 (x .answer .count)) 1 0 = unfold takenIn in refl in
     record {
-      saves = tried (x ∷ []);
+      saves = savesTried (x ∷ []);
       made-them = hist;
-      closed = saves-records (tried (x ∷ [])) ∙ same .records ∙ records-are;
-      taken = saves-taken (tried (x ∷ [])) (history-real hist) ∙ same .taken ∙ taken-is ∙ sym (one-slot (x .answer .count) (x .answer .number));
+      closed = saves-records (savesTried (x ∷ [])) ∙ same .records ∙ records-are;
+      taken = saves-taken (savesTried (x ∷ [])) (history-real hist) ∙ same .taken ∙ taken-is ∙ sym (one-slot (x .answer .count) (x .answer .number));
     }
 
 -- a round by its tries
@@ -135,11 +135,11 @@ came-round-with s page c t m = go (leb (c .polled .count) 30) refl
         let hist = demand-three-stands .history s page (by .steps) t (c .answer .summary) (by .chain) in
         let same = same-on-sheet (by .steps) real in
         record {
-          saves = tried (by .steps);
+          saves = savesTried (by .steps);
           made-them = hist;
-          closed = saves-records (tried (by .steps)) ∙ same .records
+          closed = saves-records (savesTried (by .steps)) ∙ same .records
               ∙ first-closed (c .allowance) (entriesOf (c .polled)) (map tryStep (by .steps)) (c .answer .closed) (c .answer .stores) (c .answer .number) (by .went) real;
-          taken = saves-taken (tried (by .steps)) (history-real hist) ∙ same .taken
+          taken = saves-taken (savesTried (by .steps)) (history-real hist) ∙ same .taken
               ∙ slots-told (c .allowance) (entriesOf (c .polled)) (map tryStep (by .steps)) (c .answer .closed) (c .answer .stores) (c .answer .number) (by .went) real;
         }
     go false q =
@@ -192,7 +192,7 @@ sized-long s sized =
     let most : length s ≤ 65536 = leb-true (length s) 65536 (both-right (eqb (length s % 32) 0) (leb (length s) 65536) sized) in
     (omega (arith, whole, most), omega (arith, whole))
 
-list-of : (s : List ℕ) → sizeAllowed s ≡ true → (c : Call) (t : List ℕ) → Does s c t → listOf t ≡ listOf s ++ closedBy c
+list-of : (s : List ℕ) → sizeAllowed s ≡ true → (c : Call) (t : List ℕ) → Does s c t → listOf t ≡ listOf s ++ closedRecords c
 list-of s sized c t m =
     let is = came s c t m in
     let size = sized-long s sized in
@@ -215,12 +215,12 @@ module _ (n : ℕ) (few : n ≤ 2048) (cs : List Call) (s : List ℕ) (calls : C
   whole-of : listOf s ≡ closedAll cs
   whole-of = list-and-full .whole n (all .saves) s after-all ∙ all .closed
 
-  full-of : (x : Save) (t : List ℕ) → Takes s x t → passes (x .entry) ≡ true → (savedNumber (x .answer) ≡ 13) ↔ (takenAll cs ≡ n)
+  full-of : (x : Save) (t : List ℕ) → TakesSheet s x t → passes (x .entry) ≡ true → (savedNumber (x .answer) ≡ 13) ↔ (takenAll cs ≡ n)
   full-of x t m good =
       let full = list-and-full .full n (all .saves) s after-all x t m good in
       (λ q. sym (all .taken) ∙ full .0 q, λ q. full .1 (all .taken ∙ q))
 
-  closes-of : (x : Save) (t : List ℕ) → Takes s x t → isClosed x ≡ (passes (x .entry) && ltb (takenAll cs) n && covered x)
+  closes-of : (x : Save) (t : List ℕ) → TakesSheet s x t → isClosed x ≡ (passes (x .entry) && ltb (takenAll cs) n && covered x)
   closes-of x t m =
       let long-is = long-so n few (all .saves) s (all .made-them) in
       sym (listed-closed s t x (sized n few (all .saves) s (all .made-them)) m)
@@ -260,7 +260,7 @@ module _ (n : ℕ) (few : n ≤ 2048) (cs : List Call) (s : List ℕ) (calls : C
   full-round-with page c t m small a b =
       let by = by-steps s page (c .polled) (c .allowance) (c .answer) t m small (c .dated) in
       let own = all-own (c .allowance) (by .steps) (by .went .rules) (chain-real (by .chain)) (λ q. a (by .went .number-is ∙ q)) (λ q. b (by .went .number-is ∙ q)) in
-      full-round (c .allowance) (entriesOf (c .polled)) (c .answer .closed) (c .answer .stores) (c .answer .number) (tried (by .steps)) t
+      full-round (c .allowance) (entriesOf (c .polled)) (c .answer .closed) (c .answer .stores) (c .answer .number) (savesTried (by .steps)) t
       (demand-three-stands .history s page (by .steps) t (c .answer .summary) (by .chain))
       (subst (λ (ts : List Try). WentSo (c .allowance) (entriesOf (c .polled)) ts (c .answer .closed) (c .answer .stores) (c .answer .number)) (sym own) (by .went))
 
@@ -274,7 +274,7 @@ module _ (s : List ℕ) (e : Entry) (may : ℕ) where
   many-by true = length-take may (stores (32 * next s) e) ∙ ap (min may) (stores-length (32 * next s) e)
   many-by false = refl
 
-count-of : (s : List ℕ) (c : Call) (t : List ℕ) → Does s c t → (t ≡ made s (storesIn s c)) × (storesTold c ≡ length (storesIn s c))
+count-of : (s : List ℕ) (c : Call) (t : List ℕ) → Does s c t → (t ≡ made s (storesByCall s c)) × (storesToldBy c ≡ length (storesByCall s c))
 count-of s (one x) t m =
     (m .leaves ∙ sym (made-by s (x .entry) (x .allowance) (eqb (saveFault s (x .entry)) 0)), one-save .count s (x .entry) (x .allowance) (x .answer) t m .number)
 count-of s (one-with page x) t m =
@@ -284,7 +284,7 @@ count-of s (one-with page x) t m =
     )
   where
     told : (b : Bool)
-        → pick b (keptOf (pick (kept-calls.closes (x .entry) (x .allowance)) (withRecord (x .entry) page) page) (min (x .allowance) (lengthOf (x .entry) + 2)) 0)
+        → pick b (keptOf (pick (kept-calls.closesRecord (x .entry) (x .allowance)) (withRecord (x .entry) page) page) (min (x .allowance) (lengthOf (x .entry) + 2)) 0)
         (keptOf page 0 (keepFault s page (x .entry))) .count
         ≡ pick b (min (x .allowance) (lengthOf (x .entry) + 2)) 0
     told true = refl
@@ -293,7 +293,7 @@ count-of s (round c) t m = round-cut .made-so s (c .polled) (c .allowance) (c .a
 count-of s (round-with page c) t m = round-cut .made-so-with s page (c .polled) (c .allowance) (c .answer) t m
 
 cut-of : (s : List ℕ) (page : Summary) (x : Step) (k : ℕ) → k ≤ x .allowance → (answer : Kept) (t : List ℕ) → SavesWith s page (x .entry) k answer t
-    → made s (take k (storesIn s (one-with page x))) ≡ t
+    → made s (take k (storesByCall s (one-with page x))) ≡ t
 cut-of s page x k l answer t m = go (eqb (keepFault s page (x .entry)) 0) (m .leaves)
   where
     go : (b : Bool) → t ≡ pick b (after s (x .entry) k) s → made s (take k (pick b (take (x .allowance) (stores (32 * next s) (x .entry))) [])) ≡ t

@@ -11,7 +11,7 @@ use lib.Seq.{drop-append-seam}
 use Rattle.frame.specs.Pick.{pick}
 use Rattle.sheet.specs.Record.{Entry, passes, lengthOf}
 use Rattle.promises_card.specs.sheet.History.{Save, isClosed, isBroken, countOf, closedIn, brokenIn}
-use Rattle.promises_card.specs.round.Tries.{Try, trySave, closedOf, storesOf, numberOf, repliesOf, Rules, next, WentSo}
+use Rattle.promises_card.specs.round.Tries.{Try, trySave, closedOf, storesInTries, numberOf, repliesOf, Rules, next, WentSo}
 use Rattle.promises_card.specs.round.DemandThree.{StoppedFull}
 use Rattle.promises_card.specs.round.DemandThreeWhole.{NoSlotLeft}
 use Rattle.promises_card.proofs.round.Closed.{Real, made, refused, AllReal, none-real, one-real, closed-before}
@@ -28,8 +28,8 @@ used-after g h = omega (arith, count-after isClosed g h, count-after isBroken g 
 more-closed : (x : Try) (h : List Try) → closedOf (x ∷ h) ≡ closedOf h + pick (closes x) 1 0
 more-closed x h = unfold closedOf in refl
 
-more-stores : (x : Try) (h : List Try) → storesOf (x ∷ h) ≡ storesOf h + x .stores
-more-stores x h = unfold storesOf in refl
+more-stores : (x : Try) (h : List Try) → storesInTries (x ∷ h) ≡ storesInTries h + x .stores
+more-stores x h = unfold storesInTries in refl
 
 more-replies : (x : Try) (h : List Try) → repliesOf (x ∷ h) ≡ repliesOf h ++ x .entry ∷ []
 more-replies x h = unfold repliesOf in refl
@@ -56,7 +56,7 @@ module _ (n taken : ℕ) (h : List Save) (allowance : ℕ) (es : List Entry) (cl
 
   -- tried: some that were closed, and one more
   module _ (x : Save) (g : List Save) (rules : Rules allowance (map trySave g)) (others : AllReal (map trySave g)) (before : numberOf (map trySave g) ≡ 0)
-      (left : storesOf (map trySave g) < allowance) (given : x .allowance ≡ allowance - storesOf (map trySave g))
+      (left : storesInTries (map trySave g) < allowance) (given : x .allowance ≡ allowance - storesInTries (map trySave g))
       (went : WentSo allowance es (map trySave (x ∷ g)) closed stores number) where
     abbrev y : Try
     y = trySave x
@@ -91,7 +91,7 @@ module _ (n taken : ℕ) (h : List Save) (allowance : ℕ) (es : List Entry) (cl
           let none : _≡_ {A = ℕ} (pick (closes y) 1 0) 0 = ap (λ (b : Bool). pick b 1 0) (idle-one y idle .0) in
           omega (arith, went .closed-are, more-closed y ts, none, ones-many)
 
-      stores-is : stores ≡ storesOf ts
+      stores-is : stores ≡ storesInTries ts
       stores-is = omega (arith, went .stores-are, more-stores y ts, idle)
 
       behind-is : drop closed es ≡ y .entry ∷ went .begins .0

@@ -21,12 +21,12 @@ use Rattle.sheet.specs.Save.{saveFault, savedNumber, storesMade}
 use Rattle.summary.specs.declared.Summary.{Summary}
 use Rattle.summary.specs.declared.Kept.{Kept}
 use Rattle.summary.specs.Updated.{withRecord}
-use Rattle.summary.specs.Calls.{keptOf, keepFault, closes}
+use Rattle.summary.specs.Calls.{keptOf, keepFault, closesRecord}
 use Rattle.round.specs.declared.Round.{Round}
 use Rattle.round.specs.declared.Rounded.{Rounded}
 use Rattle.round.specs.declared.RoundedPage.{RoundedPage}
 use Rattle.round.specs.Replies.{lentBy, entriesOf}
-use Rattle.round.specs.Saving.{Page, none, kept, replyFault, pageWith, Standing, standing, tried, savedAll}
+use Rattle.round.specs.Saving.{Page, none, kept, saveRefusal, pageWith, Standing, standing, tried, savedAll}
 use Rattle.round.specs.Calls.{roundOf, roundedOf, summaryIn, roundedPageOf, SavesRound, SavesRoundWith}
 use Rattle.round.proofs.Turns.{not-many}
 use Rattle.promises_card.specs.sheet.History.{Save, History}
@@ -71,12 +71,12 @@ saves-of allowance from h x p (one-more {h = g} {x = y} e m t n l) = more (saves
     more before =
         let f = saveFault (y .sheet) e in
         let k = min (allowance - y .stores) (lengthOf e + 2) in
-        let is : fault allowance y e ≡ f = ap (λ (q : Page). replyFault (y .sheet) q e) (before .page) in
+        let is : fault allowance y e ≡ f = ap (λ (q : Page). saveRefusal (y .sheet) q e) (before .page) in
         let save : Save = record { entry = e; minute-fits = m; allowance = allowance - y .stores; answer = answer f k } in
         let tryings : trySave save ≡ tryOf allowance y e =
         (λ i. record { entry = e; given = allowance - y .stores; stores = made-is f k i; number = number-is f k i })
         ∙ ap (λ (j : ℕ). record { entry = e; given = allowance - y .stores; stores = pick (eqb j 0) k 0; number = j }) (sym is) in
-        let pages : (b : Bool) → pick b (pick (closes e (allowance - y .stores)) none none) none ≡ none = none-picked (closes e (allowance - y .stores)) in
+        let pages : (b : Bool) → pick b (pick (closesRecord e (allowance - y .stores)) none none) none ≡ none = none-picked (closesRecord e (allowance - y .stores)) in
         record {
           saves = save ∷ before .saves;
           made = history.saved save (before .made)
@@ -86,7 +86,7 @@ saves-of allowance from h x p (one-more {h = g} {x = y} e m t n l) = more (saves
               });
           same = (λ i. tryings i ∷ before .same i);
           page = page-after allowance y e
-              ∙ ap (λ (q : Page). pick (eqb (fault allowance y e) 0) (pick (closes e (allowance - y .stores)) (pageWith e q) q) q) (before .page)
+              ∙ ap (λ (q : Page). pick (eqb (fault allowance y e) 0) (pick (closesRecord e (allowance - y .stores)) (pageWith e q) q) q) (before .page)
               ∙ pages (eqb (fault allowance y e) 0);
         }
       where
@@ -106,24 +106,24 @@ record AsSteps (from : Standing) (begin : Summary) (h : List Try) (x : Standing)
 -- the answer of a save that keeps a summary, by its refusal
 module _ (e : Entry) (page : Summary) (n k left : ℕ) where
   abbrev keeps : Kept
-  keeps = pick (eqb n 0) (keptOf (pick (closes e left) (withRecord e page) page) k 0) (keptOf page 0 n)
+  keeps = pick (eqb n 0) (keptOf (pick (closesRecord e left) (withRecord e page) page) k 0) (keptOf page 0 n)
 
   kept-count : keeps .count ≡ pick (eqb n 0) k 0
   kept-count = go (eqb n 0)
     where
-      go : (b : Bool) → pick b (keptOf (pick (closes e left) (withRecord e page) page) k 0) (keptOf page 0 n) .count ≡ pick b k 0
+      go : (b : Bool) → pick b (keptOf (pick (closesRecord e left) (withRecord e page) page) k 0) (keptOf page 0 n) .count ≡ pick b k 0
       go true = refl
       go false = refl
 
   kept-number : keeps .number ≡ n
   kept-number = go (eqb n 0) refl
     where
-      go : (b : Bool) → eqb n 0 ≡ b → pick b (keptOf (pick (closes e left) (withRecord e page) page) k 0) (keptOf page 0 n) .number ≡ n
+      go : (b : Bool) → eqb n 0 ≡ b → pick b (keptOf (pick (closesRecord e left) (withRecord e page) page) k 0) (keptOf page 0 n) .number ≡ n
       go true h = sym (eqb-true n 0 h)
       go false h = refl
 
-  kept-page : pick (eqb n 0) (pick (closes e left) (kept (withRecord e page)) (kept page)) (kept page) ≡ kept (keeps .summary)
-  kept-page = go (eqb n 0) (closes e left)
+  kept-page : pick (eqb n 0) (pick (closesRecord e left) (kept (withRecord e page)) (kept page)) (kept page) ≡ kept (keeps .summary)
+  kept-page = go (eqb n 0) (closesRecord e left)
     where
       go : (b c : Bool)
           → pick b (pick c (kept (withRecord e page)) (kept page)) (kept page)
@@ -142,7 +142,7 @@ steps-of allowance from begin h x p (one-more {h = g} {x = y} e m t n l) = more 
         let left = allowance - y .stores in
         let f = keepFault (y .sheet) (before .page) e in
         let k = min (allowance - y .stores) (lengthOf e + 2) in
-        let found : fault allowance y e ≡ f = ap (λ (q : Page). replyFault (y .sheet) q e) (before .is) in
+        let found : fault allowance y e ≡ f = ap (λ (q : Page). saveRefusal (y .sheet) q e) (before .is) in
         let step : Step = record { entry = e; minute-fits = m; allowance = allowance - y .stores; answer = keeps e (before .page) f k (allowance - y .stores) } in
         let tryings : tryStep step ≡ tryOf allowance y e =
         (λ i. record {
@@ -156,8 +156,8 @@ steps-of allowance from begin h x p (one-more {h = g} {x = y} e m t n l) = more 
           steps = step ∷ before .steps;
           page = step .answer .summary;
           is = page-after allowance y e
-              ∙ ap (λ (q : Page). pick (eqb (fault allowance y e) 0) (pick (closes e (allowance - y .stores)) (pageWith e q) q) q) (before .is)
-              ∙ ap (λ (j : ℕ). pick (eqb j 0) (pick (closes e (allowance - y .stores)) (kept (withRecord e (before .page))) (kept (before .page))) (kept (before .page))) found
+              ∙ ap (λ (q : Page). pick (eqb (fault allowance y e) 0) (pick (closesRecord e (allowance - y .stores)) (pageWith e q) q) q) (before .is)
+              ∙ ap (λ (j : ℕ). pick (eqb j 0) (pick (closesRecord e (allowance - y .stores)) (kept (withRecord e (before .page))) (kept (before .page))) (kept (before .page))) found
               ∙ kept-page e (before .page) f k (allowance - y .stores);
           made = chain.kept step (before .made)
               (record {

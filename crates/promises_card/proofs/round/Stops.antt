@@ -24,9 +24,9 @@ use Rattle.promises_card.specs.sheet.FirstFault.{saveTable, saveOrder}
 use Rattle.promises_card.specs.summary.Chain.{Step, Chain}
 use Rattle.promises_card.specs.summary.Chain as chain
 use Rattle.promises_card.specs.summary.FirstFault.{keepTable, keepOrder}
-use Rattle.promises_card.specs.round.Tries.{Try, trySave, tryStep, storesOf, numberOf, Rules, none-yet, next, WentSo}
+use Rattle.promises_card.specs.round.Tries.{Try, trySave, tryStep, storesInTries, numberOf, Rules, none-yet, next, WentSo}
 use Rattle.promises_card.specs.round.OneByOne.{BySaves, BySteps}
-use Rattle.promises_card.specs.round.Stops.{answered, answeredWith, StoppedBy, StoppedByWith, Stops}
+use Rattle.promises_card.specs.round.Stops.{rounded, roundedPage, StoppedBy, StoppedByWith, Stops}
 use Rattle.promises_card.proofs.sheet.FirstFault.{sheet-fault}
 use Rattle.promises_card.proofs.summary.FirstFault.{summary-fault}
 use Rattle.promises_card.proofs.round.Closed.{Real, made, refused, AllReal, none-real, one-real, history-real, chain-real}
@@ -34,11 +34,11 @@ use Rattle.promises_card.proofs.round.Closed.{Real, made, refused, AllR
 -- a round that stands as it began
 module _ (s : List ℕ) (r : Round) (allowance : ℕ) (t : List ℕ) (number : ℕ) where
   plain-is : (answer : Rounded) → SavesRound s r allowance answer t → roundOf s none r allowance ≡ standing s none 0 0 number
-      → (answer ≡ answered 0 0 number) × (t ≡ s)
+      → (answer ≡ rounded 0 0 number) × (t ≡ s)
   plain-is answer m is = (m .answers ∙ ap roundedOf is, m .leaves ∙ ap (λ (x : Standing). x .sheet) is)
 
   paged-is : (page : Summary) (answer : RoundedPage) → SavesRoundWith s page r allowance answer t
-      → roundOf s (kept page) r allowance ≡ standing s (kept page) 0 0 number → (answer ≡ answeredWith page 0 0 number) × (t ≡ s)
+      → roundOf s (kept page) r allowance ≡ standing s (kept page) 0 0 number → (answer ≡ roundedPage page 0 0 number) × (t ≡ s)
   paged-is page answer m is = (m .answers ∙ ap roundedPageOf is, m .leaves ∙ ap (λ (x : Standing). x .sheet) is)
 
 empty-is : (s : List ℕ) (page : Page) (r : Round) (allowance : ℕ) → r .count ≡ 0 → roundOf s page r allowance ≡ standing s page 0 0 0
@@ -59,11 +59,11 @@ used-so : (allowance : ℕ) (es : List Entry) (ts : List Try) (closed stores num
 used-so allowance es ts closed stores number went real q =
     went .number-is ∙ go ts (went .rules) real (sym (went .stores-are) ∙ q)
   where
-    go : (ts : List Try) → Rules allowance ts → AllReal ts → storesOf ts ≡ allowance → numberOf ts ≡ 0
+    go : (ts : List Try) → Rules allowance ts → AllReal ts → storesInTries ts ≡ allowance → numberOf ts ≡ 0
     go [] none-yet none-real u = refl
     go (x ∷ h) (next y rules before left given) (one-real (made z s) others) u = z
     go (x ∷ h) (next y rules before left given) (one-real (refused z s) others) u =
-        let sum : storesOf (x ∷ h) ≡ storesOf h + x .stores = unfold storesOf in refl in
+        let sum : storesInTries (x ∷ h) ≡ storesInTries h + x .stores = unfold storesInTries in refl in
         absurd (omega (arith, sum, s, left, u))
 
 first-of : (s : List ℕ) (saves : List Save) (t : List ℕ) (number : ℕ) → History s saves t → number ≡ numberOf (map trySave saves) → number ≢ 0

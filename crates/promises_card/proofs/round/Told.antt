@@ -11,14 +11,14 @@ use lib.Dec.{eqb, ltb}
 use Rattle.frame.specs.Pick.{pick}
 use Rattle.sheet.specs.Record.{Entry, lengthOf}
 use Rattle.promises_card.specs.sheet.ListAndFull.{Begins}
-use Rattle.promises_card.specs.round.Tries.{Try, closedOf, storesOf, numberOf, repliesOf, answersOf, Rules, none-yet, next, WentSo}
-use Rattle.promises_card.specs.round.Told.{lastTold, answersTold, Told}
+use Rattle.promises_card.specs.round.Tries.{Try, closedOf, storesInTries, numberOf, repliesOf, answersOf, Rules, none-yet, next, WentSo}
+use Rattle.promises_card.specs.round.Told.{afterTheClosed, answersTold, RoundTold}
 use Rattle.promises_card.proofs.round.Closed.{Real, made, refused, AllReal, none-real, one-real, history-real, chain-real, AllClosed, none-closed, one-closed, closed-before}
 
 -- closed ones in front
 closed-first : (h : List Try) → AllClosed h → (rest : List Entry) (c k n : ℕ)
-    → answersTold (repliesOf h ++ rest) (closedOf h + c) (storesOf h + k) n ≡ answersOf h ++ answersTold rest c k n
-unfolding repliesOf closedOf storesOf answersOf
+    → answersTold (repliesOf h ++ rest) (closedOf h + c) (storesInTries h + k) n ≡ answersOf h ++ answersTold rest c k n
+unfolding repliesOf closedOf storesInTries answersOf
 closed-first [] none-closed rest c k n =
     let count : 0 + c ≡ c = omega arith in
     let stores : 0 + k ≡ k = omega arith in
@@ -27,7 +27,7 @@ closed-first (x ∷ h) (one-closed all none before) rest c k n =
     let long = lengthOf (x .entry) + 2 in
     let closed : _≡_ {A = ℕ} (pick (eqb (x .stores) long) 1 0) 1 = ap (λ (b : Bool). pick b 1 0) (eq-eqb (x .stores) long all) in
     let count : closedOf h + pick (eqb (x .stores) long) 1 0 + c ≡ closedOf h + suc c = omega (arith, closed) in
-    let stores : storesOf h + x .stores + k ≡ storesOf h + (long + k) = omega (arith, all) in
+    let stores : storesInTries h + x .stores + k ≡ storesInTries h + (long + k) = omega (arith, all) in
     let left : long + k - long ≡ k = omega arith in
     let own : _≡_ {A = ℕ × ℕ} (x .stores, x .number) (long, 0) = (λ i. (all i, none i)) in
     let opened : answersTold (x .entry ∷ rest) (suc c) (long + k) n ≡ (long, 0) ∷ answersTold rest c (long + k - long) n = unfold answersTold in refl in
@@ -47,17 +47,17 @@ last-one x real some more = go (eqb (x .stores) (lengthOf (x .entry) + 2)) refl 
     none-left : answersTold more 0 0 0 ≡ []
     none-left = unfold answersTold in refl
 
-    by-last : (stores number : ℕ) → answersTold (x .entry ∷ more) 0 stores number ≡ lastTold stores number
+    by-last : (stores number : ℕ) → answersTold (x .entry ∷ more) 0 stores number ≡ afterTheClosed stores number
     by-last stores number = unfold answersTold in refl
 
     all-made : (stores number : ℕ) → answersTold (x .entry ∷ more) 1 stores number
         ≡ (lengthOf (x .entry) + 2, 0) ∷ answersTold more 0 (stores - (lengthOf (x .entry) + 2)) number
     all-made stores number = unfold answersTold in refl
 
-    some-made : (stores number : ℕ) → 0 < stores → lastTold stores number ≡ (stores, 0) ∷ []
+    some-made : (stores number : ℕ) → 0 < stores → afterTheClosed stores number ≡ (stores, 0) ∷ []
     some-made stores number l = ap (λ (b : Bool). pick b ((stores, 0) ∷ []) (pick (eqb number 0) [] ((0, number) ∷ []))) (lt-ltb 0 stores l)
 
-    none-made : (number : ℕ) → number ≢ 0 → lastTold 0 number ≡ (0, number) ∷ []
+    none-made : (number : ℕ) → number ≢ 0 → afterTheClosed 0 number ≡ (0, number) ∷ []
     none-made number z = ap (λ (b : Bool). pick b [] ((0, number) ∷ [])) (ne-eqb number 0 z)
 
     go : (b : Bool) → eqb (x .stores) (lengthOf (x .entry) + 2) ≡ b → Real x
@@ -71,11 +71,11 @@ last-one x real some more = go (eqb (x .stores) (lengthOf (x .entry) + 2)) refl 
     go false q (made z s) =
         by-last (x .stores) (x .number) ∙ some-made (x .stores) (x .number) (omega (arith, s, some)) ∙ (λ i. (x .stores, sym z i) ∷ [])
     go false q (refused z s) =
-        by-last (x .stores) (x .number) ∙ ap (λ (k : ℕ). lastTold k (x .number)) s ∙ none-made (x .number) z ∙ (λ i. (sym s i, x .number) ∷ [])
+        by-last (x .stores) (x .number) ∙ ap (λ (k : ℕ). afterTheClosed k (x .number)) s ∙ none-made (x .number) z ∙ (λ i. (sym s i, x .number) ∷ [])
 
 told-of : (allowance : ℕ) (ts : List Try) (es : List Entry) → Rules allowance ts → AllReal ts → Begins (repliesOf ts) es
-    → answersOf ts ≡ answersTold es (closedOf ts) (storesOf ts) (numberOf ts)
-unfolding repliesOf closedOf storesOf answersOf answersTold
+    → answersOf ts ≡ answersTold es (closedOf ts) (storesInTries ts) (numberOf ts)
+unfolding repliesOf closedOf storesInTries answersOf answersTold
 told-of allowance [] es none-yet none-real b = refl
 told-of allowance (x ∷ h) es (next y rules before left given) (one-real real others) (more, is) =
     let closed = closed-before allowance h rules others before left in
@@ -83,7 +83,7 @@ told-of allowance (x ∷ h) es (next y rules before left given) (one-real real o
     let rest : es ≡ repliesOf h ++ x .entry ∷ more = is ∙ append-assoc (repliesOf h) (x .entry ∷ []) more in
     let one : ℕ = pick (eqb (x .stores) (lengthOf (x .entry) + 2)) 1 0 in
     sym
-    (ap (λ (l : List Entry). answersTold l (closedOf h + one) (storesOf h + x .stores) (x .number)) rest
+    (ap (λ (l : List Entry). answersTold l (closedOf h + one) (storesInTries h + x .stores) (x .number)) rest
     ∙ closed-first h closed (x .entry ∷ more) one (x .stores) (x .number)
     ∙ ap (λ (l : List (ℕ × ℕ)). answersOf h ++ l) (last-one x real some more))
 
@@ -94,7 +94,7 @@ told-so allowance es ts closed stores number went real =
     told-of allowance ts es (went .rules) real (went .begins)
     ∙ (λ i. answersTold es (sym (went .closed-are) i) (sym (went .stores-are) i) (sym (went .number-is) i))
 
-pub told : Told
+pub told : RoundTold
 told =
     record {
       plain = λ s r allowance answer t one. told-so allowance _ _ (answer .closed) (answer .stores) (answer .number) (one .went) (history-real (one .history));

@@ -11,15 +11,15 @@ use lib.Dec.{eqb, ltb, leb}
 use Rattle.frame.specs.Pick.{pick}
 use Rattle.sheet.specs.Record.{Entry, lengthOf}
 use Rattle.sheet.specs.Stores.{after}
-use Rattle.summary.specs.Calls.{closes}
-use Rattle.round.specs.Saving.{Page, replyFault, pageWith, Standing, standing, withStores, stoppedBy, tried, savedAll}
+use Rattle.summary.specs.Calls.{closesRecord}
+use Rattle.round.specs.Saving.{Page, saveRefusal, pageWith, Standing, standing, withStores, stoppedBy, tried, savedAll}
 use Rattle.round.proofs.Turns.{next-tried, refused-stays, used-stays}
 use Rattle.round.proofs.Trying.{tried-by, stores-within}
-use Rattle.promises_card.specs.round.Tries.{Try, closedOf, storesOf, numberOf, repliesOf, Rules, none-yet, next, Dated, none-dated, one-dated}
+use Rattle.promises_card.specs.round.Tries.{Try, closedOf, storesInTries, numberOf, repliesOf, Rules, none-yet, next, Dated, none-dated, one-dated}
 
 module _ (allowance : ℕ) where
   abbrev pub fault : Standing → Entry → ℕ
-  fault x e = replyFault (x .sheet) (x .page) e
+  fault x e = saveRefusal (x .sheet) (x .page) e
 
   -- the try of a reply on a standing
   abbrev pub tryOf : Standing → Entry → Try
@@ -50,11 +50,11 @@ module _ (allowance : ℕ) where
         go false h = ap (λ (y : Standing). y .sheet) (by-fault false h)
 
     pub page-after : tried allowance x e .page
-        ≡ pick (eqb (fault x e) 0) (pick (closes e (allowance - x .stores)) (pageWith e (x .page)) (x .page)) (x .page)
+        ≡ pick (eqb (fault x e) 0) (pick (closesRecord e (allowance - x .stores)) (pageWith e (x .page)) (x .page)) (x .page)
     page-after = go (eqb (fault x e) 0) refl
       where
         go : (b : Bool) → eqb (fault x e) 0 ≡ b
-            → tried allowance x e .page ≡ pick b (pick (closes e (allowance - x .stores)) (pageWith e (x .page)) (x .page)) (x .page)
+            → tried allowance x e .page ≡ pick b (pick (closesRecord e (allowance - x .stores)) (pageWith e (x .page)) (x .page)) (x .page)
         go true h = ap (λ (y : Standing). y .page) (by-fault true h)
         go false h = ap (λ (y : Standing). y .page) (by-fault false h)
 
@@ -97,11 +97,11 @@ module _ (allowance : ℕ) where
   -- the totals of the tries are the standing's
   pub record Totals (h : List Try) (x : Standing) : Type 0 where
     pub closed : x .closed ≡ closedOf h
-    pub stores : x .stores ≡ storesOf h
+    pub stores : x .stores ≡ storesInTries h
     pub number : x .number ≡ numberOf h
 
   pub totals : (sheet : List ℕ) (page : Page) (h : List Try) (x : Standing) → Traced (standing sheet page 0 0 0) h x → Totals h x
-  unfolding closedOf storesOf
+  unfolding closedOf storesInTries
   totals sheet page h x untried = record { closed = refl; stores = refl; number = refl }
   totals sheet page h x (one-more {h = g} {x = y} e m t n l) =
       let before = totals sheet page g y t in

@@ -15,7 +15,7 @@ use Rattle.sheet.specs.declared.Saved.the-variants.{Stores, Refused}
 use Rattle.sheet.specs.Record.{Entry, lengthOf}
 use Rattle.promises_card.specs.sheet.History.{Save, isClosed, countOf, closedIn, brokenIn, recordsOf}
 use Rattle.promises_card.specs.sheet.ListAndFull.{Begins}
-use Rattle.promises_card.specs.summary.Chain.{Step, summaryRefused, asSave, tried}
+use Rattle.promises_card.specs.summary.Chain.{Step, summaryRefused, asSave, savesTried}
 use Rattle.promises_card.specs.round.Tries.{Try, trySave, tryStep, closedOf, numberOf, repliesOf, answersOf, Rules, next}
 use Rattle.promises_card.specs.round.AnyCalls.{slotsTaken}
 use Rattle.promises_card.proofs.round.Closed.{Real, made, refused, AllReal, none-real, one-real, AllClosed, none-closed, one-closed, closed-before}
@@ -148,13 +148,13 @@ pub record SameOnSheet (saves : List Save) (ts : List Try) : Type 0 where
   pub records : recordsIn (map trySave saves) ≡ recordsIn ts
   pub taken : takenIn (map trySave saves) ≡ takenIn ts
 
-pub same-on-sheet : (steps : List Step) → AllReal (map tryStep steps) → SameOnSheet (tried steps) (map tryStep steps)
-unfolding tried
+pub same-on-sheet : (steps : List Step) → AllReal (map tryStep steps) → SameOnSheet (savesTried steps) (map tryStep steps)
+unfolding savesTried
 same-on-sheet [] none-real = record { records = refl; taken = refl }
 same-on-sheet (x ∷ h) (one-real real others) = go (summaryRefused x) refl (same-on-sheet h others)
   where
-    go : (b : Bool) → summaryRefused x ≡ b → SameOnSheet (tried h) (map tryStep h)
-        → SameOnSheet (pick b (tried h) (asSave x ∷ tried h)) (tryStep x ∷ map tryStep h)
+    go : (b : Bool) → summaryRefused x ≡ b → SameOnSheet (savesTried h) (map tryStep h)
+        → SameOnSheet (pick b (savesTried h) (asSave x ∷ savesTried h)) (tryStep x ∷ map tryStep h)
     go true r rest =
         let idle = idle-one (tryStep x) (no-stores x real r) in
         let nothing : _≡_ {A = ℕ} (pick (ltb 0 (x .answer .count)) 1 0) 0 = ap (λ (b : Bool). pick b 1 0) (idle .1) in
@@ -166,18 +166,18 @@ same-on-sheet (x ∷ h) (one-real real others) = go (summaryRefused x) refl (sam
     go false r rest =
         let same = same-try x real in
         record {
-          records = ap (λ (y : Try). recordsIn (y ∷ map trySave (tried h))) same ∙ more-records (tryStep x) (map trySave (tried h))
+          records = ap (λ (y : Try). recordsIn (y ∷ map trySave (savesTried h))) same ∙ more-records (tryStep x) (map trySave (savesTried h))
               ∙ ap (λ (l : List Entry). l ++ pick (closes (tryStep x)) (x .entry ∷ []) []) (rest .records) ∙ sym (more-records (tryStep x) (map tryStep h));
-          taken = ap (λ (y : Try). takenIn (y ∷ map trySave (tried h))) same ∙ more-taken (tryStep x) (map trySave (tried h))
+          taken = ap (λ (y : Try). takenIn (y ∷ map trySave (savesTried h))) same ∙ more-taken (tryStep x) (map trySave (savesTried h))
               ∙ ap (λ (k : ℕ). k + pick (ltb 0 (x .answer .count)) 1 0) (rest .taken) ∙ sym (more-taken (tryStep x) (map tryStep h));
         }
 
 -- where neither 37 nor 24 stopped a round, its saves with a summary are the sheet's own
 pub all-own : (allowance : ℕ) (steps : List Step) → Rules allowance (map tryStep steps) → AllReal (map tryStep steps)
-    → numberOf (map tryStep steps) ≢ 37 → numberOf (map tryStep steps) ≢ 24 → map trySave (tried steps) ≡ map tryStep steps
-unfolding tried
+    → numberOf (map tryStep steps) ≢ 37 → numberOf (map tryStep steps) ≢ 24 → map trySave (savesTried steps) ≡ map tryStep steps
+unfolding savesTried
 all-own allowance [] rules none-real a b = refl
 all-own allowance (x ∷ h) (next y rules before left given) (one-real real others) a b =
     let own : summaryRefused x ≡ false = ap (λ (c : Bool). c || eqb (x .answer .number) 24) (ne-eqb (x .answer .number) 37 a) ∙ ne-eqb (x .answer .number) 24 b in
     let rest = all-own allowance h rules others (λ q. absurd (omega (arith, before, q))) (λ q. absurd (omega (arith, before, q))) in
-    ap (λ (c : Bool). map trySave (pick c (tried h) (asSave x ∷ tried h))) own ∙ (λ i. same-try x real i ∷ rest i)
+    ap (λ (c : Bool). map trySave (pick c (savesTried h) (asSave x ∷ savesTried h))) own ∙ (λ i. same-try x real i ∷ rest i)

@@ -19,7 +19,7 @@ use Rattle.sheet.specs.Slots.{Slot, blank, spoiled, foreign, holds, recordIn, s
 use Rattle.sheet.specs.Stores.{Store, _puts_, made, stores}
 use Rattle.sheet.specs.Save.{Saves}
 use Rattle.sheet.specs.StoresTold.{TellsStores, storesTold}
-use Rattle.sheet.specs.inside.InSlot.{turnOf}
+use Rattle.sheet.specs.inside.InSlot.{storePlace}
 use Rattle.sheet.proofs.Storing.{stores-length, store-at, made-append}
 use Rattle.sheet.proofs.StorePlaces.{places-take}
 use Rattle.sheet.proofs.TakenSlot.{good-short}
@@ -135,7 +135,7 @@ module _ (s : List ℕ) (e : Entry) (told : SaveStores) (tells : TellsStores s e
         λ i. take (fewer i) (stores-are s e told tells c i)
 
     -- each goes to byte 1 or higher of the slot
-    turn : (k : ℕ) → k < lengthOf e + 1 → (0 < turnOf (lengthOf e) k) × (turnOf (lengthOf e) k < lengthOf e + 2)
+    turn : (k : ℕ) → k < lengthOf e + 1 → (0 < storePlace (lengthOf e) k) × (storePlace (lengthOf e) k < lengthOf e + 2)
     turn k h = go (ltb k (lengthOf e)) refl
       where
         go : (b : Bool) → ltb k (lengthOf e) ≡ b
@@ -147,7 +147,7 @@ module _ (s : List ℕ) (e : Entry) (told : SaveStores) (tells : TellsStores s e
     goes k h =
         let many : length ps ≡ min (lengthOf e + 1) (lengthOf e + 2) = simp (length-take, stores-length) in
         let few : k < lengthOf e + 1 = omega arith in
-        let place : nth ps k .place ≡ at + turnOf (lengthOf e) k =
+        let place : nth ps k .place ≡ at + storePlace (lengthOf e) k =
         ap (λ (p : Store). p .place)
         (getD-take (lengthOf e + 1) (stores at e) k (0 puts 0) few ∙ store-at at e (0 puts 0) k (omega arith)) in
         let w = turn k few in

@@ -12,7 +12,7 @@ use Rattle.sheet.specs.declared.Saved.the-variants.{Refused}
 use Rattle.sheet.specs.Record.{Entry}
 use Rattle.sheet.specs.Slots.{Slot, blank, spoiled, foreign, holds, sizeAllowed, slots, slotAt, slotOf}
 use Rattle.sheet.specs.Save.{saveFault, savedNumber}
-use Rattle.sheet.specs.Look.{bare, told, lookOf, foundNumber}
+use Rattle.sheet.specs.Look.{bare, lookTold, lookOf, foundNumber}
 use Rattle.promises_card.proofs.sheet.Telling.{told-number-is}
 use Rattle.promises_card.specs.sheet.FirstFault.{saveTable, saveOrder, lookTable, SheetFault}
 use Rattle.promises_frame.proofs.FirstFault.{asked, given}
@@ -21,7 +21,7 @@ save-asks : (s : List ℕ) (e : Entry) → saveFault s e ≡ firstOf (asked (sav
 unfolding saveFault
 save-asks s e = refl
 
-told-number : (y : Slot) → foundNumber (told y .found) ≡ 0
+told-number : (y : Slot) → foundNumber (lookTold y .found) ≡ 0
 told-number blank = refl
 told-number spoiled = refl
 told-number foreign = refl
@@ -31,7 +31,7 @@ look-asks : (s : List ℕ) (k : ℕ) → foundNumber (lookOf s k .found) ≡ fir
 unfolding lookOf firstOf
 look-asks s k = go (sizeAllowed s && ltb k (slots s))
   where
-    go : (b : Bool) → foundNumber (pick b (told (slotOf (slotAt s k))) (bare (found.Refused 12)) .found) ≡ pick (not b) 12 0
+    go : (b : Bool) → foundNumber (pick b (lookTold (slotOf (slotAt s k))) (bare (found.Refused 12)) .found) ≡ pick (not b) 12 0
     go true = told-number (slotOf (slotAt s k))
     go false = refl
 

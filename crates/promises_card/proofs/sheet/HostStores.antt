@@ -11,7 +11,7 @@ use Rattle.sheet.specs.declared.Saved.{Saved}
 use Rattle.sheet.specs.declared.Saved.the-variants.{Stores, Refused}
 use Rattle.sheet.specs.Record.{Entry, lengthOf, passes}
 use Rattle.sheet.specs.Save.{saveFault, savedNumber}
-use Rattle.promises_card.specs.sheet.History.{Takes, History, begun, saved, SheetAfter, blankSheet, closedIn, brokenIn}
+use Rattle.promises_card.specs.sheet.History.{TakesSheet, History, begun, saved, SheetAfter, blankSheet, closedIn, brokenIn}
 use Rattle.promises_card.specs.sheet.HostStores.{ToldSave, HostTakes, HostHistory, untouched, stored, asSave, asSaves, HostStores}
 use Rattle.promises_card.proofs.sheet.Telling.{told-number-is, told-count-is, first-made}
 use Rattle.promises_card.proofs.sheet.ListAndFull.{list-and-full}
@@ -37,7 +37,7 @@ module _ (s : List ℕ) (x : ToldSave) (t : List ℕ) (m : HostTakes s x t) wher
       go true = refl
       go false = refl
 
-  pub is-save : Takes s (asSave x) t
+  pub is-save : TakesSheet s (asSave x) t
   is-save = record { answers = answer-is; leaves = m .makes ∙ first-made s e (x .told) (m .tells) cut }
 
 -- The number told is the one that the save is answered.

@@ -19,7 +19,7 @@ use Rattle.sheet.specs.Slots.{Slot, spoiled, holds, recordIn, sizeAllowed, slot
 use Rattle.sheet.specs.Stores.{after}
 use Rattle.sheet.specs.Save.{saveFault, savedNumber, storesMade}
 use Rattle.sheet.proofs.Refusals.{save-fault}
-use Rattle.promises_card.specs.sheet.History.{Save, Takes, History, begun, saved, blankSheet, allStores, isClosed, countOf, closedIn, brokenIn, recordsOf}
+use Rattle.promises_card.specs.sheet.History.{Save, TakesSheet, History, begun, saved, blankSheet, allStores, isClosed, countOf, closedIn, brokenIn, recordsOf}
 use Rattle.promises_card.specs.sheet.ListAndFull.{slotLeft, covered, Begins, ListAndFull}
 use Rattle.sheet.proofs.TakenSlot.{drop-replicate}
 use Rattle.sheet.proofs.LastUsedSlot.{BlankFrom, next-le, list-blank}
@@ -64,7 +64,7 @@ module _ (s t : List ℕ) (x : Save) where
   next-fate (broken c p l a q) = moved-on c p q (ap (λ (k : ℕ). weight k all) (ap storesMade a) ∙ weight-some (x .allowance) all p l)
   next-fate (closed c l a q) = moved-on c (omega arith) q (ap (λ (k : ℕ). weight k all) (ap storesMade a) ∙ weight-all all (omega arith))
 
-  next-step : Takes s x t → next t ≡ next s + counted x
+  next-step : TakesSheet s x t → next t ≡ next s + counted x
   next-step m = next-fate (fate s (x .entry) (x .allowance) (x .answer) t m)
 
 -- A save against which something speaks is not listed.
@@ -122,14 +122,14 @@ module _ (s t : List ℕ) (x : Save) (sized : sizeAllowed s ≡ true) where
   closed-fate (closed c l a q) =
       listed-if c true (le-leb (allStores x) (x .allowance) l) ∙ sym (closed-is (allStores x) true a (eq-eqb (allStores x) (allStores x) refl))
 
-  pub listed-closed : Takes s x t → listed ≡ isClosed x
+  pub listed-closed : TakesSheet s x t → listed ≡ isClosed x
   listed-closed m = closed-fate (fate s (x .entry) (x .allowance) (x .answer) t m)
 
-  list-step : Takes s x t → listOf t ≡ listOf s ++ ending listed
+  list-step : TakesSheet s x t → listOf t ≡ listOf s ++ ending listed
   list-step m = list-fate (fate s (x .entry) (x .allowance) (x .answer) t m)
 
 -- 13 is said of a good record exactly where no slot is left.
-full-step : (s t : List ℕ) (x : Save) → sizeAllowed s ≡ true → passes (x .entry) ≡ true → Takes s x t
+full-step : (s t : List ℕ) (x : Save) → sizeAllowed s ≡ true → passes (x .entry) ≡ true → TakesSheet s x t
     → (savedNumber (x .answer) ≡ 13) ↔ (slots s ≤ next s)
 full-step s t x sized good m = by-room (leb (slots s) (next s)) refl
   where
@@ -219,14 +219,14 @@ module _ (n : ℕ) (few : n ≤ 2048) where
     pub used : next s ≡ closedIn h + brokenIn h
     used = omega (arith, counts hist, next-first)
 
-    list-of : (x : Save) (t : List ℕ) → Takes s x t → listOf t ≡ listOf s ++ pick (passes (x .entry) && slotLeft n h && covered x) (x .entry ∷ []) []
+    list-of : (x : Save) (t : List ℕ) → TakesSheet s x t → listOf t ≡ listOf s ++ pick (passes (x .entry) && slotLeft n h && covered x) (x .entry ∷ []) []
     list-of x t m =
         list-step s t x sized m ∙ (λ i. listOf s ++ pick (passes (x .entry) && ltb (used i) (slots-of s long-so i) && covered x) (x .entry ∷ []) [])
 
     whole-of : listOf s ≡ recordsOf h
     whole-of = records n few long-blank hist ∙ ap (λ (l : List Entry). l ++ recordsOf h) list-empty
 
-    full-of : (x : Save) (t : List ℕ) → Takes s x t → passes (x .entry) ≡ true → (savedNumber (x .answer) ≡ 13) ↔ (closedIn h + brokenIn h ≡ n)
+    full-of : (x : Save) (t : List ℕ) → TakesSheet s x t → passes (x .entry) ≡ true → (savedNumber (x .answer) ≡ 13) ↔ (closedIn h + brokenIn h ≡ n)
     full-of x t m good =
         let step = full-step s t x sized good m in
         let all = slots-of s long-so in

@@ -17,10 +17,10 @@ use Rattle.sheet.specs.Bytes.{FF, allBlank}
 use Rattle.sheet.specs.Record.{Entry, lengthOf}
 use Rattle.sheet.specs.Slots.{Slot, spoiled, holds, slots, slotAt, slotOf, next}
 use Rattle.sheet.specs.Stores.{Store, _puts_, made, stores, after}
-use Rattle.sheet.specs.inside.InSlot.{turnOf}
+use Rattle.sheet.specs.inside.InSlot.{storePlace}
 use Rattle.sheet.specs.Save.{saveFault, Saves, savedNumber, storesMade}
 use Rattle.sheet.proofs.Storing.{stores-length, store-at, made-length}
-use Rattle.promises_card.specs.sheet.History.{Save, Takes, allStores}
+use Rattle.promises_card.specs.sheet.History.{Save, TakesSheet, allStores}
 use Rattle.promises_card.specs.sheet.OneSave.{storesOf, nth, Count, Next, OneSave}
 use Rattle.sheet.proofs.StorePlaces.{Places, places-take, places-at, places-all, Between, stores-between, made-keeps, made-stored}
 use Rattle.sheet.proofs.TakenSlot.{blank-is, good-short, version-made}
@@ -32,7 +32,7 @@ use Rattle.sheet.proofs.Refusals.{Clear, clear}
 use Rattle.promises_card.proofs.sheet.Fates.{Fate, refused, idle, broken, closed, fate}
 
 -- Two stores of one record go to two places.
-apart : (at size j k : ℕ) → j < k → k < size + 2 → at + turnOf size j ≢ at + turnOf size k
+apart : (at size j k : ℕ) → j < k → k < size + 2 → at + storePlace size j ≢ at + storePlace size k
 apart at size j k h l = go (ltb j size) (ltb k size) refl refl
   where
     go : (t u : Bool) → ltb j size ≡ t → ltb k size ≡ u → at + pick t (2 + j) (size + 1 - j) ≢ at + pick u (2 + k) (size + 1 - k)
@@ -67,7 +67,7 @@ module _ (s : List ℕ) (e : Entry) (may : ℕ) (c : Clear s e) where
   many : length ps ≡ min may (lengthOf e + 2)
   many = simp (length-take, stores-length)
 
-  nth-place : (k : ℕ) → k < length ps → nth ps k .place ≡ at + turnOf (lengthOf e) k
+  nth-place : (k : ℕ) → k < length ps → nth ps k .place ≡ at + storePlace (lengthOf e) k
   nth-place k h =
       ap (λ (p : Store). p .place)
       (getD-take may (stores at e) k (0 puts 0) (omega (arith, many)) ∙ store-at at e (0 puts 0) k (omega (arith, many)))
@@ -195,7 +195,7 @@ module _ (x : Save) (s t : List ℕ) where
   breaks-of (broken c p l a q) some part = after-it q spoiled (made-law.breaks s (x .entry) (x .allowance) (c .good) (c .left) p l)
   breaks-of (closed c l a q) some part = absurd (omega (arith, ap storesMade a))
 
-  fate-of : Takes s x t → Fate s (x .entry) (x .allowance) (x .answer) t
+  fate-of : TakesSheet s x t → Fate s (x .entry) (x .allowance) (x .answer) t
   fate-of m = fate s (x .entry) (x .allowance) (x .answer) t m
 
 next-of : (s : List ℕ) (e : Entry) (may : ℕ) (answer : Saved) (t : List ℕ) → Saves s e may answer t → Next s answer t

@@ -15,7 +15,7 @@ use Rattle.sheet.specs.Bytes.{allBlank}
 use Rattle.sheet.specs.Slots.{Slot, blank, spoiled, holds, slots, slotAt, slotOf, next}
 use Rattle.sheet.specs.Save.{storesMade}
 use Rattle.promises_frame.proofs.Cases.{by-lt}
-use Rattle.promises_card.specs.sheet.History.{Save, Takes, History, begun, saved, blankSheet, allStores}
+use Rattle.promises_card.specs.sheet.History.{Save, TakesSheet, History, begun, saved, blankSheet, allStores}
 use Rattle.promises_card.specs.sheet.SlotsInOrder.{hasSlot, slotOfSave, slotsOfSaves, SlotsInOrder}
 use Rattle.sheet.proofs.LastUsedSlot.{next-le}
 use Rattle.sheet.proofs.SaveMade as made-law
@@ -35,7 +35,7 @@ other-place row y j apart =
     (λ h.
     List·getD-eq-default (row ++ y ∷ []) blank (omega (arith, length-append row (y ∷ []))) ∙ sym (List·getD-eq-default row blank h))
 
-module _ (n : ℕ) (row : List Slot) (s t : List ℕ) (x : Save) (f : Fills n row s) (m : Takes s x t) where
+module _ (n : ℕ) (row : List Slot) (s t : List ℕ) (x : Save) (f : Fills n row s) (m : TakesSheet s x t) where
   abbrev more : List Slot
   more = row ++ pick (hasSlot x) (slotOfSave x ∷ []) []
 

@@ -14,7 +14,7 @@ use Rattle.sheet.specs.Record.{Entry, lengthOf}
 use Rattle.sheet.specs.Slots.{next}
 use Rattle.sheet.specs.Stores.{Store, made, stores, after}
 use Rattle.sheet.specs.Save.{saveFault}
-use Rattle.sheet.specs.StoresTold.{telling, refusing, toldOf, TellsStores, storesTold}
+use Rattle.sheet.specs.StoresTold.{telling, refusing, saveTold, TellsStores, storesTold}
 use Rattle.sheet.proofs.Storing.{stores-length}
 use Rattle.sheet.proofs.Refusals.{Clear, clear, clear-fault}
 use Rattle.sheet.proofs.Rows.{told-stores}
@@ -27,7 +27,7 @@ module _ (s : List ℕ) (e : Entry) (told : SaveStores) (tells : TellsStores s e
   answerBy b = pick b (telling (next s) (stores 0 e)) (refusing fault)
 
   pub told-is : told ≡ answerBy (eqb fault 0)
-  unfolding toldOf
+  unfolding saveTold
   told-is = tells .answers
 
   pub told-number-is : told .number ≡ fault

@@ -10,7 +10,7 @@ use Rattle.frame.specs.Pick.{pick}
 use Rattle.sheet.specs.declared.view.Counted.{Counted}
 use Rattle.sheet.specs.declared.view.Counted.the-variants.{Slots, Refused}
 use Rattle.sheet.specs.Slots.{sizeAllowed, slots}
-use Rattle.sheet.specs.View.{Counts, countOf, seenOf, slotsFor, countedNumber, slotsTold}
+use Rattle.sheet.specs.View.{Counts, slotsCounted, seenOf, slotsFor, countedNumber, slotsTold}
 use Rattle.sheet.proofs.view.Spans.{opened-seen, seen-there, seen-uncounted, seen-short}
 use Rattle.promises_card.specs.sheet.View.{SheetView}
 
@@ -19,7 +19,7 @@ pair a b e f = λ i. record { bytes = e i; slots = f i }
 
 -- what is counted, by whether the size is allowed
 count-is : (s : List ℕ) (answer : Counted) (t : Bool) → Counts s answer → sizeAllowed s ≡ t → answer ≡ pick t (Slots (slots s)) (Refused 12)
-unfolding countOf
+unfolding slotsCounted
 count-is s answer t c e = c .answers ∙ ap (λ (b : Bool). pick b (Slots (slots s)) (Refused 12)) e
 
 pub sheet-view : SheetView

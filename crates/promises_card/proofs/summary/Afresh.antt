@@ -16,7 +16,7 @@ use Rattle.summary.specs.declared.Line.{Line}
 use Rattle.summary.specs.declared.Summary.{Summary}
 use Rattle.summary.specs.declared.Made.{Made}
 use Rattle.summary.specs.Line.{noLevel, pairOf, ofTwo, page, blankSummary}
-use Rattle.summary.specs.Worked.{ofPair, goodLevels, pickedBy, figures, lineFor, keptPairs, among, inOrder, outside, summaryOf}
+use Rattle.summary.specs.Worked.{ofPair, goodLevels, pickedBy, figures, lineFor, keptPairs, among, inOrder, otherRecords, summaryOf}
 use Rattle.summary.specs.Handed.{linesOf}
 use Rattle.summary.specs.Calls.{madeOf, afresh, MakesSummary}
 use Rattle.summary.proofs.KeptPairs.{among-order}
@@ -109,7 +109,7 @@ tells-of k l =
 held-of : (l : List Entry) (k : ℕ) (b : Bool) → among k (keptPairs l) ≡ b → heldAt pairOf k (linesOf (summaryOf l)) ≡ pick b (lineFor l k ∷ []) []
 held-of l k b h =
     let lines = map (lineFor l) (inOrder (keptPairs l)) in
-    ap (λ (s : Summary). heldAt pairOf k (linesOf s)) (worked l) ∙ ap (heldAt pairOf k) (lines-page (outside (keptPairs l) l) lines)
+    ap (λ (s : Summary). heldAt pairOf k (linesOf s)) (worked l) ∙ ap (heldAt pairOf k) (lines-page (otherRecords (keptPairs l) l) lines)
     ∙ held-lines l (inOrder (keptPairs l)) k ∙ ap (λ (c : Bool). pick c (lineFor l k ∷ []) []) (among-order k (keptPairs l) ∙ h)
 
 tells-line : (l : List Entry) (k : ℕ) → TellsOf (ofPair k l) (lineFor l k)

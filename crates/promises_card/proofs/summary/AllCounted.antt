@@ -17,7 +17,7 @@ use Rattle.summary.specs.declared.Kept.{Kept}
 use Rattle.summary.specs.Line.{pairOf, together, page}
 use Rattle.summary.specs.Worked.{summaryOf}
 use Rattle.summary.specs.Handed.{linesOf}
-use Rattle.summary.specs.Updated.{lineOf, put, fits, oneOther, withLine, withRecord}
+use Rattle.summary.specs.Updated.{lineOf, putAmong, fits, oneOther, withLine, withRecord}
 use Rattle.summary.specs.Joined.{putAll, joinLines, JoinsSummaries}
 use Rattle.summary.proofs.OneRecordMore.{summary-more}
 use Rattle.summary.proofs.Pages.{lines-page}
@@ -37,21 +37,21 @@ more-replies l ls = unfold replies in refl
 together-replies : (l x : Line) → together l x .good + together l x .faulty ≡ l .good + l .faulty + (x .good + x .faulty)
 together-replies l x = unfold together in omega arith
 
-put-replies : (x : Line) (ls : List Line) → replies (put x ls) ≡ replies ls + (x .good + x .faulty)
+put-replies : (x : Line) (ls : List Line) → replies (putAmong x ls) ≡ replies ls + (x .good + x .faulty)
 put-replies x [] =
-    let is : put x [] ≡ x ∷ [] = unfold put in refl in
+    let is : putAmong x [] ≡ x ∷ [] = unfold putAmong in refl in
     let none : replies [] ≡ 0 = unfold replies in refl in
     ap replies is ∙ (omega (arith, more-replies x [], none))
 put-replies x (l ∷ ls) = opened ∙ go (ltb (pairOf x) (pairOf l)) (eqb (pairOf x) (pairOf l)) (put-replies x ls)
   where
-    opened : replies (put x (l ∷ ls)) ≡ replies (pick (ltb (pairOf x) (pairOf l)) (x ∷ l ∷ ls) (pick (eqb (pairOf x) (pairOf l)) (together l x ∷ ls) (l ∷ put x ls)))
-    opened = ap replies (unfold put in refl)
+    opened : replies (putAmong x (l ∷ ls)) ≡ replies (pick (ltb (pairOf x) (pairOf l)) (x ∷ l ∷ ls) (pick (eqb (pairOf x) (pairOf l)) (together l x ∷ ls) (l ∷ putAmong x ls)))
+    opened = ap replies (unfold putAmong in refl)
 
-    go : (a b : Bool) → replies (put x ls) ≡ replies ls + (x .good + x .faulty)
-        → replies (pick a (x ∷ l ∷ ls) (pick b (together l x ∷ ls) (l ∷ put x ls))) ≡ replies (l ∷ ls) + (x .good + x .faulty)
+    go : (a b : Bool) → replies (putAmong x ls) ≡ replies ls + (x .good + x .faulty)
+        → replies (pick a (x ∷ l ∷ ls) (pick b (together l x ∷ ls) (l ∷ putAmong x ls))) ≡ replies (l ∷ ls) + (x .good + x .faulty)
     go true b rest = omega (arith, more-replies x (l ∷ ls))
     go false true rest = omega (arith, more-replies (together l x) ls, more-replies l ls, together-replies l x)
-    go false false rest = omega (arith, more-replies l (put x ls), more-replies l ls, rest)
+    go false false rest = omega (arith, more-replies l (putAmong x ls), more-replies l ls, rest)
 
 all-replies : (ls xs : List Line) → replies (putAll ls xs) ≡ replies ls + replies xs
 all-replies ls [] =
@@ -59,8 +59,8 @@ all-replies ls [] =
     let none : replies [] ≡ 0 = unfold replies in refl in
     ap replies is ∙ (omega (arith, none))
 all-replies ls (x ∷ xs) =
-    let is : putAll ls (x ∷ xs) ≡ putAll (put x ls) xs = unfold putAll in refl in
-    ap replies is ∙ (omega (arith, all-replies (put x ls) xs, put-replies x ls, more-replies x xs))
+    let is : putAll ls (x ∷ xs) ≡ putAll (putAmong x ls) xs = unfold putAll in refl in
+    ap replies is ∙ (omega (arith, all-replies (putAmong x ls) xs, put-replies x ls, more-replies x xs))
 
 -- a page of lines
 page-all : (o : ℕ) (ls : List Line) → allOf (page o ls) ≡ replies ls + o
@@ -72,13 +72,13 @@ page-all o ls =
 record-all : (e : Entry) (s : Summary) → allOf (withRecord e s) ≡ allOf s + 1
 record-all e s = opened ∙ go (fits (lineOf e) s)
   where
-    opened : allOf (withRecord e s) ≡ allOf (pick (fits (lineOf e) s) (page (s .others) (put (lineOf e) (linesOf s))) (oneOther s))
+    opened : allOf (withRecord e s) ≡ allOf (pick (fits (lineOf e) s) (page (s .others) (putAmong (lineOf e) (linesOf s))) (oneOther s))
     opened =
-        let is : withRecord e s ≡ pick (fits (lineOf e) s) (page (s .others) (put (lineOf e) (linesOf s))) (oneOther s) = unfold withRecord withLine in refl in
+        let is : withRecord e s ≡ pick (fits (lineOf e) s) (page (s .others) (putAmong (lineOf e) (linesOf s))) (oneOther s) = unfold withRecord withLine in refl in
         ap allOf is
 
-    go : (b : Bool) → allOf (pick b (page (s .others) (put (lineOf e) (linesOf s))) (oneOther s)) ≡ allOf s + 1
-    go true = page-all (s .others) (put (lineOf e) (linesOf s)) ∙ (omega (arith, put-replies (lineOf e) (linesOf s), own-few e))
+    go : (b : Bool) → allOf (pick b (page (s .others) (putAmong (lineOf e) (linesOf s))) (oneOther s)) ≡ allOf s + 1
+    go true = page-all (s .others) (putAmong (lineOf e) (linesOf s)) ∙ (omega (arith, put-replies (lineOf e) (linesOf s), own-few e))
     go false = omega arith
 
 -- a list's, record by record

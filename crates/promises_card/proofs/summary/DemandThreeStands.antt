@@ -18,20 +18,20 @@ use Rattle.summary.specs.declared.Summary.{Summary}
 use Rattle.summary.specs.declared.Kept.{Kept}
 use Rattle.summary.specs.Handed.{handedFault}
 use Rattle.promises_card.specs.sheet.History.{History}
-use Rattle.promises_card.specs.summary.Chain.{Step, Goes, Chain, summaryRefused, savedAs, asSave, tried}
+use Rattle.promises_card.specs.summary.Chain.{Step, Goes, Chain, summaryRefused, savedAs, asSave, savesTried}
 use Rattle.promises_card.specs.summary.Chain as chain
 use Rattle.promises_card.specs.sheet.History as history
 use Rattle.promises_card.specs.summary.DemandThreeStands.{DemandThreeStands}
-use Rattle.promises_card.proofs.summary.Kept.{Handed, by-37, by-24, by-none, handed, Became, summary-bad, save-bad, closed, short, became, save-number}
+use Rattle.promises_card.proofs.summary.Kept.{HandedFault, by-37, by-24, by-none, handed-fault, Became, summary-bad, save-bad, closed, short, became, save-number}
 
 -- whether a number is one of the two
 not-two : (n : ℕ) → n ≤ 14 → (eqb n 37 || eqb n 24) ≡ false
 not-two n h = simp (ne-eqb n 37 (omega arith), ne-eqb n 24 (omega arith))
 
 is-two : (page : Summary) → (handedFault page ≡ 0 → ⊥) → ((eqb (handedFault page) 37 || eqb (handedFault page) 24) ≡ true) × (handedFault page ≢ 13)
-is-two page some = go (handed page)
+is-two page some = go (handed-fault page)
   where
-    go : Handed page → ((eqb (handedFault page) 37 || eqb (handedFault page) 24) ≡ true) × (handedFault page ≢ 13)
+    go : HandedFault page → ((eqb (handedFault page) 37 || eqb (handedFault page) 24) ≡ true) × (handedFault page ≢ 13)
     go (by-37 m n) = (ap (λ (k : ℕ). eqb k 37 || eqb k 24) n, λ q. omega arith)
     go (by-24 m o n) = (ap (λ (k : ℕ). eqb k 37 || eqb k 24) n, λ q. omega arith)
     go (by-none m o n) = absurd (some n)
@@ -74,12 +74,12 @@ refused-of s page x t g told = go (became s page x t g)
     go (closed h f l a q) = apart (sym told ∙ number-is x _ a)
     go (short h f l a q) = apart (sym told ∙ number-is x _ a)
 
-history-of : {from : List ℕ} {begin : Summary} {h : List Step} {t : List ℕ} {page : Summary} → Chain from begin h t page → History from (tried h) t
-unfolding tried
+history-of : {from : List ℕ} {begin : Summary} {h : List Step} {t : List ℕ} {page : Summary} → Chain from begin h t page → History from (savesTried h) t
+unfolding savesTried
 history-of chain.begun = history.begun
 history-of {from} (chain.kept {h = h} {s = s} {t = t} {page = before} x c g) = go (summaryRefused x) refl (history-of c)
   where
-    go : (b : Bool) → summaryRefused x ≡ b → History from (tried h) s → History from (pick b (tried h) (asSave x ∷ tried h)) t
+    go : (b : Bool) → summaryRefused x ≡ b → History from (savesTried h) s → History from (pick b (savesTried h) (asSave x ∷ savesTried h)) t
     go true r rest = rw (refused-of s before x t g r .0) rest
     go false r rest = history.saved (asSave x) rest (one-of s before x t g r)
 

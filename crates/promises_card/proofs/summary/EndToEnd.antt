@@ -16,7 +16,7 @@ use Rattle.sheet.specs.Record.{Entry}
 use Rattle.summary.specs.declared.Line.{Line}
 use Rattle.summary.specs.declared.Summary.{Summary}
 use Rattle.summary.specs.Line.{pairOf, together, page}
-use Rattle.summary.specs.Worked.{pairIn, ofPair, figures, lineFor, without, pairsOf, keptPairs, among, inOrder, outside, summaryOf}
+use Rattle.summary.specs.Worked.{pairIn, ofPair, figures, lineFor, without, pairsOf, keptPairs, among, inOrder, otherRecords, summaryOf}
 use Rattle.summary.specs.Handed.{linesOf}
 use Rattle.summary.specs.Joined.{putAll, joinLines, joinPage}
 use Rattle.summary.proofs.KeptPairs.{Same, is, isnt, compare, among-first, among-later, among-without, among-order, once-pairs, length-order, rises-order, all-inside, no-record, among-take}
@@ -51,23 +51,23 @@ pairs-append k (e ∷ l) m =
     group false b c = refl
 
 -- where no record is outside, every pair is kept
-all-kept : (ks : List ℕ) (l : List Entry) → outside ks l ≤ 0 → (k : ℕ) → among k (pairsOf l) ≡ true → among k ks ≡ true
+all-kept : (ks : List ℕ) (l : List Entry) → otherRecords ks l ≤ 0 → (k : ℕ) → among k (pairsOf l) ≡ true → among k ks ≡ true
 all-kept ks [] h k q = absurd (no q)
   where
     no : among k (pairsOf []) ≡ true → ⊥
     no e = unfold pairsOf in unfold among in (let z : _≡_ {A = ℕ} 0 1 = cc in omega arith)
 all-kept ks (e ∷ l) h k q = go (among (pairIn e) ks) refl (compare (pairIn e) k) (all-kept ks l)
   where
-    opened : (b : Bool) → among (pairIn e) ks ≡ b → outside ks (e ∷ l) ≡ pick b 0 1 + outside ks l
-    opened b p = unfold outside in ap (λ (t : Bool). pick t 0 1 + outside ks l) p
+    opened : (b : Bool) → among (pairIn e) ks ≡ b → otherRecords ks (e ∷ l) ≡ pick b 0 1 + otherRecords ks l
+    opened b p = unfold otherRecords in ap (λ (t : Bool). pick t 0 1 + otherRecords ks l) p
 
-    go : (b : Bool) → among (pairIn e) ks ≡ b → Same (pairIn e) k → (outside ks l ≤ 0 → (j : ℕ) → among j (pairsOf l) ≡ true → among j ks ≡ true) → among k ks ≡ true
+    go : (b : Bool) → among (pairIn e) ks ≡ b → Same (pairIn e) k → (otherRecords ks l ≤ 0 → (j : ℕ) → among j (pairsOf l) ≡ true → among j ks ≡ true) → among k ks ≡ true
     go false p s rest = absurd (omega (arith, opened false p))
     go true p (is s) rest = ap (λ (j : ℕ). among j ks) (sym s) ∙ p
     go true p (isnt s) rest =
         rest (omega (arith, opened true p)) k (sym (among-pairs k e l ∙ ap (λ (b : Bool). b || among k (pairsOf l)) (ne-eqb (pairIn e) k s)) ∙ q)
 
-module _ (l : List Entry) (none : outside (keptPairs l) l ≤ 0) where
+module _ (l : List Entry) (none : otherRecords (keptPairs l) l ≤ 0) where
   kept-is : (k : ℕ) → among k (keptPairs l) ≡ among k (pairsOf l)
   kept-is k = go (among k (pairsOf l)) refl
     where
@@ -78,22 +78,22 @@ module _ (l : List Entry) (none : outside (keptPairs l) l ≤ 0) where
   held-is : (k : ℕ) → heldAt pairOf k (linesOf (summaryOf l)) ≡ pick (among k (pairsOf l)) (lineFor l k ∷ []) []
   held-is k =
       ap (λ (s : Summary). heldAt pairOf k (linesOf s)) (worked l)
-      ∙ ap (heldAt pairOf k) (lines-page (outside (keptPairs l) l) (map (lineFor l) (inOrder (keptPairs l))))
+      ∙ ap (heldAt pairOf k) (lines-page (otherRecords (keptPairs l) l) (map (lineFor l) (inOrder (keptPairs l))))
       ∙ held-lines l (inOrder (keptPairs l)) k ∙ ap (λ (b : Bool). pick b (lineFor l k ∷ []) []) (among-order k (keptPairs l) ∙ kept-is k)
 
 rises-summary : (l : List Entry) → Rises pairOf (linesOf (summaryOf l))
 rises-summary l =
-    rw (ap linesOf (worked l) ∙ lines-page (outside (keptPairs l) l) (map (lineFor l) (inOrder (keptPairs l))))
+    rw (ap linesOf (worked l) ∙ lines-page (otherRecords (keptPairs l) l) (map (lineFor l) (inOrder (keptPairs l))))
     (rises-lines l (inOrder (keptPairs l)) (rises-order (keptPairs l)))
 
-others-is : (l : List Entry) → summaryOf l .others ≡ outside (keptPairs l) l
+others-is : (l : List Entry) → summaryOf l .others ≡ otherRecords (keptPairs l) l
 others-is l = ap (λ (s : Summary). s .others) (worked l) ∙ (unfold page in refl)
 
 module _ (l m : List Entry) (few : length (joinLines (summaryOf l) (summaryOf m)) ≤ 30) (na : summaryOf l .others ≤ 0) (nb : summaryOf m .others ≤ 0) where
-  none-l : outside (keptPairs l) l ≤ 0
+  none-l : otherRecords (keptPairs l) l ≤ 0
   none-l = omega (arith, others-is l)
 
-  none-m : outside (keptPairs m) m ≤ 0
+  none-m : otherRecords (keptPairs m) m ≤ 0
   none-m = omega (arith, others-is m)
 
   abbrev all : List Line
@@ -138,6 +138,6 @@ module _ (l m : List Entry) (few : length (joinLines (summaryOf l) (summaryOf m)
 
   pub end-lines : joinPage (summaryOf l) (summaryOf m) ≡ summaryOf (l ++ m)
   end-lines =
-      let none : outside (pairsOf (l ++ m)) (l ++ m) ≡ 0 = all-inside (pairsOf (l ++ m)) (l ++ m) (λ j q. q) in
+      let none : otherRecords (pairsOf (l ++ m)) (l ++ m) ≡ 0 = all-inside (pairsOf (l ++ m)) (l ++ m) (λ j q. q) in
       ap (page 0) lines-are ∙ ap (λ (n : ℕ). page n all) (sym none)
-      ∙ ap (λ (ks : List ℕ). page (outside ks (l ++ m)) (map (lineFor (l ++ m)) (inOrder ks))) (sym all-pairs) ∙ sym (worked (l ++ m))
+      ∙ ap (λ (ks : List ℕ). page (otherRecords ks (l ++ m)) (map (lineFor (l ++ m)) (inOrder ks))) (sym all-pairs) ∙ sym (worked (l ++ m))

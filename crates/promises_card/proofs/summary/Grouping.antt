@@ -17,7 +17,7 @@ use Rattle.summary.specs.declared.Summary.{Summary}
 use Rattle.summary.specs.declared.Made.{Made}
 use Rattle.summary.specs.Line.{pairOf, together, page, blankLine}
 use Rattle.summary.specs.Handed.{linesOf, lineAt, misshapen, most, countsOver, linesOver}
-use Rattle.summary.specs.Updated.{put}
+use Rattle.summary.specs.Updated.{putAmong}
 use Rattle.summary.specs.Calls.{madeOf}
 use Rattle.summary.specs.Joined.{putAll, joinLines, joinPage, unkept, joinOver, joinFault, joinOf}
 use Rattle.summary.specs.inside.Placed.{Sound}
@@ -161,33 +161,33 @@ module _ (o : ℕ) (ls : List Line) (few : length ls ≤ 30) (rises : Rises pair
       go i l false q = ap countsOver (blank-behind o ls i (ltb-false i (length ls) q) l) ∙ small blankLine (omega arith) (omega arith)
 
 -- rows put together are narrow, and have their levels
-narrow-put : (x : Line) (ls : List Line) → x .settings < 0x10000 → AllNarrow ls → AllNarrow (put x ls)
-narrow-put x [] h n = unfold put in narrow-more {l = x} h narrow-none
+narrow-put : (x : Line) (ls : List Line) → x .settings < 0x10000 → AllNarrow ls → AllNarrow (putAmong x ls)
+narrow-put x [] h n = unfold putAmong in narrow-more {l = x} h narrow-none
 narrow-put x (y ∷ ls) h (narrow-more k n) = opened (go (ltb (pairOf x) (pairOf y)) (eqb (pairOf x) (pairOf y)) (narrow-put x ls h n))
   where
-    opened : AllNarrow (pick (ltb (pairOf x) (pairOf y)) (x ∷ y ∷ ls) (pick (eqb (pairOf x) (pairOf y)) (together y x ∷ ls) (y ∷ put x ls))) → AllNarrow (put x (y ∷ ls))
-    opened q = unfold put in q
+    opened : AllNarrow (pick (ltb (pairOf x) (pairOf y)) (x ∷ y ∷ ls) (pick (eqb (pairOf x) (pairOf y)) (together y x ∷ ls) (y ∷ putAmong x ls))) → AllNarrow (putAmong x (y ∷ ls))
+    opened q = unfold putAmong in q
 
     both : together y x .settings < 0x10000
     both = unfold together in k
 
-    go : (b c : Bool) → AllNarrow (put x ls) → AllNarrow (pick b (x ∷ y ∷ ls) (pick c (together y x ∷ ls) (y ∷ put x ls)))
+    go : (b c : Bool) → AllNarrow (putAmong x ls) → AllNarrow (pick b (x ∷ y ∷ ls) (pick c (together y x ∷ ls) (y ∷ putAmong x ls)))
     go true c rest = narrow-more {l = x} h (narrow-more {l = y} k n)
     go false true rest = narrow-more {l = together y x} both n
     go false false rest = narrow-more {l = y} k rest
 
 narrow-all : (ls xs : List Line) → AllNarrow ls → AllNarrow xs → AllNarrow (putAll ls xs)
 narrow-all ls [] n m = unfold putAll in n
-narrow-all ls (x ∷ xs) n (narrow-more h m) = opened (narrow-all (put x ls) xs (narrow-put x ls h n) m)
+narrow-all ls (x ∷ xs) n (narrow-more h m) = opened (narrow-all (putAmong x ls) xs (narrow-put x ls h n) m)
   where
-    opened : AllNarrow (putAll (put x ls) xs) → AllNarrow (putAll ls (x ∷ xs))
+    opened : AllNarrow (putAll (putAmong x ls) xs) → AllNarrow (putAll ls (x ∷ xs))
     opened q = unfold putAll in q
 
 pub told-all : (ls xs : List Line) → AllTold ls → AllTold xs → AllTold (putAll ls xs)
 told-all ls [] t u = unfold putAll in t
-told-all ls (x ∷ xs) t (told-more h u) = opened (told-all (put x ls) xs (told-put x ls h t) u)
+told-all ls (x ∷ xs) t (told-more h u) = opened (told-all (putAmong x ls) xs (told-put x ls h t) u)
   where
-    opened : AllTold (putAll (put x ls) xs) → AllTold (putAll ls (x ∷ xs))
+    opened : AllTold (putAll (putAmong x ls) xs) → AllTold (putAll ls (x ∷ xs))
     opened q = unfold putAll in q
 
 pub told-lines : (s : Summary) (h : Handed s) → misshapen s ≡ false → AllTold (linesOf s)

@@ -18,7 +18,7 @@ use Rattle.summary.specs.declared.Summary.{Summary}
 use Rattle.summary.specs.declared.Kept.{Kept}
 use Rattle.summary.specs.Line.{pairOf, page, blankLine}
 use Rattle.summary.specs.Handed.{linesOf, lineAt, risesAt, misshapen, handedFault}
-use Rattle.summary.specs.Updated.{lineOf, hasLine, put, fits, withLine, withRecord}
+use Rattle.summary.specs.Updated.{lineOf, hasLine, putAmong, fits, withLine, withRecord}
 use Rattle.summary.specs.inside.Placed.{Sound}
 use Rattle.summary.proofs.HandedIn.{sound-handed, few, used, unused}
 use Rattle.summary.proofs.Shaped.{LevelsTold, right-told, AllTold, all-told, told-own, told-put, shaped-page}
@@ -26,7 +26,7 @@ use Rattle.summary.proofs.Putting.{rises-put}
 use Rattle.summary.proofs.RecordAdded.{length-put, with-fit, with-no-fit, one-other, fits-by, count-sound}
 use Rattle.promises_card.specs.summary.Chain.{Step, Goes}
 use Rattle.promises_card.specs.summary.InOrder.{Ordered, InOrder}
-use Rattle.promises_card.proofs.summary.Kept.{Handed, by-37, by-24, by-none, handed, Became, summary-bad, save-bad, closed, short, became}
+use Rattle.promises_card.proofs.summary.Kept.{HandedFault, by-37, by-24, by-none, handed-fault, Became, summary-bad, save-bad, closed, short, became}
 
 -- a summary that 37 does not name
 module _ (s : Summary) (long : length (s .lines) ≡ 30) (right : misshapen s ≡ false) where
@@ -64,13 +64,13 @@ module _ (s : Summary) (long : length (s .lines) ≡ 30) (right : misshapen s �
       record-line : withRecord e s ≡ withLine (lineOf e) s
       record-line = unfold withRecord in refl
 
-      fit : fits (lineOf e) s ≡ true → length (put (lineOf e) (linesOf s)) ≤ 30 → misshapen (withLine (lineOf e) s) ≡ false
+      fit : fits (lineOf e) s ≡ true → length (putAmong (lineOf e) (linesOf s)) ≤ 30 → misshapen (withLine (lineOf e) s) ≡ false
       fit h small =
           ap misshapen (with-fit (lineOf e) s (sound-handed s long right) h)
-          ∙ shaped-page (s .others) (put (lineOf e) (linesOf s)) small (rises-put (lineOf e) (linesOf s) (sound-handed s long right .rises))
+          ∙ shaped-page (s .others) (putAmong (lineOf e) (linesOf s)) small (rises-put (lineOf e) (linesOf s) (sound-handed s long right .rises))
           (told-put (lineOf e) (linesOf s) (told-own e) all-lines)
 
-      many : (b : Bool) → hasLine (pairOf (lineOf e)) (linesOf s) ≡ b → length (put (lineOf e) (linesOf s)) ≡ s .count + pick b 0 1
+      many : (b : Bool) → hasLine (pairOf (lineOf e)) (linesOf s) ≡ b → length (putAmong (lineOf e) (linesOf s)) ≡ s .count + pick b 0 1
       many b h =
           length-put (lineOf e) (linesOf s) (sound-handed s long right .rises) ∙ ap (λ (t : Bool). length (linesOf s) + pick t 0 1) h
           ∙ ap (λ (n : ℕ). n + pick b 0 1) (sym (count-sound (lineOf e) s (sound-handed s long right)))
@@ -98,13 +98,13 @@ module _ (e : Entry) (s : Summary) (long : length (s .lines) ≡ 30) (right : mi
       record-line : withRecord e s ≡ withLine (lineOf e) s
       record-line = unfold withRecord in refl
 
-      many : (b : Bool) → hasLine (pairOf (lineOf e)) (linesOf s) ≡ b → length (put (lineOf e) (linesOf s)) ≡ s .count + pick b 0 1
+      many : (b : Bool) → hasLine (pairOf (lineOf e)) (linesOf s) ≡ b → length (putAmong (lineOf e) (linesOf s)) ≡ s .count + pick b 0 1
       many b h =
           length-put (lineOf e) (linesOf s) (so .rises) ∙ ap (λ (t : Bool). length (linesOf s) + pick t 0 1) h
           ∙ ap (λ (n : ℕ). n + pick b 0 1) (sym (count-sound (lineOf e) s so))
 
-      fit : fits (lineOf e) s ≡ true → length (put (lineOf e) (linesOf s)) ≤ 30 → length (withLine (lineOf e) s .lines) ≡ 30
-      fit h small = ap (λ (t : Summary). length (t .lines)) (with-fit (lineOf e) s so h) ∙ long-page (s .others) (put (lineOf e) (linesOf s)) small
+      fit : fits (lineOf e) s ≡ true → length (putAmong (lineOf e) (linesOf s)) ≤ 30 → length (withLine (lineOf e) s .lines) ≡ 30
+      fit h small = ap (λ (t : Summary). length (t .lines)) (with-fit (lineOf e) s so h) ∙ long-page (s .others) (putAmong (lineOf e) (linesOf s)) small
 
       go : (b c : Bool) → hasLine (pairOf (lineOf e)) (linesOf s) ≡ b → ltb (s .count) 30 ≡ c → length (withLine (lineOf e) s .lines) ≡ 30
       go true c h g = fit (fits-by (lineOf e) s so true c h g) (omega (arith, many true h, few s long right))
@@ -119,9 +119,9 @@ left-of : (s : List ℕ) (page : Summary) → length (page .lines) ≡ 30 → (x
 left-of s page long x t g not-37 = go (became s page x t g)
   where
     shape : handedFault page ≢ 37 → misshapen page ≡ false
-    shape n = by (handed page)
+    shape n = by (handed-fault page)
       where
-        by : Handed page → misshapen page ≡ false
+        by : HandedFault page → misshapen page ≡ false
         by (by-37 m q) = absurd (n q)
         by (by-24 m o q) = m
         by (by-none m o q) = m

@@ -12,7 +12,7 @@ use Rattle.frame.specs.Rising.{Above, above-none, above-more, Rises, rises-none
 use Rattle.frame.proofs.Rising.{held-none, held-first, held-later, same-rising}
 use Rattle.summary.specs.declared.Line.{Line}
 use Rattle.summary.specs.Line.{pairBy, pairOf, together, blankLine}
-use Rattle.summary.specs.Updated.{put}
+use Rattle.summary.specs.Updated.{putAmong}
 use Rattle.summary.specs.Joined.{putAll}
 use Rattle.summary.proofs.KeptPairs.{Same, is, isnt, compare}
 use Rattle.summary.proofs.Levels.{min-picks, max-picks, two-turned}
@@ -35,15 +35,15 @@ single k (l ∷ ls) = go (compare (pairOf l) k) (single k ls)
 
 pub held-all : (k : ℕ) (ls xs : List Line) → Rises pairOf ls → Rises pairOf xs → heldAt pairOf k (putAll ls xs) ≡ bothLines (heldAt pairOf k ls) (heldAt pairOf k xs)
 held-all k ls [] rl rx = (unfold putAll in unfold heldAt in sym (single k ls))
-held-all k ls (x ∷ xs) rl (rises-more a rx) = opened ∙ held-all k (put x ls) xs (rises-put x ls rl) rx ∙ go (compare (pairOf x) k)
+held-all k ls (x ∷ xs) rl (rises-more a rx) = opened ∙ held-all k (putAmong x ls) xs (rises-put x ls rl) rx ∙ go (compare (pairOf x) k)
   where
-    opened : heldAt pairOf k (putAll ls (x ∷ xs)) ≡ heldAt pairOf k (putAll (put x ls) xs)
+    opened : heldAt pairOf k (putAll ls (x ∷ xs)) ≡ heldAt pairOf k (putAll (putAmong x ls) xs)
     opened = unfold putAll in refl
 
-    after-put : (b : Bool) → eqb (pairOf x) k ≡ b → heldAt pairOf k (put x ls) ≡ pick b (joined x (heldAt pairOf k ls)) (heldAt pairOf k ls)
+    after-put : (b : Bool) → eqb (pairOf x) k ≡ b → heldAt pairOf k (putAmong x ls) ≡ pick b (joined x (heldAt pairOf k ls)) (heldAt pairOf k ls)
     after-put b h = held-put x ls rl k ∙ ap (λ (t : Bool). pick t (joined x (heldAt pairOf k ls)) (heldAt pairOf k ls)) h
 
-    go : Same (pairOf x) k → bothLines (heldAt pairOf k (put x ls)) (heldAt pairOf k xs) ≡ bothLines (heldAt pairOf k ls) (heldAt pairOf k (x ∷ xs))
+    go : Same (pairOf x) k → bothLines (heldAt pairOf k (putAmong x ls)) (heldAt pairOf k xs) ≡ bothLines (heldAt pairOf k ls) (heldAt pairOf k (x ∷ xs))
     go (is q) =
         ap (λ (h : List Line). bothLines h (heldAt pairOf k xs)) (after-put true (eq-eqb (pairOf x) k q))
         ∙ ap (bothLines (joined x (heldAt pairOf k ls))) (held-none pairOf k (omega arith) a)

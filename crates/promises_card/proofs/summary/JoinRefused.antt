@@ -16,7 +16,7 @@ use Rattle.summary.specs.declared.Summary.{Summary}
 use Rattle.summary.specs.declared.Made.{Made}
 use Rattle.summary.specs.Line.{pairOf, together, blankLine}
 use Rattle.summary.specs.Handed.{every, linesOf, lineAt, misshapen, most, countsOver, linesOver}
-use Rattle.summary.specs.Updated.{hasLine, put}
+use Rattle.summary.specs.Updated.{hasLine, putAmong}
 use Rattle.summary.specs.Joined.{putAll, joinLines, joinPage, unkept, joinOver, JoinsSummaries}
 use Rattle.summary.proofs.Every.{neither}
 use Rattle.summary.proofs.HandedIn.{sound-handed}
@@ -46,11 +46,11 @@ has-none k ls = go (hasLine k ls) refl (heldAt pairOf k ls) refl
     go false h [] q = refl
     go false h (x ∷ hs) q = let z : _≡_ {A = ℕ} 0 1 = ap oneIfNone (sym q ∙ held-has k ls h) in absurd (omega (arith, z))
 
-same-new : (x : Line) (ls xs : List Line) → Rises pairOf ls → Above pairOf (pairOf x) xs → newPairs (put x ls) xs ≡ newPairs ls xs
+same-new : (x : Line) (ls xs : List Line) → Rises pairOf ls → Above pairOf (pairOf x) xs → newPairs (putAmong x ls) xs ≡ newPairs ls xs
 unfolding newPairs
 same-new x ls [] r above-none = refl
 same-new x ls (y ∷ xs) r (above-more h a) =
-    let held : heldAt pairOf (pairOf y) (put x ls) ≡ heldAt pairOf (pairOf y) ls =
+    let held : heldAt pairOf (pairOf y) (putAmong x ls) ≡ heldAt pairOf (pairOf y) ls =
     held-put x ls r (pairOf y)
     ∙ ap (λ (b : Bool). pick b (joined x (heldAt pairOf (pairOf y) ls)) (heldAt pairOf (pairOf y) ls)) (ne-eqb (pairOf x) (pairOf y) (λ z. absurd (omega (arith, h, z)))) in
     (λ i. oneIfNone (held i) + same-new x ls xs r a i)
@@ -61,10 +61,10 @@ join-length ls [] r rises-none =
     let none : newPairs ls [] ≡ 0 = unfold newPairs in refl in
     ap length is ∙ (omega (arith, none))
 join-length ls (x ∷ xs) r (rises-more a rx) =
-    let is : putAll ls (x ∷ xs) ≡ putAll (put x ls) xs = unfold putAll in refl in
+    let is : putAll ls (x ∷ xs) ≡ putAll (putAmong x ls) xs = unfold putAll in refl in
     let more : newPairs ls (x ∷ xs) ≡ oneIfNone (heldAt pairOf (pairOf x) ls) + newPairs ls xs = unfold newPairs in refl in
     ap length is
-    ∙ (omega (arith, join-length (put x ls) xs (rises-put x ls r) rx, length-put x ls r, has-none (pairOf x) ls, same-new x ls xs r a, more))
+    ∙ (omega (arith, join-length (putAmong x ls) xs (rises-put x ls r) rx, length-put x ls r, has-none (pairOf x) ls, same-new x ls xs r a, more))
 
 -- a pair's replies in a join
 both-good : (xs ys : List Line) → goodIn (bothLines xs ys) ≡ goodIn xs + goodIn ys

@@ -18,7 +18,7 @@ use Rattle.sheet.proofs.Refusals.{save-fault}
 use Rattle.summary.specs.declared.Summary.{Summary}
 use Rattle.summary.specs.Handed.{misshapen, over, handedFault}
 use Rattle.summary.specs.Updated.{withRecord}
-use Rattle.summary.specs.Calls.{keptOf, keepFault, closes}
+use Rattle.summary.specs.Calls.{keptOf, keepFault, closesRecord}
 use Rattle.promises_card.specs.summary.Chain.{Step, Goes}
 
 -- the numbers of the sheet's save
@@ -41,18 +41,18 @@ save-number s e = rw (save-fault s e) (go (sizeAllowed s) (passes e) (leb (slots
     go false b c = omega arith
 
 -- the number of a summary that is refused
-pub data Handed (page : Summary) : Type 0 where
-  by-37 : misshapen page ≡ true → handedFault page ≡ 37 → Handed page
-  by-24 : misshapen page ≡ false → over page ≡ true → handedFault page ≡ 24 → Handed page
-  by-none : misshapen page ≡ false → over page ≡ false → handedFault page ≡ 0 → Handed page
+pub data HandedFault (page : Summary) : Type 0 where
+  by-37 : misshapen page ≡ true → handedFault page ≡ 37 → HandedFault page
+  by-24 : misshapen page ≡ false → over page ≡ true → handedFault page ≡ 24 → HandedFault page
+  by-none : misshapen page ≡ false → over page ≡ false → handedFault page ≡ 0 → HandedFault page
 
-pub handed : (page : Summary) → Handed page
-handed page = go (misshapen page) (over page) refl refl
+pub handed-fault : (page : Summary) → HandedFault page
+handed-fault page = go (misshapen page) (over page) refl refl
   where
     number : (m o : Bool) → misshapen page ≡ m → over page ≡ o → handedFault page ≡ pick m 37 (pick o 24 0)
     number m o e f = unfold handedFault in simp (e, f)
 
-    go : (m o : Bool) → misshapen page ≡ m → over page ≡ o → Handed page
+    go : (m o : Bool) → misshapen page ≡ m → over page ≡ o → HandedFault page
     go true o e f = by-37 e (number true o e f)
     go false true e f = by-24 e f (number false true e f)
     go false false e f = by-none e f (number false false e f)
@@ -76,17 +76,17 @@ became s page x t g = by-summary (eqb (handedFault page) 0) refl
     fault-is b h = unfold keepFault in ap (λ (u : Bool). pick u (saveFault s (x .entry)) (handedFault page)) h
 
     answer-by : (n : ℕ) (b : Bool) → keepFault s page (x .entry) ≡ n → eqb n 0 ≡ b
-        → x .answer ≡ pick b (keptOf (pick (closes (x .entry) (x .allowance)) (withRecord (x .entry) page) page) (min (x .allowance) (lengthOf (x .entry) + 2)) 0) (keptOf page 0 n)
+        → x .answer ≡ pick b (keptOf (pick (closesRecord (x .entry) (x .allowance)) (withRecord (x .entry) page) page) (min (x .allowance) (lengthOf (x .entry) + 2)) 0) (keptOf page 0 n)
     answer-by n b f h =
         g .answers
-        ∙ ap (λ (k : ℕ). pick (eqb k 0) (keptOf (pick (closes (x .entry) (x .allowance)) (withRecord (x .entry) page) page) (min (x .allowance) (lengthOf (x .entry) + 2)) 0) (keptOf page 0 k)) f
-        ∙ ap (λ (u : Bool). pick u (keptOf (pick (closes (x .entry) (x .allowance)) (withRecord (x .entry) page) page) (min (x .allowance) (lengthOf (x .entry) + 2)) 0) (keptOf page 0 n)) h
+        ∙ ap (λ (k : ℕ). pick (eqb k 0) (keptOf (pick (closesRecord (x .entry) (x .allowance)) (withRecord (x .entry) page) page) (min (x .allowance) (lengthOf (x .entry) + 2)) 0) (keptOf page 0 k)) f
+        ∙ ap (λ (u : Bool). pick u (keptOf (pick (closesRecord (x .entry) (x .allowance)) (withRecord (x .entry) page) page) (min (x .allowance) (lengthOf (x .entry) + 2)) 0) (keptOf page 0 n)) h
 
     left-by : (n : ℕ) (b : Bool) → keepFault s page (x .entry) ≡ n → eqb n 0 ≡ b → t ≡ pick b (after s (x .entry) (x .allowance)) s
     left-by n b f h =
         g .leaves ∙ ap (λ (k : ℕ). pick (eqb k 0) (after s (x .entry) (x .allowance)) s) f ∙ ap (λ (u : Bool). pick u (after s (x .entry) (x .allowance)) s) h
 
-    by-stores : handedFault page ≡ 0 → saveFault s (x .entry) ≡ 0 → keepFault s page (x .entry) ≡ 0 → (b : Bool) → closes (x .entry) (x .allowance) ≡ b → Became s page x t
+    by-stores : handedFault page ≡ 0 → saveFault s (x .entry) ≡ 0 → keepFault s page (x .entry) ≡ 0 → (b : Bool) → closesRecord (x .entry) (x .allowance) ≡ b → Became s page x t
     by-stores h f k true c =
         let l = leb-true (lengthOf (x .entry) + 2) (x .allowance) c in
         let m : min (x .allowance) (lengthOf (x .entry) + 2) ≡ lengthOf (x .entry) + 2 = omega arith in
@@ -105,7 +105,7 @@ became s page x t g = by-summary (eqb (handedFault page) 0) refl
     by-save : handedFault page ≡ 0 → keepFault s page (x .entry) ≡ saveFault s (x .entry) → (b : Bool) → eqb (saveFault s (x .entry)) 0 ≡ b → Became s page x t
     by-save h k true q =
         let f = eqb-true (saveFault s (x .entry)) 0 q in
-        by-stores h f (k ∙ f) (closes (x .entry) (x .allowance)) refl
+        by-stores h f (k ∙ f) (closesRecord (x .entry) (x .allowance)) refl
     by-save h k false q =
         save-bad h (eqb-false (saveFault s (x .entry)) 0 q) (answer-by (saveFault s (x .entry)) false k q) (left-by (saveFault s (x .entry)) false k q)
 

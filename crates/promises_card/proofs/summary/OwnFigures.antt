@@ -18,7 +18,7 @@ use Rattle.summary.specs.declared.Kept.{Kept}
 use Rattle.summary.specs.Line.{pairOf, together, page}
 use Rattle.summary.specs.Worked.{pairIn}
 use Rattle.summary.specs.Handed.{linesOf, handedFault}
-use Rattle.summary.specs.Updated.{lineOf, hasLine, put, fits, oneOther, withLine, withRecord}
+use Rattle.summary.specs.Updated.{lineOf, hasLine, putAmong, fits, oneOther, withLine, withRecord}
 use Rattle.summary.specs.inside.Placed.{Sound}
 use Rattle.summary.proofs.HandedIn.{small-not-refused}
 use Rattle.summary.proofs.Pages.{lines-page}
@@ -48,11 +48,11 @@ module _ (e : Entry) (s : Summary) (sound : Sound s) where
 
   -- with a line for it
   module _ (fit : fits x s ≡ true) where
-    after-fit : withRecord e s ≡ page (s .others) (put x ls)
+    after-fit : withRecord e s ≡ page (s .others) (putAmong x ls)
     after-fit = record-line ∙ with-fit x s sound fit
 
-    lines-fit : linesOf (withRecord e s) ≡ put x ls
-    lines-fit = ap linesOf after-fit ∙ lines-page (s .others) (put x ls)
+    lines-fit : linesOf (withRecord e s) ≡ putAmong x ls
+    lines-fit = ap linesOf after-fit ∙ lines-page (s .others) (putAmong x ls)
 
     held-fit : (j : ℕ) (b : Bool) → eqb (pairOf x) j ≡ b → lineIn j (withRecord e s) ≡ pick b (joined x (heldAt pairOf j ls)) (heldAt pairOf j ls)
     held-fit j b h =
@@ -63,7 +63,7 @@ module _ (e : Entry) (s : Summary) (sound : Sound s) where
 
     count-fit : withRecord e s .count ≡ s .count + pick (hasLine (pairOf x) ls) 0 1
     count-fit =
-        let counted : page (s .others) (put x ls) .count ≡ length (put x ls) = unfold page in refl in
+        let counted : page (s .others) (putAmong x ls) .count ≡ length (putAmong x ls) = unfold page in refl in
         ap (λ (t : Summary). t .count) after-fit ∙ counted ∙ length-put x ls (sound .rises)
         ∙ ap (λ (n : ℕ). n + pick (hasLine (pairOf x) ls) 0 1) (sym (count-sound x s sound))
 

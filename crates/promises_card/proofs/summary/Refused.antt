@@ -22,7 +22,7 @@ use Rattle.summary.proofs.Saved.{fault-handed, fault-save}
 use Rattle.summary.proofs.JoinTests.{fault-by}
 use Rattle.promises_card.specs.summary.InOrder.{Ordered}
 use Rattle.promises_card.specs.summary.Refused.{FewEnough, RefusedExactly}
-use Rattle.promises_card.proofs.summary.Kept.{Handed, by-37, by-24, by-none, handed, save-number}
+use Rattle.promises_card.proofs.summary.Kept.{HandedFault, by-37, by-24, by-none, handed-fault, save-number}
 use Rattle.promises_card.proofs.summary.Shape.{apart, right-ordered, ordered-right, few-over, over-few}
 use Rattle.promises_card.proofs.summary.FirstFault.{kept-number}
 use Rattle.promises_card.proofs.summary.JoinPassed.{number-is}
@@ -35,9 +35,9 @@ module _ (sheet : List ℕ) (s : Summary) (e : Entry) (allowance : ℕ) (answer 
   own n q = omega (arith, q, save-number sheet e)
 
   shape-of : (answer .number ≡ 37) ↔ (Ordered s → ⊥)
-  shape-of = by (handed s)
+  shape-of = by (handed-fault s)
     where
-      by : Handed s → (answer .number ≡ 37) ↔ (Ordered s → ⊥)
+      by : HandedFault s → (answer .number ≡ 37) ↔ (Ordered s → ⊥)
       by (by-37 bad q) = (λ n o. apart (sym bad ∙ ordered-right s o), λ no. said ∙ fault-handed sheet s e 37 q (λ z. omega arith))
       by (by-24 good bad q) =
           (λ n o. omega (arith, sym n ∙ said ∙ fault-handed sheet s e 24 q (λ z. omega arith)), λ no. absurd (no (right-ordered s good)))
@@ -45,9 +45,9 @@ module _ (sheet : List ℕ) (s : Summary) (e : Entry) (allowance : ℕ) (answer 
           (λ n o. omega (arith, n, own (answer .number) (said ∙ fault-save sheet s e (saveFault sheet e) q refl)), λ no. absurd (no (right-ordered s good)))
 
   counts-of : (answer .number ≡ 24) ↔ (Ordered s × (FewEnough s → ⊥))
-  counts-of = by (handed s)
+  counts-of = by (handed-fault s)
     where
-      by : Handed s → (answer .number ≡ 24) ↔ (Ordered s × (FewEnough s → ⊥))
+      by : HandedFault s → (answer .number ≡ 24) ↔ (Ordered s × (FewEnough s → ⊥))
       by (by-37 bad q) =
           (λ n. absurd (omega (arith, sym n ∙ said ∙ fault-handed sheet s e 37 q (λ z. omega arith))), λ both. apart (sym bad ∙ ordered-right s (both .0)))
       by (by-24 good bad q) =

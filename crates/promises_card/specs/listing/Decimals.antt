@@ -2,10 +2,10 @@
 use mathlib.Core.Path.{_≡_}
 use Prim.Native.Nat.{ℕ, _^_, _≤_, _<_}
 use lib.ListN.{length, getD}
-use Rattle.listing.specs.Text.{decimal}
+use Rattle.listing.specs.Text.{inDecimal}
 use Rattle.promises_card.specs.listing.Records.{readAfter}
 
 pub record ListingDecimals : Type 0 where
-  pub digits : (n i : ℕ) → i < length (decimal n) → (48 ≤ getD (decimal n) i 0) × (getD (decimal n) i 0 ≤ 57)
-  pub number : (n : ℕ) → n < 10 ^ 10 → readAfter 0 (decimal n) ≡ n
-  pub no-zero-first : (n : ℕ) → 10 ≤ n → n < 10 ^ 10 → 48 < getD (decimal n) 0 0
+  pub digits : (n i : ℕ) → i < length (inDecimal n) → (48 ≤ getD (inDecimal n) i 0) × (getD (inDecimal n) i 0 ≤ 57)
+  pub number : (n : ℕ) → n < 10 ^ 10 → readAfter 0 (inDecimal n) ≡ n
+  pub no-zero-first : (n : ℕ) → 10 ≤ n → n < 10 ^ 10 → 48 < getD (inDecimal n) 0 0

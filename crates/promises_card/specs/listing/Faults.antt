@@ -5,11 +5,11 @@ use Prim.Native.Nat.{ℕ}
 use Rattle.frame.specs.declared.Reply.the-variants.{Refused, Unreadable}
 use Rattle.frame.specs.Reply.{ReadsReply}
 use Rattle.sheet.specs.Record.{Entry}
-use Rattle.listing.specs.Text.{ascii, decimal}
+use Rattle.listing.specs.Text.{ascii, inDecimal}
 use Rattle.listing.specs.Lines.{recordText}
 
 pub record ListingFaults : Type 0 where
   pub unreadable : (e : Entry) (place : ℕ) → ReadsReply (e .settings) (e .address) (e .count) (e .reply) (Unreadable place)
-      → recordText e ≡ decimal (e .minute) ++ ascii " " ++ decimal (e .address) ++ ascii " " ++ (ascii "fault 7 " ++ decimal place)
+      → recordText e ≡ inDecimal (e .minute) ++ ascii " " ++ inDecimal (e .address) ++ ascii " " ++ (ascii "fault 7 " ++ inDecimal place)
   pub others : (e : Entry) (number : ℕ) → ReadsReply (e .settings) (e .address) (e .count) (e .reply) (Refused number)
-      → (number ≡ 7 → ⊥) × (recordText e ≡ decimal (e .minute) ++ ascii " " ++ decimal (e .address) ++ ascii " " ++ (ascii "fault " ++ decimal number))
+      → (number ≡ 7 → ⊥) × (recordText e ≡ inDecimal (e .minute) ++ ascii " " ++ inDecimal (e .address) ++ ascii " " ++ (ascii "fault " ++ inDecimal number))

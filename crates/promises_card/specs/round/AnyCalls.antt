@@ -14,7 +14,7 @@ use Rattle.summary.specs.Calls.{keepFault, MakesSummary}
 use Rattle.round.specs.Replies.{entriesOf}
 use Rattle.round.specs.Saving.{none, kept}
 use Rattle.round.specs.Calls.{SavesRound, SavesRoundWith}
-use Rattle.promises_card.specs.sheet.History.{Save, Takes, isClosed}
+use Rattle.promises_card.specs.sheet.History.{Save, TakesSheet, isClosed}
 use Rattle.promises_card.specs.sheet.OneSave.{storesOf}
 use Rattle.promises_card.specs.summary.Chain.{Step, Goes}
 use Rattle.promises_card.specs.summary.Chain as chain
@@ -31,7 +31,7 @@ pub data Call : Type 0 where
 
 -- It takes one sheet to another as its contract says.
 abbrev pub Does : List ℕ → Call → List ℕ → Type 0
-Does s (one x) t = Takes s x t
+Does s (one x) t = TakesSheet s x t
 Does s (one-with page x) t = Goes s page x t
 Does s (round c) t = SavesRound s (c .polled) (c .allowance) (c .answer) t
 Does s (round-with page c) t = SavesRoundWith s page (c .polled) (c .allowance) (c .answer) t
@@ -42,24 +42,24 @@ pub data Calls (from : List ℕ) : List Call → List ℕ → Type 0 where
   called : {cs : List Call} {s t : List ℕ} (c : Call) → Calls from cs s → Does s c t → Calls from (c ∷ cs) t
 
 -- The stores that a call makes, in order, and how many it tells.
-abbrev pub storesIn : List ℕ → Call → List Store
-storesIn s (one x) = storesOf s (x .entry) (x .allowance)
-storesIn s (one-with page x) = pick (eqb (keepFault s page (x .entry)) 0) (take (x .allowance) (stores (32 * next s) (x .entry))) []
-storesIn s (round c) = roundStores s none (c .polled) (c .allowance)
-storesIn s (round-with page c) = roundStores s (kept page) (c .polled) (c .allowance)
+abbrev pub storesByCall : List ℕ → Call → List Store
+storesByCall s (one x) = storesOf s (x .entry) (x .allowance)
+storesByCall s (one-with page x) = pick (eqb (keepFault s page (x .entry)) 0) (take (x .allowance) (stores (32 * next s) (x .entry))) []
+storesByCall s (round c) = roundStores s none (c .polled) (c .allowance)
+storesByCall s (round-with page c) = roundStores s (kept page) (c .polled) (c .allowance)
 
-abbrev pub storesTold : Call → ℕ
-storesTold (one x) = storesMade (x .answer)
-storesTold (one-with page x) = x .answer .count
-storesTold (round c) = c .answer .stores
-storesTold (round-with page c) = c .answer .stores
+abbrev pub storesToldBy : Call → ℕ
+storesToldBy (one x) = storesMade (x .answer)
+storesToldBy (one-with page x) = x .answer .count
+storesToldBy (round c) = c .answer .stores
+storesToldBy (round-with page c) = c .answer .stores
 
 -- The records that a call tells as closed: of a round its first replies.
-abbrev pub closedBy : Call → List Entry
-closedBy (one x) = pick (isClosed x) (x .entry ∷ []) []
-closedBy (one-with page x) = pick (chain.isClosed x) (x .entry ∷ []) []
-closedBy (round c) = take (c .answer .closed) (entriesOf (c .polled))
-closedBy (round-with page c) = take (c .answer .closed) (entriesOf (c .polled))
+abbrev pub closedRecords : Call → List Entry
+closedRecords (one x) = pick (isClosed x) (x .entry ∷ []) []
+closedRecords (one-with page x) = pick (chain.isClosed x) (x .entry ∷ []) []
+closedRecords (round c) = take (c .answer .closed) (entriesOf (c .polled))
+closedRecords (round-with page c) = take (c .answer .closed) (entriesOf (c .polled))
 
 -- The stores and the number of each save that a call tried, by what it tells.
 abbrev pub answersBy : Call → List (ℕ × ℕ)
@@ -76,7 +76,7 @@ slotsTaken (a ∷ more) = pick (ltb 0 (a .0)) 1 0 + slotsTaken more
 -- Of calls, the latest first: the records closed, the oldest first, and the slots taken.
 unfoldable pub closedAll : List Call → List Entry
 closedAll [] = []
-closedAll (c ∷ cs) = closedAll cs ++ closedBy c
+closedAll (c ∷ cs) = closedAll cs ++ closedRecords c
 
 unfoldable pub takenAll : List Call → ℕ
 unfolding slotsTaken

@@ -14,7 +14,7 @@ use Rattle.round.specs.declared.Round.{Round}
 use Rattle.round.specs.declared.Rounded.{Rounded}
 use Rattle.round.specs.declared.RoundedPage.{RoundedPage}
 use Rattle.round.specs.Replies.{entriesOf}
-use Rattle.round.specs.Saving.{Page, none, kept, replyFault, pageWith}
+use Rattle.round.specs.Saving.{Page, none, kept, saveRefusal, pageWith}
 use Rattle.round.specs.Calls.{mostReplies, SavesRound, SavesRoundWith}
 
 -- The stores of replies saved one after another, with nothing cut: those of each, in order, into the slot that it goes to on the sheet that the ones before it
@@ -22,7 +22,7 @@ use Rattle.round.specs.Calls.{mostReplies, SavesRound, SavesRoundWith}
 unfoldable pub storesFrom : List ℕ → Page → List Entry → List Store
 storesFrom s page [] = []
 storesFrom s page (e ∷ es) =
-    pick (eqb (replyFault s page e) 0) (stores (32 * next s) e ++ storesFrom (made s (stores (32 * next s) e)) (pageWith e page) es) []
+    pick (eqb (saveRefusal s page e) 0) (stores (32 * next s) e ++ storesFrom (made s (stores (32 * next s) e)) (pageWith e page) es) []
 
 -- The stores that a round makes, in order: as many as it may. One of more than 30 replies makes none.
 abbrev pub roundStores : List ℕ → Page → Round → ℕ → List Store

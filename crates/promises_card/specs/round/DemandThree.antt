@@ -12,7 +12,7 @@ use Rattle.round.specs.declared.Rounded.{Rounded}
 use Rattle.round.specs.Replies.{entriesOf}
 use Rattle.promises_card.specs.sheet.History.{Save, History, SheetAfter, blankSheet, closedIn, brokenIn}
 use Rattle.promises_card.specs.sheet.ListAndFull.{Begins}
-use Rattle.promises_card.specs.round.Tries.{trySave, storesOf}
+use Rattle.promises_card.specs.round.Tries.{trySave, storesInTries}
 use Rattle.promises_card.specs.round.OneByOne.{BySaves}
 use Rattle.promises_card.specs.round.Histories.{Called, Rounds, Flattened}
 
@@ -23,7 +23,7 @@ pub record StoppedFull (n : ℕ) (h : List Save) (allowance : ℕ) (saves : List
   pub before : List Save
   pub latest : saves ≡ last ∷ before
   pub good : passes (last .entry) ≡ true
-  pub stores-left : storesOf (map trySave before) < allowance
+  pub stores-left : storesInTries (map trySave before) < allowance
   pub all-slots : closedIn (before ++ h) + brokenIn (before ++ h) ≡ n
 
 pub record OverRounds : Type 0 where

@@ -20,7 +20,7 @@ use Rattle.promises_card.specs.sheet.History.{Save, SheetAfter, blankShe
 use Rattle.promises_card.specs.sheet.ListAndFull.{covered, Begins}
 use Rattle.promises_card.specs.summary.Chain.{Step, Goes, summaryRefused}
 use Rattle.promises_card.specs.round.Histories.{Called, CalledWith}
-use Rattle.promises_card.specs.round.AnyCalls.{Call, one, one-with, round, round-with, Does, Calls, storesIn, storesTold, closedBy, closedAll, takenAll, Keeps}
+use Rattle.promises_card.specs.round.AnyCalls.{Call, one, one-with, round, round-with, Does, Calls, storesByCall, storesToldBy, closedRecords, closedAll, takenAll, Keeps}
 
 -- A round stopped at a good reply with stores left and no slot: its next reply passes the checks, and the slots taken before it and those of its closed replies number
 -- all.
@@ -34,9 +34,9 @@ pub record NoSlotLeft (n taken : ℕ) (replies : List Entry) (closed stores allo
 
 pub record DemandThreeWhole : Type 0 where
   -- count: each call makes its stores, one after another, and tells how many they are.
-  pub count : (s : List ℕ) (c : Call) (t : List ℕ) → Does s c t → (t ≡ made s (storesIn s c)) × (storesTold c ≡ length (storesIn s c))
+  pub count : (s : List ℕ) (c : Call) (t : List ℕ) → Does s c t → (t ≡ made s (storesByCall s c)) × (storesToldBy c ≡ length (storesByCall s c))
   -- list: on any sheet of an allowed size the list grows by the records that the call tells as closed.
-  pub list : (s : List ℕ) → sizeAllowed s ≡ true → (c : Call) (t : List ℕ) → Does s c t → listOf t ≡ listOf s ++ closedBy c
+  pub list : (s : List ℕ) → sizeAllowed s ≡ true → (c : Call) (t : List ℕ) → Does s c t → listOf t ≡ listOf s ++ closedRecords c
   -- The sheet that calls left on a blank one is one that a history of saves left, which closed just those records and took just those slots; so all that demand 3 says of
   -- a history holds.
   pub history : (n : ℕ) → n ≤ 2048 → (cs : List Call) (s : List ℕ) → Calls (blankSheet n) cs s
@@ -62,7 +62,7 @@ pub record DemandThreeWhole : Type 0 where
   pub stays : (s : List ℕ) → sizeAllowed s ≡ true → (later : List Call) (t : List ℕ) → Calls s later t → Begins (listOf s) (listOf t)
   -- cut, of a save with a summary: the sheet after the first k stores of one told of more is the sheet after one told of k.
   pub cut-one-with : (s : List ℕ) (page : Summary) (x : Step) (k : ℕ) → k ≤ x .allowance → (answer : Kept) (t : List ℕ)
-      → SavesWith s page (x .entry) k answer t → made s (take k (storesIn s (one-with page x))) ≡ t
+      → SavesWith s page (x .entry) k answer t → made s (take k (storesByCall s (one-with page x))) ≡ t
   -- At any moment the summary that a host keeps is the one worked out from the list of its sheet, and no call that is handed it is refused by 37 or 24.
   pub at-any-moment : (from : List ℕ) → sizeAllowed from ≡ true → (t : List ℕ) (page : Summary) → Keeps from t page → page ≡ summaryOf (listOf t)
   pub never : (from : List ℕ) → sizeAllowed from ≡ true → (s : List ℕ) (page : Summary) → Keeps from s page → (x : Step) (t : List ℕ) → Goes s page x t

@@ -15,11 +15,11 @@ use Rattle.promises_card.specs.summary.Chain.{Step, Chain}
 use Rattle.promises_card.specs.summary.FirstFault.{keepTable, keepOrder}
 use Rattle.promises_card.specs.round.OneByOne.{BySaves, BySteps}
 
-abbrev pub answered : ℕ → ℕ → ℕ → Rounded
-answered closed stores number = record { closed = closed; stores = stores; number = number }
+abbrev pub rounded : ℕ → ℕ → ℕ → Rounded
+rounded closed stores number = record { closed = closed; stores = stores; number = number }
 
-abbrev pub answeredWith : Summary → ℕ → ℕ → ℕ → RoundedPage
-answeredWith page closed stores number = record { summary = page; closed = closed; stores = stores; number = number }
+abbrev pub roundedPage : Summary → ℕ → ℕ → ℕ → RoundedPage
+roundedPage page closed stores number = record { summary = page; closed = closed; stores = stores; number = number }
 
 -- The reply that a round stopped at was refused by the first number that applies to it, on the sheet that the replies before it left.
 pub record StoppedBy (s : List ℕ) (saves : List Save) (number : ℕ) : Type 0 where
@@ -42,19 +42,19 @@ pub record StoppedByWith (s : List ℕ) (page : Summary) (steps : List Step) (nu
 pub record Stops : Type 0 where
   -- More than 30 replies: 23, whatever sheet, summary and allowance, and no byte is changed.
   pub too-many : (s : List ℕ) (r : Round) (allowance : ℕ) (answer : Rounded) (t : List ℕ) → SavesRound s r allowance answer t
-      → mostReplies < r .count → (answer ≡ answered 0 0 23) × (t ≡ s)
+      → mostReplies < r .count → (answer ≡ rounded 0 0 23) × (t ≡ s)
   pub too-many-with : (s : List ℕ) (page : Summary) (r : Round) (allowance : ℕ) (answer : RoundedPage) (t : List ℕ)
-      → SavesRoundWith s page r allowance answer t → mostReplies < r .count → (answer ≡ answeredWith page 0 0 23) × (t ≡ s)
+      → SavesRoundWith s page r allowance answer t → mostReplies < r .count → (answer ≡ roundedPage page 0 0 23) × (t ≡ s)
   -- An empty round changes nothing.
   pub empty : (s : List ℕ) (r : Round) (allowance : ℕ) (answer : Rounded) (t : List ℕ) → SavesRound s r allowance answer t
-      → r .count ≡ 0 → (answer ≡ answered 0 0 0) × (t ≡ s)
+      → r .count ≡ 0 → (answer ≡ rounded 0 0 0) × (t ≡ s)
   pub empty-with : (s : List ℕ) (page : Summary) (r : Round) (allowance : ℕ) (answer : RoundedPage) (t : List ℕ)
-      → SavesRoundWith s page r allowance answer t → r .count ≡ 0 → (answer ≡ answeredWith page 0 0 0) × (t ≡ s)
+      → SavesRoundWith s page r allowance answer t → r .count ≡ 0 → (answer ≡ roundedPage page 0 0 0) × (t ≡ s)
   -- With no stores nothing is tried, whatever would be refused.
   pub no-stores : (s : List ℕ) (r : Round) (answer : Rounded) (t : List ℕ) → SavesRound s r 0 answer t
-      → r .count ≤ mostReplies → (answer ≡ answered 0 0 0) × (t ≡ s)
+      → r .count ≤ mostReplies → (answer ≡ rounded 0 0 0) × (t ≡ s)
   pub no-stores-with : (s : List ℕ) (page : Summary) (r : Round) (answer : RoundedPage) (t : List ℕ)
-      → SavesRoundWith s page r 0 answer t → r .count ≤ mostReplies → (answer ≡ answeredWith page 0 0 0) × (t ≡ s)
+      → SavesRoundWith s page r 0 answer t → r .count ≤ mostReplies → (answer ≡ roundedPage page 0 0 0) × (t ≡ s)
   -- A round that used its stores up says no number.
   pub used-up : (s : List ℕ) (r : Round) (allowance : ℕ) (answer : Rounded) (t : List ℕ) → BySaves s r allowance answer t
       → answer .stores ≡ allowance → answer .number ≡ 0

@@ -31,9 +31,9 @@ unfoldable pub closedOf : List Try → ℕ
 closedOf [] = 0
 closedOf (x ∷ h) = closedOf h + pick (eqb (x .stores) (lengthOf (x .entry) + 2)) 1 0
 
-unfoldable pub storesOf : List Try → ℕ
-storesOf [] = 0
-storesOf (x ∷ h) = storesOf h + x .stores
+unfoldable pub storesInTries : List Try → ℕ
+storesInTries [] = 0
+storesInTries (x ∷ h) = storesInTries h + x .stores
 
 abbrev pub numberOf : List Try → ℕ
 numberOf [] = 0
@@ -51,7 +51,7 @@ answersOf (x ∷ h) = answersOf h ++ (x .stores, x .number) ∷ []
 -- Each was tried because none before it was refused and stores were left, and was given what was left.
 pub data Rules (allowance : ℕ) : List Try → Type 0 where
   none-yet : Rules allowance []
-  next : {h : List Try} (x : Try) → Rules allowance h → numberOf h ≡ 0 → storesOf h < allowance → x .given ≡ allowance - storesOf h
+  next : {h : List Try} (x : Try) → Rules allowance h → numberOf h ≡ 0 → storesInTries h < allowance → x .given ≡ allowance - storesInTries h
       → Rules allowance (x ∷ h)
 
 -- A round of these replies tried these saves and was answered so. The tries are a beginning of its replies; and it stopped because all were tried, the
@@ -60,7 +60,7 @@ pub record WentSo (allowance : ℕ) (replies : List Entry) (tries : List Try) (c
   pub begins : Begins (repliesOf tries) replies
   pub rules : Rules allowance tries
   pub closed-are : closed ≡ closedOf tries
-  pub stores-are : stores ≡ storesOf tries
+  pub stores-are : stores ≡ storesInTries tries
   pub number-is : number ≡ numberOf tries
   pub stops : (repliesOf tries ≡ replies) ⊎ ((number ≢ 0) ⊎ (stores ≡ allowance))
 

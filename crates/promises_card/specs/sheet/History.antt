@@ -18,13 +18,13 @@ pub record Save : Type 0 where
   pub answer : Saved
 
 -- It takes one sheet to another as the contract of the call says.
-abbrev pub Takes : List ℕ → Save → List ℕ → Type 0
-Takes s x t = Saves s (x .entry) (x .allowance) (x .answer) t
+abbrev pub TakesSheet : List ℕ → Save → List ℕ → Type 0
+TakesSheet s x t = Saves s (x .entry) (x .allowance) (x .answer) t
 
 -- A history from one sheet to another, the latest save first.
 pub data History (from : List ℕ) : List Save → List ℕ → Type 0 where
   begun : History from [] from
-  saved : {h : List Save} {s t : List ℕ} (x : Save) → History from h s → Takes s x t → History from (x ∷ h) t
+  saved : {h : List Save} {s t : List ℕ} (x : Save) → History from h s → TakesSheet s x t → History from (x ∷ h) t
 
 -- A blank sheet of n slots.
 abbrev pub blankSheet : ℕ → List ℕ
@@ -39,9 +39,13 @@ pub record SheetAfter (n : ℕ) (h : List Save) (s : List ℕ) : Type 0 where
 abbrev pub allStores : Save → ℕ
 allStores x = lengthOf (x .entry) + 2
 
+-- A record is closed by so many stores where they are all.
+abbrev pub closedWith : Entry → ℕ → Bool
+closedWith e stores = eqb stores (lengthOf e + 2)
+
 -- A save that made all its stores closed a record. A broken save made at least one, not all.
 abbrev pub isClosed : Save → Bool
-isClosed x = eqb (storesMade (x .answer)) (allStores x)
+isClosed x = closedWith (x .entry) (storesMade (x .answer))
 
 abbrev pub isBroken : Save → Bool
 isBroken x = ltb 0 (storesMade (x .answer)) && ltb (storesMade (x .answer)) (allStores x)

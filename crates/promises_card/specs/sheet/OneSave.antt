@@ -12,7 +12,7 @@ use Rattle.sheet.specs.Record.{Entry}
 use Rattle.sheet.specs.Slots.{spoiled, holds, slots, slotAt, slotOf, next}
 use Rattle.sheet.specs.Stores.{Store, _puts_, made, stores}
 use Rattle.sheet.specs.Save.{saveFault, Saves, savedNumber, storesMade}
-use Rattle.promises_card.specs.sheet.History.{Save, Takes, allStores}
+use Rattle.promises_card.specs.sheet.History.{Save, TakesSheet, allStores}
 
 -- The stores that a save makes, in order: none where it is refused.
 abbrev pub storesOf : List ℕ → Entry → ℕ → List Store
@@ -55,7 +55,7 @@ pub record OneSave : Type 0 where
   pub refused : (s : List ℕ) (e : Entry) (allowance : ℕ) (answer : Saved) (t : List ℕ) → Saves s e allowance answer t
       → savedNumber answer ≢ 0 → t ≡ s
   -- A save that made all its stores leaves a slot that reads as its record, and a broken one a slot that reads as spoiled.
-  pub closes : (x : Save) (s t : List ℕ) → Takes s x t → storesMade (x .answer) ≡ allStores x
+  pub closes : (x : Save) (s t : List ℕ) → TakesSheet s x t → storesMade (x .answer) ≡ allStores x
       → slotOf (slotAt t (next s)) ≡ holds (x .entry)
-  pub breaks : (x : Save) (s t : List ℕ) → Takes s x t → 0 < storesMade (x .answer) → storesMade (x .answer) < allStores x
+  pub breaks : (x : Save) (s t : List ℕ) → TakesSheet s x t → 0 < storesMade (x .answer) → storesMade (x .answer) < allStores x
       → slotOf (slotAt t (next s)) ≡ spoiled

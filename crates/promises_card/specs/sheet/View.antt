@@ -9,7 +9,7 @@ use Rattle.sheet.specs.declared.Found.the-variants.{Refused}
 use Rattle.sheet.specs.declared.view.Sheet.{Sheet}
 use Rattle.sheet.specs.declared.view.Counted.{Counted}
 use Rattle.sheet.specs.Slots.{sizeAllowed, slots, slotAt, slotOf}
-use Rattle.sheet.specs.Look.{Looks, told, bare}
+use Rattle.sheet.specs.Look.{Looks, lookTold, bare}
 use Rattle.sheet.specs.View.{Opens, Sees, Counts, countedNumber, slotsTold}
 use Rattle.promises_frame.specs.One.{One}
 
@@ -19,7 +19,7 @@ pub record SheetView : Type 0 where
       → Opens lent view → Sees (now (view .bytes)) (view .slots) slot seen → Looks (now lent) slot looked → seen ≡ looked
   -- Any other, whatever count it holds: a slot that it counts and whose 32 bytes are there, a slot beyond its count, and one beyond its bytes.
   pub there : (bytes : List ℕ) (count slot : ℕ) (seen : Looked) → Sees bytes count slot seen
-      → slot < count → slot < slots bytes → seen ≡ told (slotOf (slotAt bytes slot))
+      → slot < count → slot < slots bytes → seen ≡ lookTold (slotOf (slotAt bytes slot))
   pub beyond-count : (bytes : List ℕ) (count slot : ℕ) (seen : Looked) → Sees bytes count slot seen → count ≤ slot → seen ≡ bare (Refused 12)
   pub beyond-bytes : (bytes : List ℕ) (count slot : ℕ) (seen : Looked) → Sees bytes count slot seen → slots bytes ≤ slot → seen ≡ bare (Refused 12)
   -- The slots of a sheet of an allowed size are counted; of any other 12 is told, and no slot.

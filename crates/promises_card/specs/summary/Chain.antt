@@ -1,16 +1,16 @@
 -- Saves that keep a summary, one after another: each is handed the summary that the one before it left.
 use mathlib.Core.Bool.{Bool, _||_}
 use mathlib.Core.List.{List, [], _∷_}
-use Prim.Native.Nat.{ℕ, _+_, _^_, _<_}
+use Prim.Native.Nat.{ℕ, _^_, _<_}
 use lib.Dec.{eqb}
 use Rattle.frame.specs.Pick.{pick}
 use Rattle.sheet.specs.declared.Saved.{Saved}
 use Rattle.sheet.specs.declared.Saved.the-variants.{Stores, Refused}
-use Rattle.sheet.specs.Record.{Entry, lengthOf}
+use Rattle.sheet.specs.Record.{Entry}
 use Rattle.summary.specs.declared.Summary.{Summary}
 use Rattle.summary.specs.declared.Kept.{Kept}
 use Rattle.summary.specs.Calls.{SavesWith}
-use Rattle.promises_card.specs.sheet.History.{Save}
+use Rattle.promises_card.specs.sheet.History.{Save, closedWith}
 
 -- A save: its record, whose minute has 32 bits, how many stores it may make, and what it was answered.
 pub record Step : Type 0 where
@@ -31,7 +31,7 @@ pub data Chain (from : List ℕ) (begin : Summary) : List Step → List ℕ → 
 
 -- It closed its record: all stores were made.
 abbrev pub isClosed : Step → Bool
-isClosed x = eqb (x .answer .count) (lengthOf (x .entry) + 2)
+isClosed x = closedWith (x .entry) (x .answer .count)
 
 -- It was refused by 37 or by 24.
 abbrev pub summaryRefused : Step → Bool
@@ -45,6 +45,6 @@ abbrev pub asSave : Step → Save
 asSave x = record { entry = x .entry; minute-fits = x .minute-fits; allowance = x .allowance; answer = savedAs (x .answer) }
 
 -- The saves of a chain that were not so refused.
-unfoldable pub tried : List Step → List Save
-tried [] = []
-tried (x ∷ h) = pick (summaryRefused x) (tried h) (asSave x ∷ tried h)
+unfoldable pub savesTried : List Step → List Save
+savesTried [] = []
+savesTried (x ∷ h) = pick (summaryRefused x) (savesTried h) (asSave x ∷ savesTried h)

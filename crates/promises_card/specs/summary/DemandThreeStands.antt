@@ -8,7 +8,7 @@ use Prim.Native.Nat.{ℕ}
 use Rattle.sheet.specs.Save.{Saves}
 use Rattle.summary.specs.declared.Summary.{Summary}
 use Rattle.promises_card.specs.sheet.History.{History}
-use Rattle.promises_card.specs.summary.Chain.{Step, Goes, Chain, summaryRefused, savedAs, tried}
+use Rattle.promises_card.specs.summary.Chain.{Step, Goes, Chain, summaryRefused, savedAs, savesTried}
 
 pub record DemandThreeStands : Type 0 where
   -- One save, with the same answer and the same sheet after it.
@@ -18,4 +18,4 @@ pub record DemandThreeStands : Type 0 where
       → (t ≡ s) × (x .answer .number ≢ 13)
   -- A whole chain: leaving out the saves so refused gives a history of the sheet.
   pub history : (from : List ℕ) (begin : Summary) (h : List Step) (t : List ℕ) (page : Summary) → Chain from begin h t page
-      → History from (tried h) t
+      → History from (savesTried h) t

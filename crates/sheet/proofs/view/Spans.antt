@@ -12,13 +12,13 @@ use Rattle.frame.specs.Pick.{pick}
 use Rattle.sheet.specs.declared.Found.the-variants.{Refused}
 use Rattle.sheet.specs.declared.view.Span.{Span}
 use Rattle.sheet.specs.Slots.{sizeAllowed, slots, slotAt, slotOf}
-use Rattle.sheet.specs.Look.{bare, told, partOf, lookOf}
+use Rattle.sheet.specs.Look.{bare, lookTold, partOf, lookOf}
 use Rattle.sheet.specs.View.{slotsFor, seenOf}
 use Rattle.sheet.specs.inside.Span.{spanOf}
 use Rattle.sheet.proofs.SlotParts.{slot-long, slot-short, no-slot}
 
 -- what is seen of a slot that is counted and there, of one beyond the count, and of one beyond the bytes
-pub seen-there : (s : List ℕ) (n k : ℕ) → k < n → k < slots s → seenOf s n k ≡ told (slotOf (slotAt s k))
+pub seen-there : (s : List ℕ) (n k : ℕ) → k < n → k < slots s → seenOf s n k ≡ lookTold (slotOf (slotAt s k))
 unfolding seenOf partOf
 seen-there s n k counted near = simp (lt-ltb k n counted, eq-eqb (length (slotAt s k)) 32 (slot-long s k near))
 
@@ -65,7 +65,7 @@ pub opened-seen : (s : List ℕ) (k : ℕ) → seenOf s (slotsFor (length s)) k 
 unfolding lookOf
 opened-seen s k = go (sizeAllowed s) (ltb k (slots s)) refl refl
   where
-    go : (a b : Bool) → sizeAllowed s ≡ a → ltb k (slots s) ≡ b → seenOf s (slotsFor (length s)) k ≡ pick (a && b) (told (slotOf (slotAt s k))) (bare (Refused 12))
+    go : (a b : Bool) → sizeAllowed s ≡ a → ltb k (slots s) ≡ b → seenOf s (slotsFor (length s)) k ≡ pick (a && b) (lookTold (slotOf (slotAt s k))) (bare (Refused 12))
     go true true p q = ap (λ (n : ℕ). seenOf s n k) (allowed-slots s true p) ∙ seen-there s (slots s) k (ltb-true k (slots s) q) (ltb-true k (slots s) q)
     go true false p q = ap (λ (n : ℕ). seenOf s n k) (allowed-slots s true p) ∙ seen-uncounted s (slots s) k (ltb-false k (slots s) q)
     go false b p q = ap (λ (n : ℕ). seenOf s n k) (allowed-slots s false p) ∙ seen-uncounted s 0 k (omega arith)

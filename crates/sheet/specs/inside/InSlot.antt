@@ -15,8 +15,8 @@ inSlot e = recordOf e ++ replicate (8 - length (e .reply)) 0
 
 -- Which byte of its slot the k-th store of a record goes to, where so many bytes follow the length: from the version on, ascending; then the low
 -- byte of the length, then the high.
-abbrev pub turnOf : ℕ → ℕ → ℕ
-turnOf size k = pick (ltb k size) (2 + k) (size + 1 - k)
+abbrev pub storePlace : ℕ → ℕ → ℕ
+storePlace size k = pick (ltb k size) (2 + k) (size + 1 - k)
 
 -- What making the first stores of a record answers, and the sheet after it.
 pub record MakesStores (sheet : List ℕ) (at : ℕ) (e : Entry) (allowance many : ℕ) (left : List ℕ) : Type 0 where

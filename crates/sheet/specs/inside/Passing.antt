@@ -11,6 +11,6 @@ pub record Passes (sheet : List ℕ) (from left : ℕ) : Type 0 where
   pub same : nextUpTo sheet from ≡ nextUpTo sheet left
 
 -- Where more are left than the search had to leave, the last of them is used.
-pub record Stops (sheet : List ℕ) (from low left : ℕ) : Type 0 where
+pub record StopsAt (sheet : List ℕ) (from low left : ℕ) : Type 0 where
   pub passes : Passes sheet from left
   pub used : low < left → nextUpTo sheet left ≡ left

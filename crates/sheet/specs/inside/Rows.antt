@@ -3,7 +3,7 @@
 use mathlib.Core.List.{List, [], _∷_, _++_}
 use Prim.Native.Nat.{ℕ, zero, suc, _+_}
 use lib.ListN.{length}
-use Rattle.sheet.specs.Record.{Entry, bodyOf}
+use Rattle.sheet.specs.Record.{Entry, afterLength}
 
 -- So many numbers, one after another from a first on.
 abbrev pub upFrom : ℕ → ℕ → List ℕ
@@ -16,4 +16,4 @@ placesRow size = upFrom 2 size ++ 1 ∷ 0 ∷ []
 
 -- What they put there: what follows the length; then the length's low byte, then the high, which is 0 in every record.
 abbrev pub bytesRow : Entry → List ℕ
-bytesRow e = bodyOf e ++ length (bodyOf e) ∷ 0 ∷ []
+bytesRow e = afterLength e ++ length (afterLength e) ∷ 0 ∷ []

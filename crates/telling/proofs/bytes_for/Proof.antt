@@ -8,7 +8,7 @@ use borrow.Author.Needs.{needs}
 use lib.ListN.{length, replicate, set}
 use lib.Seq.{paste}
 use Rattle.sheet.specs.declared.Head.{Head}
-use Rattle.sheet.specs.Record.{bodyOf, lengthOf}
+use Rattle.sheet.specs.Record.{afterLength, lengthOf}
 use Rattle.sheet.specs.Look.{entryWith}
 use Rattle.sheet.specs.StoresTold.{zerosBehind}
 use Rattle.sheet.specs.inside.Rows.{bytesRow}
@@ -17,11 +17,11 @@ use Rattle.telling.proofs.bytes_for.Statement.{statement}
 use Rattle.telling.proofs.bytes_for.Tie as tie
 
 -- the row, filled from the front
-filled : (head : Head) (reply first one two : List ℕ) → length reply ≤ 8 → first ≡ bodyOf (entryWith head [])
+filled : (head : Head) (reply first one two : List ℕ) → length reply ≤ 8 → first ≡ afterLength (entryWith head [])
     → one ≡ paste (replicate 19 0) 0 first (length first) → two ≡ paste one 9 reply (length reply)
     → set (set two (9 + length reply) (9 + length reply)) (9 + length reply + 1) 0 ≡ zerosBehind (bytesRow (entryWith head reply))
 filled head reply first one two short is e₁ e₂ =
-    let xs = bodyOf (entryWith head []) in
+    let xs = afterLength (entryWith head []) in
     let front : one ≡ zerosBehind xs = e₁ ∙ ap (λ (l : List ℕ). paste (replicate 19 0) 0 l (length l)) is ∙ row-more [] xs (omega arith) in
     let both : two ≡ zerosBehind (xs ++ reply) = e₂ ∙ ap (λ (l : List ℕ). paste l 9 reply (length reply)) front ∙ row-more xs reply (omega arith) in
     let size : 9 + length reply ≡ lengthOf (entryWith head reply) = omega arith in

@@ -7,7 +7,7 @@ use Rattle.board.specs.declared.value.Search.{Search}
 use Rattle.board.specs.declared.value.Found.{Found}
 use Rattle.board.specs.declared.Row.{Row}
 use Rattle.board.specs.Row.{freeRow}
-use Rattle.board.specs.inside.ByValue.{passed, searched, unsearched, foundBy, unkept, counted, filled, Finds, FindsOn}
+use Rattle.board.specs.inside.ByValue.{overRow, searched, unsearched, foundBy, notInOrder, rowsThatCount, filled, Finds, FindsOn}
 use Prim.Native.Nat.{ℕ, _+_, _-_, _%_, _≤_, _<_}
 use mathlib.Core.Path.{_≡_, refl, sym, _∙_, ap, subst}
 use mathlib.Core.Bool.{Bool, true, false, not}
@@ -65,7 +65,7 @@ one c =
     passes-on (o .args .address) (o .args .t1) (s .loop .s) (c .pass .result) (s .loop .i) (omega (arith, thirty o)) (c .pass .ensures) (s .loop .inv .1 .1 .1)
 
 -- a row out of order ends the search
-low : (a len n : ℕ) (held : List Row) (s : Search) (i : ℕ) (f : Found) → n ≡ counted len → f ≡ unkept n → s .kept ≡ false → Passing a held s i → FindsOn held len a f
+low : (a len n : ℕ) (held : List Row) (s : Search) (i : ℕ) (f : Found) → n ≡ rowsThatCount len → f ≡ notInOrder n → s .kept ≡ false → Passing a held s i → FindsOn held len a f
 low a len n held s i f count is k so = record {
   on = λ board long same. subst (Finds board a) (sym is)
       (found-low a board s i n (long ∙ sym count) (subst (λ (xs : List Row). searched a s (drop i xs) ≡ searched a unsearched xs) same (so .1 .1)) k);

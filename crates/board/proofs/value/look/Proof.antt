@@ -3,7 +3,7 @@ use Rattle.board.proofs.OneRow.{answered, not-answered}
 use Rattle.board.proofs.Numbers.{find-11, find-17, find-0}
 use Rattle.board.specs.declared.Row.{Row}
 use Rattle.board.specs.declared.Looked.{Looked}
-use Rattle.board.specs.Calls.{lookedAt, told, refusedLook}
+use Rattle.board.specs.Calls.{lookedAt, rowTold, refusedLook}
 use Rattle.board.specs.Rows.{rowOf}
 use Rattle.frame.specs.Pick.{pick}
 use lib.Dec.{eqb}
@@ -18,7 +18,7 @@ use Rattle.board.proofs.value.look.Tie as tie
 
 -- what is answered by a number
 abbrev by : List Row → ℕ → ℕ → Looked
-by board address n = pick (eqb n 0) (told (rowOf address board)) (refusedLook n)
+by board address n = pick (eqb n 0) (rowTold (rowOf address board)) (refusedLook n)
 
 refused-look-requires : tie.Need-refused-look-requires
 refused-look-requires c κs = search needs
@@ -62,7 +62,7 @@ returns-4 c =
       on = λ board finds.
           let is = sym (finds .order) ∙ not-false _ (k .if1 .left) in
           answered board _ _ _ is
-          (c .tell .ensures ∙ ap told (finds .there is (x .if3 .left))
+          (c .tell .ensures ∙ ap rowTold (finds .there is (x .if3 .left))
           ∙ sym (ap (by board (k .before .before .args .address)) (find-0 board _ (t .if2 .left) (omega (arith, finds .count, finds .place is, x .if3 .left)))));
     }
 

@@ -4,7 +4,7 @@ use Rattle.board.proofs.Numbers.{may-11, may-17, may-28, may-both, may-
 use Rattle.board.specs.declared.Row.{Row}
 use Rattle.board.specs.declared.value.Found.{Found}
 use Rattle.board.specs.Gauge.{unmarked}
-use Rattle.board.specs.Order.{kept}
+use Rattle.board.specs.Order.{inAddressOrder}
 use Rattle.board.specs.inside.ByValue.{Finds}
 use native.Mathlib.Omega.{arith}
 use Prim.Native.Nat.{ℕ, _<_}
@@ -17,7 +17,7 @@ use Rattle.board.proofs.value.may_poll.Statement.{statement}
 use Rattle.board.proofs.value.may_poll.Tie as tie
 
 -- the test of the row that was found is the test of the address's row
-asked : (board : List Row) (f : Found) (address raise reset : ℕ) (t b : Bool) → Finds board address f → kept board ≡ true → f .at < f .n → t ≡ unmarked (f .row .gauge) raise reset → t ≡ b → denied board address raise reset ≡ b
+asked : (board : List Row) (f : Found) (address raise reset : ℕ) (t b : Bool) → Finds board address f → inAddressOrder board ≡ true → f .at < f .n → t ≡ unmarked (f .row .gauge) raise reset → t ≡ b → denied board address raise reset ≡ b
 asked board f address raise reset t b finds k l e is = sym (ap (λ (y : Row). unmarked (y .gauge) raise reset) (finds .there k l)) ∙ sym e ∙ is
 
 returns : tie.Need-returns

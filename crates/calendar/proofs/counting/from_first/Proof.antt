@@ -4,14 +4,14 @@ use mathlib.Core.Path.{_≡_, refl, sym, ap, _∙_}
 use Prim.Native.Nat.{ℕ, _-_, _+_, _<_, _≤_}
 use native.Mathlib.Omega.{arith}
 use Rattle.calendar.specs.declared.counting.Day.{Day}
-use Rattle.calendar.specs.Days.{daysIn, monthAfter, yearAfter, firstOf, daysAfter}
+use Rattle.calendar.specs.Days.{daysIn, monthAfter, yearAfter, firstOfMonth, daysAfter}
 use Rattle.calendar.proofs.Counted.{few-days, within, month-less}
 use Rattle.calendar.proofs.counting.from_first.Statement.{statement}
 use Rattle.calendar.proofs.counting.from_first.Tie as tie
 
 abbrev Inv-loop : tie.InvT-loop
 Inv-loop beginning first days year₀ month₀ left₀ size₀ year month left size =
-    (size ≡ daysIn year month) × (daysAfter (firstOf year month) left ≡ daysAfter (firstOf beginning first) days)
+    (size ≡ daysIn year month) × (daysAfter (firstOfMonth year month) left ≡ daysAfter (firstOfMonth beginning first) days)
 
 abbrev μ-loop : tie.MeasureT-loop
 μ-loop beginning first days year₀ month₀ left₀ size₀ year month left size = left
@@ -58,7 +58,7 @@ loop-again c =
     let month = c .before .next-month .ensures in
     let size = l .inv .0 in
     let whole : daysIn (l .year) (l .month) ≤ l .left = omega arith in
-    (c .days-in2 .ensures, (λ i. daysAfter (firstOf (year i) (month i)) (l .left - size i)) ∙ month-less (l .year) (l .month) (l .left) whole ∙ l .inv .1)
+    (c .days-in2 .ensures, (λ i. daysAfter (firstOfMonth (year i) (month i)) (l .left - size i)) ∙ month-less (l .year) (l .month) (l .left) whole ∙ l .inv .1)
 
 cast-t8 : tie.Need-cast-t8 Inv-loop μ-loop
 cast-t8 c =

@@ -2,7 +2,7 @@
 use mathlib.Core.Path.{_≡_, ap, _∙_}
 use Prim.Native.Nat.{ℕ, _+_}
 use borrow.Author.Needs.{needs}
-use Rattle.calendar.specs.Days.{firstOf, daysAfter}
+use Rattle.calendar.specs.Days.{firstOfMonth, daysAfter}
 use Rattle.calendar.proofs.leaps.after.Statement.{statement}
 use Rattle.calendar.proofs.leaps.after.Tie as tie
 
@@ -32,7 +32,7 @@ returns c =
     let over = january .before in
     let a = over .before .args in
     c .from-first .ensures ∙ years .by-years .ensures ∙ centuries .by-centuries .ensures ∙ january .to-january .ensures
-    ∙ ap (λ (n : ℕ). daysAfter (firstOf (a .begin .year) (a .begin .month)) (a .days + n)) (over .days-over .ensures)
+    ∙ ap (λ (n : ℕ). daysAfter (firstOfMonth (a .begin .year) (a .begin .month)) (a .days + n)) (over .days-over .ensures)
 
 pub after-spec : {M : Type 1} → statement M
 after-spec =

@@ -3,15 +3,15 @@ use mathlib.Core.Path.{_≡_, sym, ap, _∙_}
 use Prim.Native.Nat.{ℕ, _+_, _-_, _*_, _/_, _≤_}
 use native.Mathlib.Omega.{arith}
 use borrow.Author.Needs.{needs}
-use Rattle.calendar.specs.Days.{firstOf, daysAfter}
+use Rattle.calendar.specs.Days.{firstOfMonth, daysAfter}
 use Rattle.calendar.proofs.Years.{centuries-less}
 use Rattle.calendar.proofs.leaps.by_centuries.Statement.{statement}
 use Rattle.calendar.proofs.leaps.by_centuries.Tie as tie
 
 -- from a January
-from-january : (year month left : ℕ) → month ≡ 1 → left / 146097 ≤ 100000 → year ≤ 4000000000 → daysAfter (firstOf (year + 400 * (left / 146097)) 1) (left - 146097 * (left / 146097)) ≡ daysAfter (firstOf year month) left
+from-january : (year month left : ℕ) → month ≡ 1 → left / 146097 ≤ 100000 → year ≤ 4000000000 → daysAfter (firstOfMonth (year + 400 * (left / 146097)) 1) (left - 146097 * (left / 146097)) ≡ daysAfter (firstOfMonth year month) left
 from-january year month left m few early =
-    centuries-less (left / 146097) year left (omega arith) (omega arith) ∙ ap (λ (n : ℕ). daysAfter (firstOf year n) left) (sym m)
+    centuries-less (left / 146097) year left (omega arith) (omega arith) ∙ ap (λ (n : ℕ). daysAfter (firstOfMonth year n) left) (sym m)
 
 returns : tie.Need-returns
 returns c = search needs

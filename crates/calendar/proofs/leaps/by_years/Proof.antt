@@ -4,14 +4,14 @@ use mathlib.Core.Path.{_≡_, refl, sym, ap, _∙_}
 use Prim.Native.Nat.{ℕ, _+_, _-_, _<_, _≤_}
 use native.Mathlib.Omega.{arith}
 use borrow.Author.Needs.{needs}
-use Rattle.calendar.specs.Days.{yearDays, firstOf, daysAfter}
+use Rattle.calendar.specs.Days.{yearDays, firstOfMonth, daysAfter}
 use Rattle.calendar.proofs.Years.{year-some, year-less}
 use Rattle.calendar.proofs.leaps.by_years.Statement.{statement}
 use Rattle.calendar.proofs.leaps.by_years.Tie as tie
 
 abbrev Inv-loop : tie.InvT-loop
 Inv-loop year₀ left₀ size₀ year left size =
-    (size ≡ yearDays year) × (daysAfter (firstOf year 1) left ≡ daysAfter (firstOf year₀ 1) left₀)
+    (size ≡ yearDays year) × (daysAfter (firstOfMonth year 1) left ≡ daysAfter (firstOfMonth year₀ 1) left₀)
 
 abbrev μ-loop : tie.MeasureT-loop
 μ-loop year₀ left₀ size₀ year left size = left
@@ -42,14 +42,14 @@ loop-again c =
     let year = c .before .year-after .ensures in
     let size = l .inv .0 in
     let whole : yearDays (l .year) ≤ l .left = omega arith in
-    (c .days-of2 .ensures, (λ i. daysAfter (firstOf (year i) 1) (l .left - size i)) ∙ year-less (l .year) (l .left) whole ∙ l .inv .1)
+    (c .days-of2 .ensures, (λ i. daysAfter (firstOfMonth (year i) 1) (l .left - size i)) ∙ year-less (l .year) (l .left) whole ∙ l .inv .1)
 
 returns-2 : tie.Need-returns-2 Inv-loop μ-loop
 returns-2 c =
     let l = c .before .loop in
     let test = c .before .before .before in
     let r = test .before .before .args .r in
-    l .inv .1 ∙ ap (λ (n : ℕ). daysAfter (firstOf (r .year) n) (r .left)) (sym (test .if1 .left))
+    l .inv .1 ∙ ap (λ (n : ℕ). daysAfter (firstOfMonth (r .year) n) (r .left)) (sym (test .if1 .left))
 
 pub by-years-spec : {M : Type 1} → statement M
 by-years-spec =

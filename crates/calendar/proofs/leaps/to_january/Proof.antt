@@ -4,14 +4,14 @@ use mathlib.Core.Path.{_≡_, refl, sym, ap, _∙_}
 use Prim.Native.Nat.{ℕ, _-_, _+_, _<_, _≤_}
 use native.Mathlib.Omega.{arith}
 use Rattle.calendar.specs.declared.counting.Day.{Day}
-use Rattle.calendar.specs.Days.{daysIn, monthAfter, yearAfter, firstOf, daysAfter}
+use Rattle.calendar.specs.Days.{daysIn, monthAfter, yearAfter, firstOfMonth, daysAfter}
 use Rattle.calendar.proofs.Counted.{few-days, month-less}
 use Rattle.calendar.proofs.leaps.to_january.Statement.{statement}
 use Rattle.calendar.proofs.leaps.to_january.Tie as tie
 
 abbrev Inv-loop : tie.InvT-loop
 Inv-loop beginning first days year₀ month₀ left₀ size₀ year month left size =
-    (size ≡ daysIn year month) × (daysAfter (firstOf year month) left ≡ daysAfter (firstOf beginning first) days)
+    (size ≡ daysIn year month) × (daysAfter (firstOfMonth year month) left ≡ daysAfter (firstOfMonth beginning first) days)
 
 abbrev μ-loop : tie.MeasureT-loop
 μ-loop beginning first days year₀ month₀ left₀ size₀ year month left size = left
@@ -61,7 +61,7 @@ loop-again c =
     let month = c .before .next-month .ensures in
     let size = l .inv .0 in
     let whole : daysIn (l .year) (l .month) ≤ l .left = omega arith in
-    (c .days-in2 .ensures, (λ i. daysAfter (firstOf (year i) (month i)) (l .left - size i)) ∙ month-less (l .year) (l .month) (l .left) whole ∙ l .inv .1)
+    (c .days-in2 .ensures, (λ i. daysAfter (firstOfMonth (year i) (month i)) (l .left - size i)) ∙ month-less (l .year) (l .month) (l .left) whole ∙ l .inv .1)
 
 returns-2 : tie.Need-returns-2 Inv-loop μ-loop
 returns-2 c = c .before .loop .inv .1

@@ -7,7 +7,7 @@ use native.Mathlib.Omega.{arith}
 use Rattle.sheet.specs.Slots.{slots}
 use Rattle.sheet.specs.Look.{lookOf}
 use Rattle.cards.specs.declared.counting.Tally.{Tally}
-use Rattle.cards.specs.Tally.{counted, tallyUpTo}
+use Rattle.cards.specs.Tally.{withSlot, tallyUpTo}
 use Rattle.cards.proofs.FewCounted.{few-counted}
 use Rattle.cards.proofs.counting.count.Statement.{statement}
 use Rattle.cards.proofs.counting.count.Tie as tie
@@ -19,7 +19,7 @@ abbrev μ-loop : tie.MeasureT-loop
 μ-loop sheet slots t₀ k₀ t k = slots - k
 
 -- one slot more
-tally-more : (s : List ℕ) (k : ℕ) → tallyUpTo s (k + 1) ≡ counted (lookOf s k .found) (tallyUpTo s k)
+tally-more : (s : List ℕ) (k : ℕ) → tallyUpTo s (k + 1) ≡ withSlot (lookOf s k .found) (tallyUpTo s k)
 tally-more s k = unfold tallyUpTo in ap (tallyUpTo s) (add-one k)
 
 -- what was counted, no more than the slots passed
@@ -48,7 +48,7 @@ loop-again : tie.Need-loop-again Inv-loop μ-loop
 loop-again c =
     let l = c .before .before .loop in
     let s = c .before .before .before .before .before .args .sheet .now in
-    (omega arith, c .with-slot .ensures ∙ ap (λ (t : Tally). counted (lookOf s (l .k) .found) t) (l .inv .1) ∙ sym (tally-more s (l .k)))
+    (omega arith, c .with-slot .ensures ∙ ap (λ (t : Tally). withSlot (lookOf s (l .k) .found) t) (l .inv .1) ∙ sym (tally-more s (l .k)))
 
 returns : tie.Need-returns Inv-loop μ-loop
 returns c =

@@ -4,7 +4,7 @@ use Rattle.sheet.specs.declared.Found.{Found}
 use Rattle.sheet.specs.declared.Found.the-variants.{Blank, Spoiled, Foreign, Record, Refused}
 use Rattle.sheet.specs.declared.Looked.{Looked}
 use Rattle.sheet.specs.Look.{lookOf}
-use Rattle.cards.specs.Tally.{counted}
+use Rattle.cards.specs.Tally.{withSlot}
 use borrow.Author.Needs.{needs}
 use Rattle.cards.proofs.counting.with_slot.Statement.{statement}
 use Rattle.cards.proofs.counting.with_slot.Tie as tie
@@ -14,8 +14,8 @@ module _ (l : tie.After-look) where
   abbrev start : tie.Start
   start = l .before .before
 
-  seen : (f : Found) → l .look .result .found ≡ f → counted f (start .args .t) ≡ counted (lookOf (start .args .sheet .now) (start .args .k) .found) (start .args .t)
-  seen f e = ap (λ (g : Found). counted g (start .args .t)) (sym e ∙ ap (λ (x : Looked). x .found) (l .look .ensures .answers))
+  seen : (f : Found) → l .look .result .found ≡ f → withSlot f (start .args .t) ≡ withSlot (lookOf (start .args .sheet .now) (start .args .k) .found) (start .args .t)
+  seen f e = ap (λ (g : Found). withSlot g (start .args .t)) (sym e ∙ ap (λ (x : Looked). x .found) (l .look .ensures .answers))
 
 look-requires : tie.Need-look-requires
 look-requires c κs = search needs

@@ -5,7 +5,7 @@ use Rattle.listing.proofs.Putting.{then, text-is, at-most}
 use mathlib.Core.List.{List, _++_}
 use Prim.Native.Nat.{ℕ, _<_, _≤_, _/_, _%_}
 use borrow.Author.Tests.{lt-ltb, le-ltb}
-use Rattle.listing.specs.Text.{decimal}
+use Rattle.listing.specs.Text.{inDecimal}
 use Rattle.listing.proofs.Numbers.{few-digits}
 use Rattle.forms.specs.Days.{twoDigits, yearText}
 use borrow.Author.Needs.{needs}
@@ -17,7 +17,7 @@ four : (y : ℕ) → y < 10000 → twoDigits (y / 100) ++ twoDigits (y % 100) �
 unfolding yearText
 four y h = simp (lt-ltb y 10000 h)
 
-more : (y : ℕ) → 10000 ≤ y → decimal y ≡ yearText y
+more : (y : ℕ) → 10000 ≤ y → inDecimal y ≡ yearText y
 unfolding yearText
 more y h = simp (le-ltb y 10000 h)
 

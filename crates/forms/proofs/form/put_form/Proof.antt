@@ -7,7 +7,7 @@ use Prim.Native.Nat.{ℕ, _+_, _*_, _-_, _<_, _≤_}
 use native.Mathlib.Omega.{arith}
 use borrow.Author.Needs.{needs}
 use lib.ListN.{length, getD, drop}
-use Rattle.listing.specs.Text.{decimal}
+use Rattle.listing.specs.Text.{inDecimal}
 use Rattle.listing.specs.inside.Puts.{Puts}
 use Rattle.listing.proofs.Numbers.{few-digits}
 use Rattle.listing.proofs.Putting.{then, text-is, at-most, nothing-put}
@@ -27,16 +27,16 @@ record Filled (out₀ : List ℕ) (at : ℕ) (form numbers : List ℕ) (out : Li
 
 -- one number more, one byte more
 module _ (out₀ : List ℕ) (at : ℕ) (form numbers : List ℕ) (out : List ℕ) (end n i : ℕ) (f : Filled out₀ at form numbers out end n i) (near : i < length form) (mid : List ℕ) (next : ℕ) (same : length mid ≡ length out) where
-  more-number : takesNumber (getD form i 0) n (length numbers) ≡ true → Puts (decimal (getD numbers n 0)) 10 out end next mid → Filled out₀ at form numbers mid next (n + 1) (i + 1)
+  more-number : takesNumber (getD form i 0) n (length numbers) ≡ true → Puts (inDecimal (getD numbers n 0)) 10 out end next mid → Filled out₀ at form numbers mid next (n + 1) (i + 1)
   more-number e put =
       let left = takes-left (getD form i 0) n (length numbers) e in
       record {
         so-far = omega arith;
         numbers-left = omega arith;
         kept = same ∙ f .kept;
-        text = f .text ++ decimal (getD numbers n 0);
+        text = f .text ++ inDecimal (getD numbers n 0);
         put = at-most (omega arith) (then (f .put) put);
-        whole = append-assoc (f .text) (decimal (getD numbers n 0)) (fill (drop (i + 1) form) (drop (n + 1) numbers)) ∙ ap (λ (l : List ℕ). f .text ++ l) (sym (fill-next form numbers i n near true e)) ∙ f .whole;
+        whole = append-assoc (f .text) (inDecimal (getD numbers n 0)) (fill (drop (i + 1) form) (drop (n + 1) numbers)) ∙ ap (λ (l : List ℕ). f .text ++ l) (sym (fill-next form numbers i n near true e)) ∙ f .whole;
       }
 
   more-byte : takesNumber (getD form i 0) n (length numbers) ≡ false → Puts (getD form i 0 ∷ []) 1 out end next mid → Filled out₀ at form numbers mid next n (i + 1)

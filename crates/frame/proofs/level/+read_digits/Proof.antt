@@ -5,7 +5,7 @@ use native.Mathlib.Numerals.{add-one}
 use native.Mathlib.Omega.{arith}
 use Rattle.frame.specs.Charts.{sizeOf}
 use Rattle.frame.specs.Level.{readRow}
-use Rattle.frame.specs.inside.Packed.{chartOf, digitOf, rowOf}
+use Rattle.frame.specs.inside.Packed.{chartOf, digitOf, digitRow}
 use Rattle.frame.proofs.Tables.{size-high}
 use Rattle.frame.proofs.Digits.{left-lost, left-read, digit-lt, room, room-now}
 use Prim.Native.Nat.{ℕ, _+_, _-_, _*_, _/_, _%_, _^_, _<_}
@@ -38,7 +38,7 @@ told t =
     (top-digit-reads.Asked, top-digit-reads.Learnt, with-digit-reads.Asked, with-digit-reads.Learnt, read-digits-below t, read-digits.Post)
 
 read-digits-returns : (t : ℕ) → read-digits-lts.Need-returns (told t) (read-digits-at t) read-digits.Post
-unfolding readRow rowOf
+unfolding readRow digitRow
 read-digits-returns t c = rw (c .if1 .taken)
 
 read-digits-top-digit-requires : (t : ℕ) → read-digits-lts.Need-top-digit-requires (told t) (read-digits-at t) read-digits.Post

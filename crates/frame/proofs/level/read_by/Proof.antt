@@ -6,7 +6,7 @@ use Prim.Native.Nat.{ℕ, _+_, _*_, _/_, _%_, _^_, _≤_}
 use native.Mathlib.Omega.{arith}
 use borrow.Author.Tests.{not-true, not-false}
 use Rattle.frame.specs.Level.{Level, readRow}
-use Rattle.frame.specs.inside.Packed.{rowOf, readCode, Below}
+use Rattle.frame.specs.inside.Packed.{digitRow, readCode, Below}
 use Rattle.frame.specs.inside.Constants.{fillAt, digitBits}
 use Rattle.frame.proofs.Digits.{below-more, row-below}
 use Rattle.frame.proofs.Upward.{sixteen-le}
@@ -46,9 +46,9 @@ returns-2 c =
     let a = c .before .before .before .before .before .args in
     let clear : fillAt (a .n) (a .before) (a .after) ≡ true = sym (c .before .before .before .before .fill-clear .ensures) ∙ not-false _ (c .before .before .before .if1 .left) in
     let bits = a .n / 2 ^ (27 + a .after) % 2 ^ digitBits (a .first) (a .after) in
-    let l = readRow (rowOf (a .charts) (a .digits)) bits (a .start) 0 0 in
+    let l = readRow (digitRow (a .charts) (a .digits)) bits (a .start) 0 0 in
     let read : c .before .read-digits .result ≡ readCode l =
-    c .before .read-digits .ensures ∙ ap (λ (n : ℕ). readCode (readRow (rowOf (a .charts) (a .digits)) n (a .start) 0 0)) (c .before .before .digit-bits .ensures) in
+    c .before .read-digits .ensures ∙ ap (λ (n : ℕ). readCode (readRow (digitRow (a .charts) (a .digits)) n (a .start) 0 0)) (c .before .before .digit-bits .ensures) in
     rw clear (c .judged .ensures l (under (a .digits) l (omega arith) (row-below (a .charts) (a .digits) bits (a .start) 0 0)) read)
 
 pub read-by-spec : {M : Type 1} → statement M

@@ -4,7 +4,7 @@ use Prim.Native.Nat.{_+_, _-_, _*_, _/_, _%_, _^_}
 use native.Mathlib.Numerals.{add-one}
 use native.Mathlib.Omega.{arith}
 use borrow.Author.Tests.{eq-eqb, ne-eqb}
-use Rattle.frame.specs.Pairs.{entryOf, indexOf}
+use Rattle.frame.specs.Pairs.{tableEntry, indexOf}
 use Rattle.frame.proofs.PairTable.{index-0}
 use borrow.Author.Needs.{needs}
 use Rattle.frame.proofs.pairs.lost_place.Statement.{statement}
@@ -29,10 +29,10 @@ entry-requires : tie.Need-entry-requires
 entry-requires c κs = search needs
 
 -- the entry of the first code with 0000
-again : (c : tie.After-entry) → c .entry .result ≡ entryOf (indexOf (c .before .args .odd) (c .before .args .bits / 2 ^ (8 * (c .before .args .left - 1) + 4) % 16) 0)
+again : (c : tie.After-entry) → c .entry .result ≡ tableEntry (indexOf (c .before .args .odd) (c .before .args .bits / 2 ^ (8 * (c .before .args .left - 1) + 4) % 16) 0)
 again c =
     let a = c .before .args in
-    c .entry .ensures ∙ ap entryOf (index-0 (a .odd) (a .bits / 2 ^ (8 * (a .left - 1) + 4) % 16))
+    c .entry .ensures ∙ ap tableEntry (index-0 (a .odd) (a .bits / 2 ^ (8 * (a .left - 1) + 4) % 16))
 
 returns : tie.Need-returns
 returns c = (rw (eq-eqb _ _ (sym (again (c .before)) ∙ c .if1 .taken)), omega arith)

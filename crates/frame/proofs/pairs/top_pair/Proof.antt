@@ -1,7 +1,7 @@
 -- `frame::pairs::top_pair` meets its contract: the two codes that it asks for stand side by side. Assumes nothing.
 use mathlib.Core.Path.{ap, _∙_}
 use Prim.Native.Nat.{_-_, _*_}
-use Rattle.frame.specs.Pairs.{entryOf}
+use Rattle.frame.specs.Pairs.{tableEntry}
 use Rattle.frame.proofs.PairTable.{index-is}
 use borrow.Author.Needs.{needs}
 use Rattle.frame.proofs.pairs.top_pair.Statement.{statement}
@@ -20,7 +20,7 @@ entry-requires : tie.Need-entry-requires
 entry-requires c κs = search needs
 
 returns : tie.Need-returns
-returns c = let a = c .before .args in c .entry .ensures ∙ ap entryOf (index-is (a .odd) (a .bits) (8 * (a .left - 1)))
+returns c = let a = c .before .args in c .entry .ensures ∙ ap tableEntry (index-is (a .odd) (a .bits) (8 * (a .left - 1)))
 
 pub top-pair-spec : {M : Type 1} → statement M
 top-pair-spec = tie.close (tie.spec sub-entry mul-entry shr-entry entry-requires returns)

@@ -16,21 +16,21 @@ use Rattle.frame.proofs.writing.body.Statement.{statement}
 use Rattle.frame.proofs.writing.body.Tie as tie
 
 -- the bits of the temperature
-heat : (c : tie.After-write) → let a = c .before .before .before .before .before .args in c .write .result ≡ putHeat (is1800 (a .settings)) (a .reading .temperature)
+heat : (c : tie.After-write) → let a = c .before .before .before .before .before .before .args in c .write .result ≡ putHeat (is1800 (a .settings)) (a .reading .temperature)
 heat c =
-    let n = c .before .before in
+    let n = c .before .before .before in
     let a = n .before .before .before .args in
     let t : isAbsent (a .reading .temperature) ≡ false = sym (n .before .is-absent .ensures) ∙ n .if1 .left in
-    rw (c .write .ensures, toZ-ofZ {w = w16} {z = c .before .tenths .result} (record { sfits = c .before .tenths .ok }), c .before .tenths .ensures) (heat-is (is1800 (a .settings)) (a .reading .temperature) t)
+    rw (c .write .ensures, c .before .before .of-1800 .ensures, toZ-ofZ {w = w16} {z = c .before .tenths .result} (record { sfits = c .before .tenths .ok }), c .before .tenths .ensures) (heat-is (is1800 (a .settings)) (a .reading .temperature) t)
 
 low : (c : tie.After-write) → c .write .result < 2 ^ 25
 low c =
-    let a = c .before .before .before .before .before .args in
+    let a = c .before .before .before .before .before .before .args in
     rw (heat c) (heat-low (is1800 (a .settings)) (a .reading .temperature) .small)
 
-front : (c : tie.After-write) → c .before .before .before .before .front .result < 2 ^ 63 + 2 ^ 62
+front : (c : tie.After-write) → c .before .before .before .before .before .front .result < 2 ^ 63 + 2 ^ 62
 front c =
-    let b = c .before .before .before .before in
+    let b = c .before .before .before .before .before in
     let a = b .before .args in
     rw (b .front .ensures) (front-small (a .settings) (a .address) (a .reading) (b .before .pre))
 
@@ -48,6 +48,9 @@ returns c =
     let t : isAbsent (a .reading .temperature) ≡ true = sym (c .before .is-absent .ensures) ∙ c .if1 .taken in
     b .front .ensures ∙ sym (add-zero (frontOf (a .settings) (a .address) (a .reading))) ∙ ap (λ (n : ℕ). frontOf (a .settings) (a .address) (a .reading) + n) (sym (no-heat (is1800 (a .settings)) (a .reading .temperature) t))
 
+of-1800-requires : tie.Need-of-1800-requires
+of-1800-requires c κs = search needs
+
 tenths-requires : tie.Need-tenths-requires
 tenths-requires c κs = search needs
 
@@ -60,7 +63,7 @@ add-result c = omega (arith, front c, low c)
 returns-2 : tie.Need-returns-2
 unfolding bodyOf
 returns-2 c =
-    let b = c .before .before .before .before in
+    let b = c .before .before .before .before .before in
     let a = b .before .args in
     rw (b .front .ensures, heat c)
 
@@ -71,6 +74,7 @@ body-spec =
     front-requires
     is-absent-requires
     returns
+    of-1800-requires
     tenths-requires
     write-requires
     add-result

@@ -1,6 +1,6 @@
 -- `layers::gauge::kind_in` meets its contract, case by case. Assumes nothing.
 use mathlib.Core.Path.{_≡_, sym, ap, _∙_}
-use Rattle.layers.specs.Gauged.{kindIn}
+use Rattle.layers.specs.Gauged.{replyKind}
 use borrow.Author.Needs.{needs}
 use Rattle.layers.proofs.gauge.kind_in.Statement.{statement}
 use Rattle.layers.proofs.gauge.kind_in.Tie as tie
@@ -24,10 +24,10 @@ returns : tie.Need-returns
 returns c = search needs
 
 returns-2 : tie.Need-returns-2
-returns-2 c = (c .kind-refused .ensures .0 ∙ ap kindIn (sym (c .before .before .reply .given .1)), c .kind-refused .ensures .1)
+returns-2 c = (c .kind-refused .ensures .0 ∙ ap replyKind (sym (c .before .before .reply .given .1)), c .kind-refused .ensures .1)
 
 returns-3 : tie.Need-returns-3
-returns-3 c = (c .kind-unreadable .ensures .0 ∙ ap kindIn (sym (c .before .before .reply2 .given .1)), c .kind-unreadable .ensures .1)
+returns-3 c = (c .kind-unreadable .ensures .0 ∙ ap replyKind (sym (c .before .before .reply2 .given .1)), c .kind-unreadable .ensures .1)
 
 pub kind-in-spec : {M : Type 1} → statement M
 kind-in-spec =

@@ -10,7 +10,7 @@ use lib.Seq.{length-take-le}
 use Rattle.frame.specs.declared.Reply.{Reply}
 use Rattle.frame.specs.Pick.{pick}
 use Rattle.listing.proofs.Putting.{text-is}
-use Rattle.layers.specs.Drawing.{valueIn, pointText, markText, partText, goesOn}
+use Rattle.layers.specs.Drawing.{valueIn, pointText, markText, partText, lineGoesOn}
 use borrow.Author.Needs.{needs}
 use Rattle.layers.proofs.pass.put_record.Statement.{statement}
 use Rattle.layers.proofs.pass.put_record.Tie as tie
@@ -37,7 +37,7 @@ same-length : tie.Need-same-length
 same-length c = search needs
 
 returns : tie.Need-returns
-unfolding partText goesOn
+unfolding partText lineGoesOn
 returns c =
     let a = c .before .before .before .before .before .before .before .before .args in
     let put = c .before .before .put-part .ensures in

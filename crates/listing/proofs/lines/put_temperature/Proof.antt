@@ -13,7 +13,7 @@ use Rattle.frame.specs.declared.Temperature.the-variants.{Degrees}
 use Rattle.frame.specs.Pick.{pick}
 use Rattle.frame.specs.Temperature.{isPlus, magnitude}
 use Rattle.frame.proofs.Signs.{magnitude-small}
-use Rattle.listing.specs.Text.{ascii, decimal}
+use Rattle.listing.specs.Text.{ascii, inDecimal}
 use Rattle.listing.specs.Lines.{temperatureText}
 use Rattle.listing.proofs.Putting.{then, text-is, at-most}
 use borrow.Author.Needs.{needs}
@@ -25,11 +25,11 @@ same : (d : ℤ) → SFits w16 d → toZ w16 (ofZ w16 d) ≡ d
 same d fits = toZ-ofZ {w = w16} {z = d} fits
 
 -- the text of degrees, by the sign that the test saw
-degrees-text : (d : ℤ) (m : ℕ) (plus : Bool) → SFits w16 d → (test : Bool) → test ≡ isPlus (toZ w16 (ofZ w16 d)) → test ≡ plus → m ≡ magnitude (toZ w16 (ofZ w16 d)) → pick plus [] (ascii "-") ++ decimal m ≡ temperatureText (Degrees d)
+degrees-text : (d : ℤ) (m : ℕ) (plus : Bool) → SFits w16 d → (test : Bool) → test ≡ isPlus (toZ w16 (ofZ w16 d)) → test ≡ plus → m ≡ magnitude (toZ w16 (ofZ w16 d)) → pick plus [] (ascii "-") ++ inDecimal m ≡ temperatureText (Degrees d)
 degrees-text d m plus fits test said took size =
     let sign : plus ≡ isPlus d = sym took ∙ said ∙ ap isPlus (same d fits) in
     let number : m ≡ magnitude d = size ∙ ap magnitude (same d fits) in
-    λ i. pick (sign i) [] (ascii "-") ++ decimal (number i)
+    λ i. pick (sign i) [] (ascii "-") ++ inDecimal (number i)
 
 enum-known-t : tie.Need-enum-known-t
 enum-known-t c = search needs

@@ -7,7 +7,7 @@ use native.Mathlib.Omega.{arith}
 use borrow.Author.Needs.{needs}
 use lib.ListN.{length, set, length-set, length-append}
 use lib.Seq.{sets}
-use Rattle.listing.specs.Text.{digit, decimal}
+use Rattle.listing.specs.Text.{digit, inDecimal}
 use Rattle.listing.proofs.Numbers.{one-digit, more-digits, few-digits, some-digit}
 use Rattle.listing.proofs.Putting.{set-front}
 use Rattle.listing.proofs.text.put_number.Statement.{statement}
@@ -16,8 +16,8 @@ use Rattle.listing.proofs.text.put_number.Tie as tie
 record Filled (out₀ : List ℕ) (at n : ℕ) (out : List ℕ) (left i : ℕ) : Type 0 where
   tail : List ℕ
   small : left < 2 ^ 32
-  digits : decimal left ++ tail ≡ decimal n
-  place : i ≡ at + length (decimal left)
+  digits : inDecimal left ++ tail ≡ inDecimal n
+  place : i ≡ at + length (inDecimal left)
   room : i + length tail ≤ length out₀
   kept : length out ≡ length out₀
   filled : out ≡ sets out₀ i tail
@@ -29,22 +29,22 @@ abbrev μ-loop : tie.MeasureT-loop
 μ-loop out₀ at n end left₀ i₀ out left i = left
 
 -- the digits of what is left, without the last one
-shorter : (n : ℕ) → 10 ≤ n → n < 2 ^ 32 → length (decimal n) ≡ length (decimal (n / 10)) + 1
-shorter n large small = ap length (more-digits n large small) ∙ length-append (decimal (n / 10)) (digit (n % 10) ∷ [])
+shorter : (n : ℕ) → 10 ≤ n → n < 2 ^ 32 → length (inDecimal n) ≡ length (inDecimal (n / 10)) + 1
+shorter n large small = ap length (more-digits n large small) ∙ length-append (inDecimal (n / 10)) (digit (n % 10) ∷ [])
 
 -- one digit more
 filled-more : {out₀ out : List ℕ} {at n left i : ℕ} → 10 ≤ left → Filled out₀ at n out left i → Filled out₀ at n (set out (i - 1) (48 + left % 10)) (left / 10) (i - 1)
 filled-more {out₀} {out} {at} {n} {left} {i} large f =
     let d = 48 + left % 10 in
     let t = f .tail in
-    let one : length (decimal left) ≡ length (decimal (left / 10)) + 1 = shorter left large (f .small) in
+    let one : length (inDecimal left) ≡ length (inDecimal (left / 10)) + 1 = shorter left large (f .small) in
     let p = f .place in
     let back : i ≡ i - 1 + 1 = omega arith in
     let r = f .room in
     record {
       tail = d ∷ t;
       small = omega (arith, f .small);
-      digits = sym (append-assoc (decimal (left / 10)) (d ∷ []) t) ∙ ap (λ (l : List ℕ). l ++ t) (sym (more-digits left large (f .small))) ∙ f .digits;
+      digits = sym (append-assoc (inDecimal (left / 10)) (d ∷ []) t) ∙ ap (λ (l : List ℕ). l ++ t) (sym (more-digits left large (f .small))) ∙ f .digits;
       place = omega arith;
       room = omega arith;
       kept = length-set out (i - 1) d ∙ f .kept;
@@ -52,9 +52,9 @@ filled-more {out₀} {out} {at} {n} {left} {i} large f =
     }
 
 -- the first digit
-filled-first : {out₀ out : List ℕ} {at n left i : ℕ} → left < 10 → Filled out₀ at n out left i → set out at (48 + left) ≡ sets out₀ at (decimal n)
+filled-first : {out₀ out : List ℕ} {at n left i : ℕ} → left < 10 → Filled out₀ at n out left i → set out at (48 + left) ≡ sets out₀ at (inDecimal n)
 filled-first {out₀} {out} {at} {n} {left} {i} small f =
-    let one : length (decimal left) ≡ 1 = ap length (one-digit left small) in
+    let one : length (inDecimal left) ≡ 1 = ap length (one-digit left small) in
     let p = f .place in
     ap (λ (o : List ℕ). set o at (48 + left)) (f .filled) ∙ set-front (f .tail) out₀ at i (48 + left) (omega arith)
     ∙ ap (λ (l : List ℕ). sets out₀ at (l ++ f .tail)) (sym (one-digit left small)) ∙ ap (sets out₀ at) (f .digits)
@@ -75,7 +75,7 @@ loop-holds c =
     record {
       tail = [];
       small = start .fits .n .fits;
-      digits = append-nil (decimal n);
+      digits = append-nil (inDecimal n);
       place = ap (λ (k : ℕ). a .at + k) many;
       room = omega arith;
       kept = refl;

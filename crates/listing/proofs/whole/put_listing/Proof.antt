@@ -4,7 +4,7 @@ use mathlib.Core.List.{_++_}
 use Prim.Native.Nat.{ℕ}
 use native.Mathlib.Omega.{arith}
 use Rattle.sheet.specs.Slots.{slots}
-use Rattle.listing.specs.Text.{ascii, decimal}
+use Rattle.listing.specs.Text.{ascii, inDecimal}
 use Rattle.listing.specs.Lines.{headLine, countLine}
 use Rattle.listing.proofs.Putting.{then, text-is, at-most}
 use Rattle.listing.proofs.Seen.{size-small}
@@ -50,8 +50,8 @@ returns c =
     let lines = last .before .before .before .before .before in
     let head = lines .before .before .before .before in
     let start = head .before .before .before .before .before in
-    let first = ap (λ (n : ℕ). ascii "sheet " ++ decimal n ++ ascii "\n") (start .pre .1 .0) in
-    let count = ap (λ (n : ℕ). ascii "records " ++ decimal n ++ ascii "\n") (lines .put-lines .ensures .1) in
+    let first = ap (λ (n : ℕ). ascii "sheet " ++ inDecimal n ++ ascii "\n") (start .pre .1 .0) in
+    let count = ap (λ (n : ℕ). ascii "records " ++ inDecimal n ++ ascii "\n") (lines .put-lines .ensures .1) in
     at-most (omega arith) (then (then (text-is first (head .put-count .ensures)) (lines .put-lines .ensures .0)) (text-is count (last .put-count2 .ensures)))
 
 pub put-listing-spec : {M : Type 1} → statement M

@@ -13,14 +13,14 @@ use Rattle.sheet.specs.Slots.{sizeAllowed, slots, listOf}
 use Rattle.sheet.specs.Look.{lookOf}
 use Rattle.sheet.proofs.FewRecords.{few-records}
 use Rattle.cards.specs.declared.counting.Tally.{Tally}
-use Rattle.cards.specs.Tally.{counted, tallyUpTo, tallyOf}
+use Rattle.cards.specs.Tally.{withSlot, tallyUpTo, tallyOf}
 use Rattle.cards.proofs.FewCounted.{few-counted}
 use Rattle.summary.specs.declared.Line.{Line}
 use Rattle.summary.specs.declared.Summary.{Summary}
 use Rattle.summary.specs.declared.Made.{Made}
 use Rattle.summary.specs.Line.{blankLine, blankSummary, page}
 use Rattle.summary.specs.Handed.{linesOf}
-use Rattle.summary.specs.Worked.{lineFor, pairsOf, keptPairs, inOrder, outside, summaryOf}
+use Rattle.summary.specs.Worked.{lineFor, pairsOf, keptPairs, inOrder, otherRecords, summaryOf}
 use Rattle.summary.specs.Calls.{madeOf, afresh, MakesSummary}
 use Rattle.summary.proofs.KeptPairs.{once-pairs, once-take, rises-order, length-order}
 use Rattle.summary.proofs.OneRecordMore.{worked, count-worked}
@@ -39,7 +39,7 @@ use Rattle.picture.proofs.whole.put_page.Statement.{statement}
 use Rattle.picture.proofs.whole.put_page.Tie as tie
 
 -- the summary that was made is a page of the lines
-made-is : (s : List ℕ) (m : Made) → sizeAllowed s ≡ true → MakesSummary s m → m .summary ≡ page (outside (keptPairs (listOf s)) (listOf s)) (linesFor (listOf s))
+made-is : (s : List ℕ) (m : Made) → sizeAllowed s ≡ true → MakesSummary s m → m .summary ≡ page (otherRecords (keptPairs (listOf s)) (listOf s)) (linesFor (listOf s))
 unfolding afresh
 made-is s m size h =
     ap (λ (y : Made). y .summary) (h .answers ∙ ap (λ (b : Bool). pick b (madeOf (summaryOf (listOf s)) 0) (madeOf blankSummary 12)) size) ∙ worked (listOf s)
@@ -56,12 +56,12 @@ page-long : (n : ℕ) (ls : List Line) → length ls ≤ length (page n ls .line
 unfolding page
 page-long n ls = omega (arith, length-append ls (replicate (30 - length ls) blankLine))
 
-module _ (s : List ℕ) (y : Summary) (is : y ≡ page (outside (keptPairs (listOf s)) (listOf s)) (linesFor (listOf s))) where
+module _ (s : List ℕ) (y : Summary) (is : y ≡ page (otherRecords (keptPairs (listOf s)) (listOf s)) (linesFor (listOf s))) where
   abbrev l : List Entry
   l = listOf s
 
   abbrev others : ℕ
-  others = outside (keptPairs l) l
+  others = otherRecords (keptPairs l) l
 
   count-is : y .count ≡ length (linesFor l)
   count-is = ap (λ (z : Summary). z .count) is ∙ page-count others (linesFor l)
@@ -87,7 +87,7 @@ module _ (s : List ℕ) (y : Summary) (is : y ≡ page (outside (keptPairs (list
       omega (arith, same, room-few l (inOrder (keptPairs l)) (rises-order (keptPairs l)) kept, few-records s (slots s))
 
 -- a tally counts the slots of its sheet, and none of its counts is above them
-counted-slots : (f : Found) (t : Tally) → counted f t .slots ≡ t .slots
+counted-slots : (f : Found) (t : Tally) → withSlot f t .slots ≡ t .slots
 counted-slots Blank t = refl
 counted-slots Spoiled t = refl
 counted-slots Foreign t = refl
@@ -107,7 +107,7 @@ small s t size e =
     rw e (omega (arith, n, k), (omega (arith, n, f), (omega (arith, n, f), omega (arith, n, f))))
 
 -- the parts of the page are the page
-page-is : (s name : List ℕ) (begin : Day) (t : Tally) (left : ℕ) (a : Axis) (ls : List Line) → t ≡ tallyOf s → left ≡ outside (keptPairs (listOf s)) (listOf s) → a ≡ axisOf begin (t .first) (t .last) → ls ≡ linesFor (listOf s) → styleText name ++ topText name t left a ++ sectionsText (listOf s) a ls ++ ascii "</main></body></html>\n" ≡ pageOf s name begin
+page-is : (s name : List ℕ) (begin : Day) (t : Tally) (left : ℕ) (a : Axis) (ls : List Line) → t ≡ tallyOf s → left ≡ otherRecords (keptPairs (listOf s)) (listOf s) → a ≡ axisOf begin (t .first) (t .last) → ls ≡ linesFor (listOf s) → styleText name ++ topText name t left a ++ sectionsText (listOf s) a ls ++ ascii "</main></body></html>\n" ≡ pageOf s name begin
 unfolding pageOf
 page-is s name begin t left a ls e b g h =
     let w : a ≡ axisOf begin (tallyOf s .first) (tallyOf s .last) = g ∙ ap (λ (z : Tally). axisOf begin (z .first) (z .last)) e in

@@ -6,12 +6,12 @@ use Prim.Native.Nat.{ℕ, zero, suc}
 use native.Mathlib.Omega.{arith}
 use borrow.Author.Needs.{needs}
 use Rattle.sheet.specs.Slots.{nextUpTo}
-use Rattle.sheet.specs.inside.Passing.{Stops}
+use Rattle.sheet.specs.inside.Passing.{StopsAt}
 use Rattle.sheet.proofs.next.next_slot.Statement.{statement}
 use Rattle.sheet.proofs.next.next_slot.Tie as tie
 
 -- a search that need leave no slot
-ends : (s : List ℕ) (from left : ℕ) → Stops s from 0 left → nextUpTo s from ≡ left
+ends : (s : List ℕ) (from left : ℕ) → StopsAt s from 0 left → nextUpTo s from ≡ left
 unfolding nextUpTo
 ends s from zero h = h .passes .same
 ends s from (suc left) h = h .passes .same ∙ h .used (omega arith)

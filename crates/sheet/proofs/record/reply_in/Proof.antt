@@ -1,12 +1,17 @@
 -- `sheet::record::reply_in` meets its contract: the bits that are taken off are the word's remainder. Assumes nothing.
-use mathlib.Core.Path.{_≡_, ap, _∙_}
+use mathlib.Core.Path.{_≡_, refl, ap, _∙_}
 use Prim.Native.Nat.{ℕ, _-_, _^_}
 use lib.Bits.{bitAnd, and-mask, and-le-l}
+use Rattle.frame.specs.Line.{firstBytes}
 use Rattle.sheet.specs.Bytes.{bigEndian}
 use Rattle.sheet.specs.inside.Word.{firstBits}
 use borrow.Author.Needs.{needs}
 use Rattle.sheet.proofs.record.reply_in.Statement.{statement}
 use Rattle.sheet.proofs.record.reply_in.Tie as tie
+
+-- the bytes of a word as the frame and as the sheet write them
+as-written : (w : ℕ) → firstBytes 8 w ≡ bigEndian 8 w
+as-written w = unfold firstBytes in refl
 
 -- what the code takes off, and what is left
 left : (n m w count : ℕ) → n ≡ w → m ≡ 2 ^ (64 - count) - 1 → bigEndian 8 (n - bitAnd n m) ≡ bigEndian 8 (firstBits count w)
@@ -38,7 +43,7 @@ returns : tie.Need-returns
 returns c =
     let p = c .before in
     let n = p .before .number in
-    c .bytes-of .ensures ∙ left (n .result) (p .past .result) _ (p .before .before .before .before .args .count) (n .ensures) (p .past .ensures)
+    c .bytes-of .ensures ∙ as-written _ ∙ left (n .result) (p .past .result) _ (p .before .before .before .before .args .count) (n .ensures) (p .past .ensures)
 
 pub reply-in-spec : {M : Type 1} → statement M
 reply-in-spec =

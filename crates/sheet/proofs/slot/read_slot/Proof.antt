@@ -18,7 +18,7 @@ use Rattle.sheet.specs.declared.Found.the-variants.{Record}
 use Rattle.sheet.specs.Bytes.{FF, bigEndian, numberIn, allBlank}
 use Rattle.sheet.specs.Record.{fieldsOf, isRecord}
 use Rattle.sheet.specs.Slots.{blank, spoiled, foreign, holds, slotOf}
-use Rattle.sheet.specs.Look.{told, partOf, headOf}
+use Rattle.sheet.specs.Look.{lookTold, partOf, headOf}
 use Rattle.sheet.specs.inside.Word.{firstBits}
 use Rattle.sheet.proofs.Numbers.{AreBytes}
 use Rattle.sheet.proofs.Blank.{blank-first}
@@ -29,13 +29,13 @@ use Rattle.sheet.proofs.slot.read_slot.Tie as tie
 
 -- a slot by the three tests
 reads-as : (x : List ℕ) (a f r : Bool) → length x ≡ 32 → allBlank x ≡ a → eqb (getD x 0 0) FF ≡ f → isRecord x ≡ r
-    → partOf x ≡ told (pick a blank (pick f spoiled (pick r (holds (fieldsOf x)) foreign)))
+    → partOf x ≡ lookTold (pick a blank (pick f spoiled (pick r (holds (fieldsOf x)) foreign)))
 unfolding partOf slotOf
 reads-as x a f r long ea ef er = simp (eq-eqb (length x) 32 long, ea, ef, er)
 
 -- what is known of a slot once it is asked whether it holds a record: one that does not begin with FF is not blank
 asked : (c : tie.After-is-record) (r : Bool) → let x = c .before .before .before .before .before .args .part .now in c .is-record .result ≡ r
-    → partOf x ≡ told (pick r (holds (fieldsOf x)) foreign)
+    → partOf x ≡ lookTold (pick r (holds (fieldsOf x)) foreign)
 asked c r e =
     let d = c .before .before .before in
     let x = d .before .before .args .part .now in
@@ -44,7 +44,7 @@ asked c r e =
 
 -- and of one that begins with FF once it is asked whether it is blank
 begun : (c : tie.After-blank-slot) (a : Bool) → let x = c .before .before .before .before .before .args .part .now in c .blank-slot .result ≡ a
-    → partOf x ≡ told (pick a blank spoiled)
+    → partOf x ≡ lookTold (pick a blank spoiled)
 begun c a e =
     let d = c .before .before .before in
     let x = d .before .before .args .part .now in
@@ -59,7 +59,7 @@ record-few x h e is =
 
 record-told : (x : List ℕ) (h : Head) (r : List ℕ) → AreBytes x → length x ≡ 32 → h ≡ headOf (fieldsOf x) → h .count ≤ 64 → isRecord x ≡ true
     → r ≡ bigEndian 8 (firstBits (h .count) (numberIn (take 8 (drop 11 x))))
-    → _≡_ {A = Looked} (record { found = Record h; reply = r }) (told (holds (fieldsOf x)))
+    → _≡_ {A = Looked} (record { found = Record h; reply = r }) (lookTold (holds (fieldsOf x)))
 unfolding fieldsOf
 record-told x h r bytes long e few is q =
     let same-count : h .count ≡ getD x 10 0 = ap (λ (k : Head). k .count) e in

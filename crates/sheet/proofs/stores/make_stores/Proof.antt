@@ -8,7 +8,7 @@ use native.Mathlib.Omega.{arith}
 use lib.ListN.{length, take, getD}
 use Rattle.sheet.specs.declared.Head.{Head}
 use Rattle.sheet.specs.Bytes.{bigEndian}
-use Rattle.sheet.specs.Record.{bodyOf, lengthOf}
+use Rattle.sheet.specs.Record.{afterLength, lengthOf}
 use Rattle.sheet.specs.Stores.{Store, _puts_, made, ascending, lengthStores, stores}
 use Rattle.sheet.specs.Look.{entryWith}
 use Rattle.sheet.proofs.Storing.{take-min, ascending-length, in-runs}
@@ -29,13 +29,13 @@ low-alone at n h = simp (div-one, div-eq-of-lt h, mod-eq-of-lt h)
 
 -- the three runs
 whole : (s₀ s₁ s₂ s₃ : List ℕ) (at may : ℕ) (head : Head) (reply bytes : List ℕ) (n₁ q n₂ n₃ : ℕ) → length reply ≤ 8
-    → bytes ≡ bodyOf (entryWith head []) → n₁ ≡ min may 9 → q ≡ may - 9 → n₂ ≡ min q (length reply) → n₃ ≡ may - (9 + length reply)
+    → bytes ≡ afterLength (entryWith head []) → n₁ ≡ min may 9 → q ≡ may - 9 → n₂ ≡ min q (length reply) → n₃ ≡ may - (9 + length reply)
     → s₁ ≡ made s₀ (take n₁ (ascending (at + 2) bytes)) → s₂ ≡ made s₁ (take n₂ (ascending (at + 11) reply))
     → s₃ ≡ made s₂ (take n₃ ((at + 1) puts (9 + length reply) ∷ at puts 0 ∷ [])) → s₃ ≡ made s₀ (take may (stores at (entryWith head reply)))
 unfolding stores
 whole s₀ s₁ s₂ s₃ at may head reply bytes n₁ q n₂ n₃ short own e₁ eq e₂ e₃ first second third =
     let e = entryWith head reply in
-    let h = bodyOf (entryWith head []) in
+    let h = afterLength (entryWith head []) in
     let behind : at + 11 ≡ at + 2 + 9 = omega arith in
     let size : 9 + length reply ≡ lengthOf e = omega arith in
     let one : s₁ ≡ made s₀ (take may (ascending (at + 2) h)) =

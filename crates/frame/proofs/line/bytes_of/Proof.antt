@@ -1,9 +1,9 @@
--- `lines::state::bytes_of` meets its contract: a shift by 8 for each byte that follows is the field of the definition. Assumes nothing.
+-- `frame::line::bytes_of` meets its contract: a shift by 8 for each byte that follows is the field of the definition. Assumes nothing.
 use native.Mathlib.Nat.{div-one}
 use Rattle.frame.specs.Line.{firstBytes}
 use borrow.Author.Needs.{needs}
-use Rattle.lines.proofs.state.bytes_of.Statement.{statement}
-use Rattle.lines.proofs.state.bytes_of.Tie as tie
+use Rattle.frame.proofs.line.bytes_of.Statement.{statement}
+use Rattle.frame.proofs.line.bytes_of.Tie as tie
 
 cast-t4 : tie.Need-cast-t4
 cast-t4 c = search needs
