@@ -86,14 +86,10 @@ fn hear<L: Pollings, R: Pollings>(
     samples: &[u8],
 ) -> Result<Left<Settled>, Difference> {
     let told = left.heard_of(polling, pace, minute, samples);
-    same(
-        told,
-        right.heard_of(polling, pace, minute, samples),
-        || {
-            let runs = in_runs(samples);
-            format!("hearing {runs} at {minute}, {}", words(polling, pace))
-        },
-    )?;
+    same(told, right.heard_of(polling, pace, minute, samples), || {
+        let runs = in_runs(samples);
+        format!("hearing {runs} at {minute}, {}", words(polling, pace))
+    })?;
     Ok(told)
 }
 

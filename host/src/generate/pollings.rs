@@ -302,7 +302,7 @@ mod tests {
         let mut random = Random::new(SEED, 0);
         let polling = Polling::default();
         for _ in 0..10_000 {
-            let told = |pace| draw(&polling, &pace, &mut []).number;
+            let told = |pace| draw(&mut { polling }, &pace, &mut []).number;
             assert_eq!(told(pace(&mut random)), 0);
             assert_eq!(told(quick_pace(&mut random)), 0);
             assert_eq!(told(bad_pace(&mut random)), 20);
@@ -315,12 +315,13 @@ mod tests {
         let mut seen = [0u32; 9];
         for _ in 0..20_000 {
             let pace = pace(&mut random);
-            let state = polling(&mut random, &pace);
-            let told = hear(&state, &pace, 1, &few_samples(&mut random, &state, &pace));
+            let mut state = polling(&mut random, &pace);
+            let samples = few_samples(&mut random, &state, &pace);
+            let told = hear(&mut state, &pace, 1, &samples);
             let outcome = match (told.over, told.number, told.answered) {
                 (1, 0, 0) => 0,
-                (0, 0, 0) if told.polling.listening == 0 && told.taken == 0 => 1,
-                (0, 0, 0) if told.polling.listening == 0 => 2,
+                (0, 0, 0) if state.listening == 0 && told.taken == 0 => 1,
+                (0, 0, 0) if state.listening == 0 => 2,
                 (0, 0, 0) => 3,
                 (_, 21, 0) => 4,
                 (_, 22, 0) => 5,

@@ -208,13 +208,7 @@ fn listen(polling: &mut Polling, pace: &Pace, samples: &[u8]) -> (usize, Option<
 }
 
 /// The reply stands, or the same transmitter is polled again.
-fn settle(
-    polling: &mut Polling,
-    told: &mut Settled,
-    pace: &Pace,
-    minute: u32,
-    outcome: Outcome,
-) {
+fn settle(polling: &mut Polling, told: &mut Settled, pace: &Pace, minute: u32, outcome: Outcome) {
     told.reply = polling.at;
     polling.lines = SoFar::default();
     (polling.passed, polling.listening) = (0, 0);
