@@ -1,7 +1,7 @@
 // What is said of a card above the table: its name, what its slots hold, and its first and last minute.
-use crate::columns::number;
-use crate::columns::words;
 use cards::Tally;
+use print::number;
+use print::words;
 
 // A number below 100 in two digits.
 fn two_digits(n: u32) {

@@ -1,14 +1,6 @@
 // Columns of a table: what stands in them ends at their right end.
 use libc::STDOUT_FILENO;
 
-pub(crate) fn words(text: &[u8]) {
-    io::write_all(STDOUT_FILENO, text);
-}
-
-pub(crate) fn number(n: u64) {
-    io::print_decimal(STDOUT_FILENO, n);
-}
-
 // Blanks up to a column's width, twenty at most.
 pub(crate) fn blanks(used: usize, width: usize) {
     let space = *b"                    ";

@@ -8,15 +8,13 @@ mod levels;
 mod pages;
 mod table;
 
-use libc::STDOUT_FILENO;
-
 fn main() {
     let page = pages::read_all();
     if page.status == 0 {
         let summary = page.summary;
         table::print(summary);
     }
-    io::write_all(STDOUT_FILENO, b"status ");
-    io::print_decimal(STDOUT_FILENO, page.status as u64);
-    io::write_all(STDOUT_FILENO, b"\n");
+    print::words(b"status ");
+    print::number(page.status as u64);
+    print::words(b"\n");
 }

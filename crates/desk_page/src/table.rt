@@ -1,8 +1,8 @@
 // The table of a summary: a heading, a row for each pair, and how many records are of other pairs.
 use crate::columns::column;
-use crate::columns::number;
-use crate::columns::words;
 use crate::levels::level;
+use print::number;
+use print::words;
 use summary::Line;
 use summary::Summary;
 
