@@ -23,7 +23,7 @@ impl Timing {
     /// The heading of a table of timings.
     pub fn heading(left: &str, right: &str) -> String {
         let (left, right) = (format!("{left}, ns"), format!("{right}, ns"));
-        format!("{:<40} {left:>16} {right:>16} {:>7}", "", "ratio")
+        format!("{:<46} {left:>16} {right:>16} {:>7}", "", "ratio")
     }
 
     /// A row of the table in `docs/HOST.md`.
@@ -40,7 +40,7 @@ impl Display for Timing {
             right,
             ratio,
         } = self;
-        write!(f, "{name:<40} {left:>16.1} {right:>16.1} {ratio:>7.2}")
+        write!(f, "{name:<46} {left:>16.2} {right:>16.2} {ratio:>7.2}")
     }
 }
 
