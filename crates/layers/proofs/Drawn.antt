@@ -2,12 +2,11 @@
 use mathlib.Core.Path.{_≡_, refl, sym, ap, _∙_}
 use mathlib.Core.Bool.{Bool, true, false}
 use mathlib.Core.List.{List, [], _∷_, _++_, append-nil, append-assoc}
-use Prim.Native.Nat.{ℕ, zero, suc, _+_, _*_, _≤_}
-use native.Mathlib.Numerals.{add-one}
+use Prim.Native.Nat.{ℕ, _+_, _*_}
 use native.Mathlib.Omega.{arith}
 use lib.Dec.{eqb}
 use borrow.Author.Tests.{eq-eqb, ne-eqb}
-use lib.ListN.{length, length-append}
+use lib.ListN.{length}
 use Rattle.frame.specs.Pick.{pick}
 use Rattle.sheet.specs.Record.{Entry}
 use Rattle.sheet.specs.Slots.{slotAt, slotOf, recordIn, listUpTo}
@@ -65,16 +64,6 @@ of-none k = refl
 -- the records of a pair, one slot more
 pub pair-more : (k : ℕ) (s : List ℕ) (i : ℕ) → ofPair k (listUpTo s (i + 1)) ≡ ofPair k (listUpTo s i) ++ ofPair k (recordIn (slotOf (slotAt s i)))
 pair-more k s i = ap (ofPair k) (list-more s i) ∙ pair-append k (listUpTo s i) (recordIn (slotOf (slotAt s i)))
-
-pub count-more : (k : ℕ) (s : List ℕ) (i : ℕ) → length (ofPair k (listUpTo s (i + 1))) ≡ length (ofPair k (listUpTo s i)) + length (ofPair k (recordIn (slotOf (slotAt s i))))
-count-more k s i = ap length (pair-more k s i) ∙ length-append (ofPair k (listUpTo s i)) (ofPair k (recordIn (slotOf (slotAt s i))))
-
--- no more of them among the first slots than among more slots
-pub count-grows : (k : ℕ) (s : List ℕ) (i d : ℕ) → length (ofPair k (listUpTo s i)) ≤ length (ofPair k (listUpTo s (i + d)))
-count-grows k s i zero = let e : i ≡ i + 0 = omega arith in rw (← e) (omega arith)
-count-grows k s i (suc d) =
-    let e : i + suc d ≡ i + d + 1 = omega arith in
-    rw e (omega (arith, count-grows k s i d, count-more k s (i + d)))
 
 -- what some records of a pair add, in an output; the same of records that are equal, of none, of one of the pair and of one of another
 abbrev pub Adds : Day → ℕ → ℕ → Bool → List Entry → List ℕ → ℕ → ℕ → Bool → List ℕ → Type 0

@@ -2,3 +2,4 @@
 pub mod ByTests
 pub mod Drawn
 pub mod MoreGauged
+pub mod MoreNoted

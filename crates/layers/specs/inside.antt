@@ -1,2 +1,3 @@
 -- What only the code needs, and nobody has to believe.
 pub mod Layers
+pub mod Noted

@@ -1,4 +1,5 @@
-// What the records of a pair come to, in one pass over the sheet: last level, lowest and highest temperature, and a count of each kind of reply.
+// What the records of a pair come to, in one pass over its slots: last level, lowest and highest temperature, and a count of each kind of reply.
+use crate::noting::slot_at;
 use crate::parts::value_in;
 use crate::pass::pair_of;
 use frame::Reply;
@@ -19,6 +20,7 @@ ghost use Rattle.sheet.specs.Look.{entryWith};
 ghost use Rattle.summary.specs.Worked.{replyIn, ofPair};
 ghost use Rattle.layers.specs.Gauged.{replyKind, sideOf, sideIn, oneMore, withReply, gaugedWith, gaugedOf};
 ghost use Rattle.layers.specs.Gauged as said;
+ghost use Rattle.layers.specs.inside.Noted.{Noted};
 
 // The last level and its minute; temperatures as they are drawn; and a count for each kind of reply: 0 good, 1 to 9 the fault's number, 11 to 15 the place
 // of an unreadable digit, 16 and 17 temperatures above and below the scale, 18 others.
@@ -179,10 +181,10 @@ fn with_slot(g: Gauged, sheet: &[u8], slot: usize, pair: u32) -> Gauged
     }
 }
 
-// What the records of a pair come to.
-pub fn gauge(sheet: &[u8], many: usize, pair: u32) -> Gauged
+// What the records of a pair come to, of the slots that were noted of it.
+pub fn gauge(sheet: &[u8], own: &[u16], pair: u32) -> Gauged
     requires { ⌜ sizeAllowed (now sheet) ≡ true ⌝ }
-    requires { ⌜ many ≡ slots (now sheet) ⌝ }
+    requires { ⌜ Noted (now sheet) pair (now own) ⌝ }
     ensures { λ r. ⌜ r ≡ gaugedOf (ofPair pair (listOf (now (sheet .entry)))) ⌝ }
 {
     let mut g = Gauged {
@@ -192,10 +194,11 @@ pub fn gauge(sheet: &[u8], many: usize, pair: u32) -> Gauged
         warm: 0,
         counts: [0; 19],
     };
-    let mut k = 0;
-    while k < many {
-        g = with_slot(g, sheet, k, pair);
-        k += 1;
+    let mut i = 0;
+    while i < own.len() {
+        let slot = slot_at(own, i);
+        g = with_slot(g, sheet, slot, pair);
+        i += 1;
     }
     g
 }

@@ -1,4 +1,5 @@
-// A layer of a pair's picture: one pass over the sheet, in which the records of the pair each add their part.
+// A layer of a pair's picture: one pass over the slots noted of the pair, in which its records each add their part.
+use crate::noting::slot_at;
 use crate::parts::Part;
 use crate::parts::put_part;
 use calendar::Day;
@@ -18,6 +19,7 @@ ghost use Rattle.summary.specs.Worked.{ofPair};
 ghost use Rattle.listing.specs.inside.Puts.{Puts};
 ghost use Rattle.layers.specs.Drawing.{partText, lineGoesOn, layerText};
 ghost use Rattle.layers.specs.inside.Layers.{joinedAfter};
+ghost use Rattle.layers.specs.inside.Noted.{Noted};
 
 // Address and settings as one number.
 pub(crate) fn pair_of(head: Head) -> u32
@@ -106,25 +108,26 @@ pub fn put_layer(
     out: &mut [u8],
     at: usize,
     sheet: &[u8],
-    many: usize,
+    own: &[u16],
     pair: u32,
     layer: u8,
     begin: Day,
 ) -> usize
     requires { ⌜ sizeAllowed (now sheet) ≡ true ⌝ }
-    requires { ⌜ many ≡ slots (now sheet) ⌝ }
+    requires { ⌜ Noted (now sheet) pair (now own) ⌝ }
     requires { ⌜ at + 104 * length (ofPair pair (listOf (now sheet))) ≤ length (now out) ⌝ }
     ensures { λ r. ⌜ Puts (layerText begin layer false (ofPair pair (listOf (now (sheet .entry)))))
         (104 * length (ofPair pair (listOf (now (sheet .entry))))) (now (out .entry)) at r (now (out .exit)) ⌝ }
 {
     let mut end = at;
     let mut joined = false;
-    let mut k = 0;
-    while k < many {
-        let part = put_slot(out, end, sheet, k, pair, layer, joined, begin);
+    let mut i = 0;
+    while i < own.len() {
+        let slot = slot_at(own, i);
+        let part = put_slot(out, end, sheet, slot, pair, layer, joined, begin);
         end = part.end;
         joined = part.joined;
-        k += 1;
+        i += 1;
     }
     end
 }

@@ -11,6 +11,7 @@ use forms::words::put_mode;
 use forms::words::put_type;
 use layers::gauge::Gauged;
 use layers::gauge::gauge;
+use layers::noting::note_slots;
 use layers::pass::put_layer;
 use listing::text::put_word;
 use summary::Line;
@@ -23,6 +24,7 @@ ghost use Rattle.sheet.specs.Slots.{sizeAllowed, slots, listOf};
 ghost use Rattle.summary.specs.Line.{pairOf};
 ghost use Rattle.summary.specs.Worked.{ofPair};
 ghost use Rattle.listing.specs.inside.Puts.{Puts};
+ghost use Rattle.layers.specs.inside.Noted.{Noted};
 ghost use Rattle.picture.specs.Page.{valueText, labelText, scaleText, beginText, frameText, levelRow, heatRow, markRow, rowsText, headingText, sectionText};
 
 // A number of a layer's scale in people's form; marks have no scale.
@@ -103,7 +105,7 @@ fn put_frame(
     out: &mut [u8],
     at: usize,
     sheet: &[u8],
-    many: usize,
+    own: &[u16],
     pair: u32,
     layer: u8,
     address: u16,
@@ -114,14 +116,14 @@ fn put_frame(
     begin: Day,
 ) -> usize
     requires { ⌜ sizeAllowed (now sheet) ≡ true ⌝ }
-    requires { ⌜ many ≡ slots (now sheet) ⌝ }
+    requires { ⌜ Noted (now sheet) pair (now own) ⌝ }
     requires { ⌜ at + 345 + 104 * length (ofPair pair (listOf (now sheet))) ≤ length (now out) ⌝ }
     ensures { λ r. ⌜ Puts (frameText begin (listOf (now (sheet .entry))) pair layer address from top span height)
         (345 + 104 * length (ofPair pair (listOf (now (sheet .entry))))) (now (out .entry)) at r (now (out .exit)) ⌝ }
 {
     let none: [u32; 0] = [];
     let begun = put_begin(out, at, layer, address, from, top, span, height);
-    let drawn = put_layer(out, begun, sheet, many, pair, layer, begin);
+    let drawn = put_layer(out, begun, sheet, own, pair, layer, begin);
     put_choice(
         out,
         drawn,
@@ -143,9 +145,9 @@ fn height(low: u16, high: u16, more: u32) -> u32
 }
 
 // The row of the levels.
-fn put_level_row(out: &mut [u8], at: usize, sheet: &[u8], many: usize, a: Axis, x: Line) -> usize
+fn put_level_row(out: &mut [u8], at: usize, sheet: &[u8], own: &[u16], a: Axis, x: Line) -> usize
     requires { ⌜ sizeAllowed (now sheet) ≡ true ⌝ }
-    requires { ⌜ many ≡ slots (now sheet) ⌝ }
+    requires { ⌜ Noted (now sheet) (pairOf x) (now own) ⌝ }
     requires { ⌜ at + 515 + 104 * length (ofPair (pairOf x) (listOf (now sheet))) ≤ length (now out) ⌝ }
     ensures { λ r. ⌜ Puts (levelRow (listOf (now (sheet .entry))) a x)
         (515 + 104 * length (ofPair (pairOf x) (listOf (now (sheet .entry))))) (now (out .entry)) at r (now (out .exit)) ⌝ }
@@ -166,7 +168,7 @@ fn put_level_row(out: &mut [u8], at: usize, sheet: &[u8], many: usize, a: Axis, 
         out,
         scale,
         sheet,
-        many,
+        own,
         pair,
         0,
         x.address,
@@ -183,13 +185,13 @@ fn put_heat_row(
     out: &mut [u8],
     at: usize,
     sheet: &[u8],
-    many: usize,
+    own: &[u16],
     a: Axis,
     x: Line,
     g: Gauged,
 ) -> usize
     requires { ⌜ sizeAllowed (now sheet) ≡ true ⌝ }
-    requires { ⌜ many ≡ slots (now sheet) ⌝ }
+    requires { ⌜ Noted (now sheet) (pairOf x) (now own) ⌝ }
     requires { ⌜ at + 515 + 104 * length (ofPair (pairOf x) (listOf (now sheet))) ≤ length (now out) ⌝ }
     ensures { λ r. ⌜ Puts (heatRow (listOf (now (sheet .entry))) a x g)
         (515 + 104 * length (ofPair (pairOf x) (listOf (now (sheet .entry))))) (now (out .entry)) at r (now (out .exit)) ⌝ }
@@ -206,7 +208,7 @@ fn put_heat_row(
         out,
         scale,
         sheet,
-        many,
+        own,
         pair,
         1,
         x.address,
@@ -223,13 +225,13 @@ fn put_mark_row(
     out: &mut [u8],
     at: usize,
     sheet: &[u8],
-    many: usize,
+    own: &[u16],
     a: Axis,
     x: Line,
     layer: u8,
 ) -> usize
     requires { ⌜ sizeAllowed (now sheet) ≡ true ⌝ }
-    requires { ⌜ many ≡ slots (now sheet) ⌝ }
+    requires { ⌜ Noted (now sheet) (pairOf x) (now own) ⌝ }
     requires { ⌜ at + 515 + 104 * length (ofPair (pairOf x) (listOf (now sheet))) ≤ length (now out) ⌝ }
     ensures { λ r. ⌜ Puts (markRow (listOf (now (sheet .entry))) a x layer)
         (515 + 104 * length (ofPair (pairOf x) (listOf (now (sheet .entry))))) (now (out .entry)) at r (now (out .exit)) ⌝ }
@@ -241,7 +243,7 @@ fn put_mark_row(
         out,
         scale,
         sheet,
-        many,
+        own,
         pair,
         layer,
         x.address,
@@ -258,22 +260,22 @@ fn put_rows(
     out: &mut [u8],
     at: usize,
     sheet: &[u8],
-    many: usize,
+    own: &[u16],
     a: Axis,
     x: Line,
     g: Gauged,
 ) -> usize
     requires { ⌜ sizeAllowed (now sheet) ≡ true ⌝ }
-    requires { ⌜ many ≡ slots (now sheet) ⌝ }
+    requires { ⌜ Noted (now sheet) (pairOf x) (now own) ⌝ }
     requires { ⌜ at + 2900 + 520 * length (ofPair (pairOf x) (listOf (now sheet))) ≤ length (now out) ⌝ }
     ensures { λ r. ⌜ Puts (rowsText (listOf (now (sheet .entry))) a x g)
         (2900 + 520 * length (ofPair (pairOf x) (listOf (now (sheet .entry))))) (now (out .entry)) at r (now (out .exit)) ⌝ }
 {
-    let level = put_level_row(out, at, sheet, many, a, x);
-    let heat = put_heat_row(out, level, sheet, many, a, x, g);
-    let fault = put_mark_row(out, heat, sheet, many, a, x, 2);
-    let alarm1 = put_mark_row(out, fault, sheet, many, a, x, 3);
-    let alarm0 = put_mark_row(out, alarm1, sheet, many, a, x, 4);
+    let level = put_level_row(out, at, sheet, own, a, x);
+    let heat = put_heat_row(out, level, sheet, own, a, x, g);
+    let fault = put_mark_row(out, heat, sheet, own, a, x, 2);
+    let alarm1 = put_mark_row(out, fault, sheet, own, a, x, 3);
+    let alarm0 = put_mark_row(out, alarm1, sheet, own, a, x, 4);
     put_days(out, alarm0, a)
 }
 
@@ -288,6 +290,30 @@ fn put_heading(out: &mut [u8], at: usize, x: Line) -> usize
     put_word(out, kind, b"</small></h2>\n")
 }
 
+// The section of a pair, from the slots that were noted of it.
+fn put_noted(out: &mut [u8], at: usize, sheet: &[u8], own: &[u16], a: Axis, x: Line) -> usize
+    requires { ⌜ sizeAllowed (now sheet) ≡ true ⌝ }
+    requires { ⌜ Noted (now sheet) (pairOf x) (now own) ⌝ }
+    requires { ⌜ at + 4600 + 624 * length (ofPair (pairOf x) (listOf (now sheet))) ≤ length (now out) ⌝ }
+    ensures { λ r. ⌜ Puts (sectionText (listOf (now (sheet .entry))) a x)
+        (4600 + 624 * length (ofPair (pairOf x) (listOf (now (sheet .entry))))) (now (out .entry)) at r (now (out .exit)) ⌝ }
+{
+    let begin = a.begin;
+    let pair = pair_of(x);
+    let g = gauge(sheet, own, pair);
+    let heading = put_heading(out, at, x);
+    let rows = put_rows(out, heading, sheet, own, a, x, g);
+    let figures = put_figures(out, rows, x, g, begin);
+    let begun = put_word(
+        out,
+        figures,
+        b"<details><summary>faulty replies one by one</summary><ul>",
+    );
+    let faults = put_layer(out, begun, sheet, own, pair, 5, begin);
+    put_word(out, faults, b"</ul></details></section>\n")
+}
+
+// The section of a pair: one pass over the sheet notes its slots.
 pub(crate) fn put_section(
     out: &mut [u8],
     at: usize,
@@ -302,17 +328,7 @@ pub(crate) fn put_section(
     ensures { λ r. ⌜ Puts (sectionText (listOf (now (sheet .entry))) a x)
         (4600 + 624 * length (ofPair (pairOf x) (listOf (now (sheet .entry))))) (now (out .entry)) at r (now (out .exit)) ⌝ }
 {
-    let begin = a.begin;
-    let pair = pair_of(x);
-    let g = gauge(sheet, many, pair);
-    let heading = put_heading(out, at, x);
-    let rows = put_rows(out, heading, sheet, many, a, x, g);
-    let figures = put_figures(out, rows, x, g, begin);
-    let begun = put_word(
-        out,
-        figures,
-        b"<details><summary>faulty replies one by one</summary><ul>",
-    );
-    let faults = put_layer(out, begun, sheet, many, pair, 5, begin);
-    put_word(out, faults, b"</ul></details></section>\n")
+    let noted = note_slots(sheet, many, pair_of(x));
+    let slots = noted.slots;
+    put_noted(out, at, sheet, &slots[..noted.count], a, x)
 }

@@ -13,7 +13,7 @@ put-begin-requires : tie.Need-put-begin-requires
 put-begin-requires c κs = search needs
 
 put-layer-requires : tie.Need-put-layer-requires
-put-layer-requires c κs = search needs
+put-layer-requires c κs = (c .before .before .before .before .before .before .before .before .pre .0, (c .before .before .before .before .before .before .before .before .pre .1 .0, omega (arith, c .before .before .before .before .before .before .before .before .pre .1 .1, c .before .before .before .put-begin .ensures .ends, c .before .before .before .put-begin .ensures .within, c .before .before .before .put-begin .kept .0)))
 
 slice-aggregate-put-choice : tie.Need-slice-aggregate-put-choice
 slice-aggregate-put-choice c = search needs

@@ -13,6 +13,7 @@ use Rattle.sheet.specs.Slots.{listOf}
 use Rattle.summary.specs.declared.Line.{Line}
 use Rattle.summary.specs.Line.{pairOf}
 use Rattle.picture.specs.declared.axis.Axis.{Axis}
+use Rattle.layers.proofs.MoreNoted.{noted-of}
 use Rattle.picture.proofs.Rooms.{many-are}
 use borrow.Author.Needs.{needs}
 use Rattle.picture.proofs.section.put_level_row.Statement.{statement}
@@ -38,7 +39,7 @@ same-length : tie.Need-same-length
 same-length c = search needs
 
 returns : tie.Need-returns
-returns c = at-most (omega arith) (text-is (no-good (listOf (c .before .before .before .before .before .before .before .before .before .args .sheet .now)) (c .before .before .before .before .before .before .before .before .before .args .a) (c .before .before .before .before .before .before .before .before .before .args .x) (c .before .before .before .before .before .if1 .taken)) (c .before .before .put-word .ensures))
+returns c = at-most (omega arith) (text-is (no-good (listOf (c .before .before .before .before .before .before .before .before .before .before .args .sheet .now)) (c .before .before .before .before .before .before .before .before .before .before .args .a) (c .before .before .before .before .before .before .before .before .before .before .args .x) (c .before .before .before .before .before .if1 .taken)) (c .before .before .put-word .ensures))
 
 pair-of-requires : tie.Need-pair-of-requires
 pair-of-requires c κs = search needs
@@ -56,13 +57,13 @@ put-scale-requires : tie.Need-put-scale-requires
 put-scale-requires c κs = search needs
 
 put-frame-requires : tie.Need-put-frame-requires
-put-frame-requires c κs = (c .before .before .before .before .before .before .before .before .before .before .before .before .before .pre .0, (c .before .before .before .before .before .before .before .before .before .before .before .before .before .pre .1 .0, omega (arith, many-are (listOf (c .before .before .before .before .before .before .before .before .before .before .before .before .before .args .sheet .now)) (c .before .before .before .before .before .before .before .before .before .before .before .before .before .args .x) (c .before .before .before .before .before .before .before .pair-of .result) (c .before .before .before .before .before .before .before .pair-of .ensures), c .before .before .before .before .before .before .before .before .before .before .before .before .before .pre .1 .1, c .before .before .before .put-scale .ensures .ends, c .before .before .before .put-scale .ensures .within, c .before .before .before .put-scale .kept .0)))
+put-frame-requires c κs = (c .before .before .before .before .before .before .before .before .before .before .before .before .before .before .pre .0, (noted-of (c .before .before .before .before .before .before .before .pair-of .ensures) (c .before .before .before .before .before .before .before .before .before .before .before .before .before .before .pre .1 .0), omega (arith, many-are (listOf (c .before .before .before .before .before .before .before .before .before .before .before .before .before .before .args .sheet .now)) (c .before .before .before .before .before .before .before .before .before .before .before .before .before .before .args .x) (c .before .before .before .before .before .before .before .pair-of .result) (c .before .before .before .before .before .before .before .pair-of .ensures), c .before .before .before .before .before .before .before .before .before .before .before .before .before .before .pre .1 .1, c .before .before .before .put-scale .ensures .ends, c .before .before .before .put-scale .ensures .within, c .before .before .before .put-scale .kept .0)))
 
 same-length-2 : tie.Need-same-length-2
 same-length-2 c = search needs
 
 returns-2 : tie.Need-returns-2
-returns-2 c = at-most (omega (arith, many-are (listOf (c .before .before .before .before .before .before .before .before .before .before .before .before .before .before .before .before .args .sheet .now)) (c .before .before .before .before .before .before .before .before .before .before .before .before .before .before .before .before .args .x) (c .before .before .before .before .before .before .before .before .before .before .pair-of .result) (c .before .before .before .before .before .before .before .before .before .before .pair-of .ensures))) (text-is (some-good (listOf (c .before .before .before .before .before .before .before .before .before .before .before .before .before .before .before .before .args .sheet .now)) (c .before .before .before .before .before .before .before .before .before .before .before .before .before .before .before .before .args .a) (c .before .before .before .before .before .before .before .before .before .before .before .before .before .before .before .before .args .x) (c .before .before .before .before .before .before .before .before .before .before .pair-of .result) (c .before .before .before .before .before .before .before .before .before .height .result) (c .before .before .before .before .before .before .before .before .before .before .before .before .if1 .left) (c .before .before .before .before .before .before .before .before .before .before .pair-of .ensures) (c .before .before .before .before .before .before .before .before .before .height .ensures)) (then (c .before .before .before .before .before .before .put-scale .ensures) (c .before .before .put-frame .ensures)))
+returns-2 c = at-most (omega (arith, many-are (listOf (c .before .before .before .before .before .before .before .before .before .before .before .before .before .before .before .before .before .args .sheet .now)) (c .before .before .before .before .before .before .before .before .before .before .before .before .before .before .before .before .before .args .x) (c .before .before .before .before .before .before .before .before .before .before .pair-of .result) (c .before .before .before .before .before .before .before .before .before .before .pair-of .ensures))) (text-is (some-good (listOf (c .before .before .before .before .before .before .before .before .before .before .before .before .before .before .before .before .before .args .sheet .now)) (c .before .before .before .before .before .before .before .before .before .before .before .before .before .before .before .before .before .args .a) (c .before .before .before .before .before .before .before .before .before .before .before .before .before .before .before .before .before .args .x) (c .before .before .before .before .before .before .before .before .before .before .pair-of .result) (c .before .before .before .before .before .before .before .before .before .height .result) (c .before .before .before .before .before .before .before .before .before .before .before .before .if1 .left) (c .before .before .before .before .before .before .before .before .before .before .pair-of .ensures) (c .before .before .before .before .before .before .before .before .before .height .ensures)) (then (c .before .before .before .before .before .before .put-scale .ensures) (c .before .before .put-frame .ensures)))
 
 pub put-level-row-spec : {M : Type 1} → statement M
 put-level-row-spec =

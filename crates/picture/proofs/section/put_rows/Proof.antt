@@ -10,22 +10,22 @@ use Rattle.picture.proofs.section.put_rows.Statement.{statement}
 use Rattle.picture.proofs.section.put_rows.Tie as tie
 
 put-level-row-requires : tie.Need-put-level-row-requires
-put-level-row-requires c κs = search needs
+put-level-row-requires c κs = (c .before .before .before .before .pre .0, (c .before .before .before .before .pre .1 .0, omega (arith, c .before .before .before .before .pre .1 .1)))
 
 put-heat-row-requires : tie.Need-put-heat-row-requires
-put-heat-row-requires c κs = search needs
+put-heat-row-requires c κs = (c .before .before .before .before .before .before .before .before .pre .0, (c .before .before .before .before .before .before .before .before .pre .1 .0, omega (arith, c .before .before .before .before .before .before .before .before .pre .1 .1, c .before .before .before .put-level-row .ensures .ends, c .before .before .before .put-level-row .ensures .within, c .before .before .before .put-level-row .kept .0)))
 
 put-mark-row-requires : tie.Need-put-mark-row-requires
-put-mark-row-requires c κs = search needs
+put-mark-row-requires c κs = (c .before .before .before .before .before .before .before .before .before .before .before .before .pre .0, (c .before .before .before .before .before .before .before .before .before .before .before .before .pre .1 .0, omega (arith, c .before .before .before .before .before .before .before .before .before .before .before .before .pre .1 .1, c .before .before .before .before .before .before .before .put-level-row .ensures .ends, c .before .before .before .before .before .before .before .put-level-row .ensures .within, c .before .before .before .before .before .before .before .put-level-row .kept .0, c .before .before .before .put-heat-row .ensures .ends, c .before .before .before .put-heat-row .ensures .within, c .before .before .before .put-heat-row .kept .0)))
 
 put-mark-row-requires-2 : tie.Need-put-mark-row-requires-2
-put-mark-row-requires-2 c κs = (c .before .before .before .before .before .before .before .before .before .before .before .before .before .before .before .pre .0, (c .before .before .before .before .before .before .before .before .before .before .before .before .before .before .before .pre .1 .0, omega (arith, c .before .before .before .before .before .before .before .before .before .before .before .before .before .before .before .pre .1 .1, c .before .before .before .before .before .before .before .before .before .before .before .put-level-row .ensures .ends, c .before .before .before .before .before .before .before .before .before .before .before .put-level-row .ensures .within, c .before .before .before .before .before .before .before .before .before .before .before .put-level-row .kept .0, c .before .before .before .before .before .before .before .put-heat-row .ensures .ends, c .before .before .before .before .before .before .before .put-heat-row .ensures .within, c .before .before .before .before .before .before .before .put-heat-row .kept .0, c .before .before .before .put-mark-row .ensures .ends, c .before .before .before .put-mark-row .ensures .within, c .before .before .before .put-mark-row .kept .0)))
+put-mark-row-requires-2 c κs = (c .before .before .before .before .before .before .before .before .before .before .before .before .before .before .before .before .pre .0, (c .before .before .before .before .before .before .before .before .before .before .before .before .before .before .before .before .pre .1 .0, omega (arith, c .before .before .before .before .before .before .before .before .before .before .before .before .before .before .before .before .pre .1 .1, c .before .before .before .before .before .before .before .before .before .before .before .put-level-row .ensures .ends, c .before .before .before .before .before .before .before .before .before .before .before .put-level-row .ensures .within, c .before .before .before .before .before .before .before .before .before .before .before .put-level-row .kept .0, c .before .before .before .before .before .before .before .put-heat-row .ensures .ends, c .before .before .before .before .before .before .before .put-heat-row .ensures .within, c .before .before .before .before .before .before .before .put-heat-row .kept .0, c .before .before .before .put-mark-row .ensures .ends, c .before .before .before .put-mark-row .ensures .within, c .before .before .before .put-mark-row .kept .0)))
 
 put-mark-row-requires-3 : tie.Need-put-mark-row-requires-3
-put-mark-row-requires-3 c κs = (c .before .before .before .before .before .before .before .before .before .before .before .before .before .before .before .before .before .before .before .pre .0, (c .before .before .before .before .before .before .before .before .before .before .before .before .before .before .before .before .before .before .before .pre .1 .0, omega (arith, c .before .before .before .before .before .before .before .before .before .before .before .before .before .before .before .before .before .before .before .pre .1 .1, c .before .before .before .before .before .before .before .before .before .before .before .before .before .before .before .put-level-row .ensures .ends, c .before .before .before .before .before .before .before .before .before .before .before .before .before .before .before .put-level-row .ensures .within, c .before .before .before .before .before .before .before .before .before .before .before .before .before .before .before .put-level-row .kept .0, c .before .before .before .before .before .before .before .before .before .before .before .put-heat-row .ensures .ends, c .before .before .before .before .before .before .before .before .before .before .before .put-heat-row .ensures .within, c .before .before .before .before .before .before .before .before .before .before .before .put-heat-row .kept .0, c .before .before .before .before .before .before .before .put-mark-row .ensures .ends, c .before .before .before .before .before .before .before .put-mark-row .ensures .within, c .before .before .before .before .before .before .before .put-mark-row .kept .0, c .before .before .before .put-mark-row2 .ensures .ends, c .before .before .before .put-mark-row2 .ensures .within, c .before .before .before .put-mark-row2 .kept .0)))
+put-mark-row-requires-3 c κs = (c .before .before .before .before .before .before .before .before .before .before .before .before .before .before .before .before .before .before .before .before .pre .0, (c .before .before .before .before .before .before .before .before .before .before .before .before .before .before .before .before .before .before .before .before .pre .1 .0, omega (arith, c .before .before .before .before .before .before .before .before .before .before .before .before .before .before .before .before .before .before .before .before .pre .1 .1, c .before .before .before .before .before .before .before .before .before .before .before .before .before .before .before .put-level-row .ensures .ends, c .before .before .before .before .before .before .before .before .before .before .before .before .before .before .before .put-level-row .ensures .within, c .before .before .before .before .before .before .before .before .before .before .before .before .before .before .before .put-level-row .kept .0, c .before .before .before .before .before .before .before .before .before .before .before .put-heat-row .ensures .ends, c .before .before .before .before .before .before .before .before .before .before .before .put-heat-row .ensures .within, c .before .before .before .before .before .before .before .before .before .before .before .put-heat-row .kept .0, c .before .before .before .before .before .before .before .put-mark-row .ensures .ends, c .before .before .before .before .before .before .before .put-mark-row .ensures .within, c .before .before .before .before .before .before .before .put-mark-row .kept .0, c .before .before .before .put-mark-row2 .ensures .ends, c .before .before .before .put-mark-row2 .ensures .within, c .before .before .before .put-mark-row2 .kept .0)))
 
 put-days-requires : tie.Need-put-days-requires
-put-days-requires c κs = omega (arith, c .before .before .before .before .before .before .before .before .before .before .before .before .before .before .before .before .before .before .before .before .before .before .before .pre .1 .1, c .before .before .before .before .before .before .before .before .before .before .before .before .before .before .before .before .before .before .before .put-level-row .ensures .ends, c .before .before .before .before .before .before .before .before .before .before .before .before .before .before .before .before .before .before .before .put-level-row .ensures .within, c .before .before .before .before .before .before .before .before .before .before .before .before .before .before .before .before .before .before .before .put-level-row .kept .0, c .before .before .before .before .before .before .before .before .before .before .before .before .before .before .before .put-heat-row .ensures .ends, c .before .before .before .before .before .before .before .before .before .before .before .before .before .before .before .put-heat-row .ensures .within, c .before .before .before .before .before .before .before .before .before .before .before .before .before .before .before .put-heat-row .kept .0, c .before .before .before .before .before .before .before .before .before .before .before .put-mark-row .ensures .ends, c .before .before .before .before .before .before .before .before .before .before .before .put-mark-row .ensures .within, c .before .before .before .before .before .before .before .before .before .before .before .put-mark-row .kept .0, c .before .before .before .before .before .before .before .put-mark-row2 .ensures .ends, c .before .before .before .before .before .before .before .put-mark-row2 .ensures .within, c .before .before .before .before .before .before .before .put-mark-row2 .kept .0, c .before .before .before .put-mark-row3 .ensures .ends, c .before .before .before .put-mark-row3 .ensures .within, c .before .before .before .put-mark-row3 .kept .0)
+put-days-requires c κs = omega (arith, c .before .before .before .before .before .before .before .before .before .before .before .before .before .before .before .before .before .before .before .before .before .before .before .before .pre .1 .1, c .before .before .before .before .before .before .before .before .before .before .before .before .before .before .before .before .before .before .before .put-level-row .ensures .ends, c .before .before .before .before .before .before .before .before .before .before .before .before .before .before .before .before .before .before .before .put-level-row .ensures .within, c .before .before .before .before .before .before .before .before .before .before .before .before .before .before .before .before .before .before .before .put-level-row .kept .0, c .before .before .before .before .before .before .before .before .before .before .before .before .before .before .before .put-heat-row .ensures .ends, c .before .before .before .before .before .before .before .before .before .before .before .before .before .before .before .put-heat-row .ensures .within, c .before .before .before .before .before .before .before .before .before .before .before .before .before .before .before .put-heat-row .kept .0, c .before .before .before .before .before .before .before .before .before .before .before .put-mark-row .ensures .ends, c .before .before .before .before .before .before .before .before .before .before .before .put-mark-row .ensures .within, c .before .before .before .before .before .before .before .before .before .before .before .put-mark-row .kept .0, c .before .before .before .before .before .before .before .put-mark-row2 .ensures .ends, c .before .before .before .before .before .before .before .put-mark-row2 .ensures .within, c .before .before .before .before .before .before .before .put-mark-row2 .kept .0, c .before .before .before .put-mark-row3 .ensures .ends, c .before .before .before .put-mark-row3 .ensures .within, c .before .before .before .put-mark-row3 .kept .0)
 
 same-length : tie.Need-same-length
 same-length c = search needs
