@@ -39,8 +39,8 @@ rulesText =
 
 abbrev pub scalesText : List ℕ
 scalesText =
-    ascii ".y,.axis{font-size:.75em;line-height:1.2}.y b{font-weight:normal;color:#555}.y span:empty{display:none}.axis{flex:1;min-width:0;display:flex;overflow:hidden}\n"
-    ++ ascii ".axis span{flex:0 0 calc(100%*var(--s)/var(--d));border-left:1px solid #777;padding-left:.3em;box-sizing:border-box}\n"
+    ascii ".y,.axis{font-size:.75em;line-height:1.2}.y b{font-weight:normal;color:#555}.y span:empty{display:none}.axis{flex:1;min-width:0;max-height:2.4em;display:flex;flex-wrap:wrap;row-gap:3em;overflow:hidden}\n"
+    ++ ascii ".axis span{flex:0 0 calc(100%*var(--s)/var(--d));border-left:1px solid #777;padding-left:.3em;box-sizing:border-box;white-space:nowrap}.axis span:last-child{flex:1 0 min-content}.axis wbr{white-space:normal}\n"
     ++ ascii ".row svg{flex:1;min-width:0;overflow:visible;background:#f4f4f4 linear-gradient(90deg,#bbb 1px,transparent 1px) 0 0/calc(100%*var(--s)/var(--d)) 100%}\n"
     ++ ascii "svg{fill:none;print-color-adjust:exact;-webkit-print-color-adjust:exact}path{vector-effect:non-scaling-stroke}.key svg{width:2.5em;height:.9em;vertical-align:middle}\n"
 

@@ -56,18 +56,18 @@ fn put_rules(out: &mut [u8], at: usize) -> usize
 }
 
 fn put_scales(out: &mut [u8], at: usize) -> usize
-    requires { ⌜ at + 592 ≤ length (now out) ⌝ }
-    ensures { λ r. ⌜ Puts scalesText 592 (now (out .entry)) at r (now (out .exit)) ⌝ }
+    requires { ⌜ at + 727 ≤ length (now out) ⌝ }
+    ensures { λ r. ⌜ Puts scalesText 727 (now (out .entry)) at r (now (out .exit)) ⌝ }
 {
     let a = put_word(
         out,
         at,
-        b".y,.axis{font-size:.75em;line-height:1.2}.y b{font-weight:normal;color:#555}.y span:empty{display:none}.axis{flex:1;min-width:0;display:flex;overflow:hidden}\n",
+        b".y,.axis{font-size:.75em;line-height:1.2}.y b{font-weight:normal;color:#555}.y span:empty{display:none}.axis{flex:1;min-width:0;max-height:2.4em;display:flex;flex-wrap:wrap;row-gap:3em;overflow:hidden}\n",
     );
     let b = put_word(
         out,
         a,
-        b".axis span{flex:0 0 calc(100%*var(--s)/var(--d));border-left:1px solid #777;padding-left:.3em;box-sizing:border-box}\n",
+        b".axis span{flex:0 0 calc(100%*var(--s)/var(--d));border-left:1px solid #777;padding-left:.3em;box-sizing:border-box;white-space:nowrap}.axis span:last-child{flex:1 0 min-content}.axis wbr{white-space:normal}\n",
     );
     let c = put_word(
         out,
@@ -109,8 +109,8 @@ fn put_shapes(out: &mut [u8], at: usize) -> usize
 
 // How the page looks, on a screen and on paper.
 pub(crate) fn put_style(out: &mut [u8], at: usize, name: &[u8]) -> usize
-    requires { ⌜ at + 2009 + length (now name) ≤ length (now out) ⌝ }
-    ensures { λ r. ⌜ Puts (styleText (now (name .entry))) (2009 + length (now (name .entry))) (now (out .entry)) at r (now (out .exit)) ⌝ }
+    requires { ⌜ at + 2144 + length (now name) ≤ length (now out) ⌝ }
+    ensures { λ r. ⌜ Puts (styleText (now (name .entry))) (2144 + length (now (name .entry))) (now (out .entry)) at r (now (out .exit)) ⌝ }
 {
     let opening = put_opening(out, at, name);
     let rules = put_rules(out, opening);
