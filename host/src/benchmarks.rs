@@ -401,6 +401,6 @@ mod tests {
         benchmarks.joins(&mut tell);
         benchmarks.rounds(&mut tell);
         benchmarks.stores(&mut tell);
-        assert_eq!(names.len(), 29, "{names:#?}");
+        assert_eq!(names.len(), 31, "{names:#?}");
     }
 }

@@ -20,7 +20,7 @@ use Rattle.polling.specs.declared.Pace.{Pace}
 use Rattle.polling.specs.declared.listening.Ear.{Ear}
 use Rattle.polling.specs.Pace.{timingOf}
 use Rattle.polling.specs.Listening.{Listened, goesOn, settledBy, later, listen}
-use Rattle.polling.specs.inside.Ears.{Ready, limitOf, endOf, cutTo, earBy, earOf, noMessage, closedBy}
+use Rattle.polling.specs.inside.Ears.{Ready, limitOf, nextLimit, endOf, cutTo, earBy, earOf, noMessage, closedBy}
 use Rattle.polling.proofs.Paces.{Good}
 use Rattle.polling.proofs.Pieces.{later-later, untold, Part, shut, onward, part}
 
@@ -40,8 +40,23 @@ at-end p s passed i xs h = ap (λ (l : List ℕ). later i (listen p s passed l))
 pub limit-most : (p : Pace) → Good p → (s : SoFar) → limitOf p s ≤ p .longest
 limit-most p g s = of-pick (λ (n : ℕ). n ≤ p .longest) (isRest s) (p .wait) (p .longest) (λ e. g .wait) (λ e. omega arith)
 
+-- and never below `wait`; so the one that comes next is not behind it, and is reached where it is
+wait-first : (p : Pace) → Good p → (s : SoFar) → p .wait ≤ limitOf p s
+wait-first p g s = of-pick (λ (n : ℕ). p .wait ≤ n) (isRest s) (p .wait) (p .longest) (λ e. omega arith) (λ e. g .wait)
+
+pub next-limit : (p : Pace) → Good p → (s : SoFar) (passed n : ℕ) → n ≡ nextLimit p s passed → (n ≤ limitOf p s) × (n ≤ passed → limitOf p s ≤ passed)
+next-limit p g s passed n e = go (ltb passed (p .wait)) refl
+  where
+    go : (b : Bool) → ltb passed (p .wait) ≡ b → (n ≤ limitOf p s) × (n ≤ passed → limitOf p s ≤ passed)
+    go true t =
+        let is : n ≡ p .wait = e ∙ ap (λ (b : Bool). pick b (p .wait) (limitOf p s)) t in
+        (omega (arith, is, wait-first p g s), λ h. absurd (omega (arith, is, h, ltb-true passed (p .wait) t)))
+    go false t =
+        let is : n ≡ limitOf p s = e ∙ ap (λ (b : Bool). pick b (p .wait) (limitOf p s)) t in
+        (omega (arith, is), λ h. omega (arith, is, h))
+
 -- where a piece is cut
-pub cut-by : (p : Pace) (s : SoFar) (k many limit passed : ℕ) → k ≡ cutTo many limit passed → limit ≡ limitOf p s → k ≡ cutTo many (limitOf p s) passed
+pub cut-by : (p : Pace) (s : SoFar) (k many limit passed : ℕ) → k ≡ cutTo many limit passed → limit ≡ nextLimit p s passed → k ≡ cutTo many (nextLimit p s passed) passed
 cut-by p s k many limit passed e f = e ∙ ap (λ (n : ℕ). cutTo many n passed) f
 
 cut-facts : (many limit passed k : ℕ) (b : Bool) → ltb passed limit ≡ b → 1 ≤ many → limit ≤ 10000000 → k ≡ min (pick b (limit - passed) 1) many
@@ -51,9 +66,13 @@ cut-facts many limit passed k true t some most e =
     (omega arith, omega arith, λ j a b. omega arith, omega arith)
 cut-facts many limit passed k false t some most e = (omega arith, omega arith, λ j a b. absurd (omega arith), omega arith)
 
-module _ (p : Pace) (g : Good p) (s : SoFar) (before i k : ℕ) (xs : List ℕ) (more : i < length xs) (cut : k ≡ cutTo (length xs - i) (limitOf p s) (before + i)) where
+module _ (p : Pace) (g : Good p) (s : SoFar) (before i k : ℕ) (xs : List ℕ) (more : i < length xs) (cut : k ≡ cutTo (length xs - i) (nextLimit p s (before + i)) (before + i)) where
   pub cut-so : (1 ≤ k) × (k ≤ length xs - i) × ((j : ℕ) → 1 ≤ j → j < k → before + i + j < limitOf p s) × (k ≤ 10000000)
-  cut-so = cut-facts (length xs - i) (limitOf p s) (before + i) k (ltb (before + i) (limitOf p s)) refl (omega arith) (omega (arith, limit-most p g s, g .longest)) cut
+  cut-so =
+      let limit = nextLimit p s (before + i) in
+      let near = next-limit p g s (before + i) limit refl .0 in
+      let so = cut-facts (length xs - i) limit (before + i) k (ltb (before + i) limit) refl (omega arith) (omega (arith, near, limit-most p g s, g .longest)) cut in
+      (so .0, so .1, λ j a b. omega (arith, near, so .2 j a b), so .3)
 
 -- What the lines told of it is told of the try.
 told-ear : (t : MessageTold) (n : ℕ) → (not (eqb (countTold t) 0) || not (eqb (numberTold t) 0)) ≡ true
@@ -86,7 +105,7 @@ pub record Turn (p : Pace) (s : SoFar) (before i : ℕ) (xs : List ℕ) (told : 
   pub goes : (not (eqb (told .count) 0) || not (eqb (told .number) 0)) ≡ false → before + (i + told .taken) < limitOf p (told .«so_far»)
       → later i (listen p s (before + i) (drop i xs)) ≡ later (i + told .taken) (listen p (told .«so_far») (before + (i + told .taken)) (drop (i + told .taken) xs))
 
-module _ (p : Pace) (g : Good p) (s : SoFar) (r : Ready s) (before i k : ℕ) (xs : List ℕ) (more : i < length xs) (cut : k ≡ cutTo (length xs - i) (limitOf p s) (before + i)) where
+module _ (p : Pace) (g : Good p) (s : SoFar) (r : Ready s) (before i k : ℕ) (xs : List ℕ) (more : i < length xs) (cut : k ≡ cutTo (length xs - i) (nextLimit p s (before + i)) (before + i)) where
   abbrev ys : List ℕ
   ys = take (i + k - i) (drop i xs)
 

@@ -147,7 +147,7 @@ pub(crate) fn draw(t: Turn, p: Pace, out: &mut [u8]) -> Driven
         return undrawn(t, 1, 0);
     }
     if t.listening != 0 {
-        let heard = turns::meant(t, p);
+        let heard = turns::listens(t);
         return undrawn(heard, 0, 0);
     }
     draw_on(t, p, out)

@@ -1,4 +1,5 @@
-// A try listened to: the samples are handed to the hearing of the lines, cut to what is left of the limit, `wait` while the lines are at rest, else `longest`.
+// A try listened to: the samples are handed to the hearing of the lines, cut at the limit that comes next: `wait`, and behind it, where the lines are not at
+// rest, `longest`.
 use crate::Pace;
 use lines::LinesTold;
 use lines::SoFar;
@@ -7,7 +8,7 @@ ghost use mathlib.Core.Bool.{false};
 ghost use Prim.Native.Nat.{_+_, _<_, _^_};
 ghost use Rattle.polling.specs.Pace.{badPace};
 ghost use Rattle.polling.specs.Listening.{goesOn, settledBy, listen};
-ghost use Rattle.polling.specs.inside.Ears.{Ready, limitOf, endOf, roomTo, cutTo, earOf, noMessage, closedBy};
+ghost use Rattle.polling.specs.inside.Ears.{Ready, limitOf, nextLimit, endOf, roomTo, cutTo, earOf, noMessage, closedBy};
 
 // How a try stands: how many samples were taken, and what is left of the lines where it goes on; where it is settled, whether by a message, its bits, and
 // its number.
@@ -29,6 +30,17 @@ fn limit_of(p: Pace, s: SoFar) -> usize
         return p.wait as usize;
     }
     p.longest as usize
+}
+
+// The limit that comes next: before `wait` it is that one, whatever the lines are; they are asked only behind it, so that a batch that ends before it
+// costs no more than to be heard.
+fn next_limit(p: Pace, s: SoFar, passed: usize) -> usize
+    ensures { λ r. ⌜ r ≡ nextLimit p s passed ⌝ }
+{
+    if passed < p.wait as usize {
+        return p.wait as usize;
+    }
+    limit_of(p, s)
 }
 
 // How many samples come before the limit or reach it: at least one.
@@ -113,7 +125,8 @@ pub(crate) fn listen(p: Pace, begun: SoFar, before: usize, samples: &[u8]) -> Ea
     let mut s = begun;
     let mut i = 0;
     while i < samples.len() {
-        let end = i + cut(samples.len() - i, limit_of(p, s), before + i);
+        let limit = next_limit(p, s, before + i);
+        let end = i + cut(samples.len() - i, limit, before + i);
         let told = lines::hear(
             p.least as usize,
             p.most as usize,
@@ -126,7 +139,7 @@ pub(crate) fn listen(p: Pace, begun: SoFar, before: usize, samples: &[u8]) -> Ea
             return closed(told, i);
         }
         let left = told.so_far;
-        if limit_of(p, left) <= before + i {
+        if next_limit(p, left, before + i) <= before + i {
             return at_limit(left, i);
         }
         s = left;

@@ -5,6 +5,7 @@ use round::Polled;
 ghost use mathlib.Core.Path.{_≡_};
 ghost use mathlib.Core.Bool.{false};
 ghost use lib.ListN.{length};
+ghost use Rattle.lines.specs.SoFar.{meant};
 ghost use Rattle.polling.specs.Pace.{badPace};
 ghost use Rattle.polling.specs.Meant.{tryDrawn};
 ghost use Rattle.polling.specs.inside.Ears.{Ready};
@@ -58,6 +59,15 @@ pub(crate) fn size_of(p: Pace, address: u16) -> u32
     p.delay + 16 * (p.low + p.still)
 }
 
+// What a turn means while it listens: its lines mean what they mean by themselves.
+pub(crate) fn listens(t: Turn) -> Turn
+    ensures { λ r. ⌜ (r ≡ turnAs t (meant (t .lines)) (t .passed) (t .tried) 1) × Ready (r .lines) ⌝ }
+{
+    let handed = t.lines;
+    let heard = lines::state::meant(handed);
+    turn_by(t, heard, t.passed, t.tried, 1)
+}
+
 // What a turn means by its pace, while the round is not over.
 pub(crate) fn meant(t: Turn, p: Pace) -> Turn
     requires { ⌜ badPace p ≡ false ⌝ }
@@ -65,9 +75,7 @@ pub(crate) fn meant(t: Turn, p: Pace) -> Turn
     ensures { λ r. ⌜ MeansTurn p t r × Ready (r .lines) ⌝ }
 {
     if t.listening != 0 {
-        let handed = t.lines;
-        let heard = lines::state::meant(handed);
-        return turn_by(t, heard, t.passed, t.tried, 1);
+        return listens(t);
     }
     let rest = lines::state::at_rest();
     if size_of(p, t.entry.address) <= t.passed {

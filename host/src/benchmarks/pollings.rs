@@ -52,6 +52,13 @@ where
             );
             let name = format!("a sample of a round, batches of {batch}");
             self.time(&mut tell, &name, SAMPLES, left, right);
+            // The proved library on both sides: what request 16 has a goal for.
+            let (left, right) = (
+                hears(self.left, samples, batch),
+                lines(self.left, samples, batch),
+            );
+            let name = format!("a sample, round to lines, batches of {batch}");
+            self.time(&mut tell, &name, SAMPLES, left, right);
         }
         let few = &samples[..SAMPLES / 16];
         let (left, right) = (lines(self.left, few, 1), lines(self.right, few, 1));
@@ -102,8 +109,8 @@ fn lines<'a, C: Lines>(core: &'a C, samples: &'a [u8], batch: usize) -> impl FnM
     }
 }
 
-/// The same in a round that always listens: where a try is settled, the next one is listened to at
-/// once.
+/// The same in a round that always listens: where a try is settled, the first transmitter is
+/// listened to at once.
 fn hears<'a, C: Pollings>(core: &'a C, samples: &'a [u8], batch: usize) -> impl FnMut() + 'a {
     let start = round(1);
     move || {
@@ -114,7 +121,7 @@ fn hears<'a, C: Pollings>(core: &'a C, samples: &'a [u8], batch: usize) -> impl 
                 let told = black_box(core.polling_hear(&mut now, &PACE, 605, rest));
                 rest = &rest[told.taken.min(rest.len())..];
                 if now.listening == 0 {
-                    now = start;
+                    (now.at, now.tried, now.listening) = (0, 0, 1);
                 }
             }
         }

@@ -33,6 +33,10 @@ pub record Ready (s : SoFar) : Type 0 where
 abbrev pub limitOf : Pace → SoFar → ℕ
 limitOf p s = pick (isRest s) (p .wait) (p .longest)
 
+-- The limit that comes next after so many samples: no try is settled by either before `wait`.
+abbrev pub nextLimit : Pace → SoFar → (passed : ℕ) → ℕ
+nextLimit p s passed = pick (ltb passed (p .wait)) (p .wait) (limitOf p s)
+
 abbrev pub endOf : SoFar → MessageTold
 endOf s = pick (isRest s) nothing (givenUp s)
 

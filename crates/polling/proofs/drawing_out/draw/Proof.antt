@@ -6,11 +6,11 @@ use borrow.Author.Tests.{ne-eqb}
 use Rattle.frame.specs.Line.{mark}
 use Rattle.polling.specs.declared.Polling.{Polling}
 use Rattle.polling.specs.declared.turns.Turn.{Turn}
+use Rattle.polling.specs.Meant.{turnBy}
 use Rattle.polling.specs.Drawing.{drew}
 use Rattle.polling.specs.inside.Turns.{stateOf, leftByDrawing}
-use Rattle.polling.proofs.Meaning.{while-over}
+use Rattle.polling.proofs.Meaning.{while-over, while-listening}
 use Rattle.polling.proofs.Answers.{draws-bad, draws-none}
-use Rattle.polling.proofs.Taking.{its-entry}
 use borrow.Author.Needs.{needs}
 use Rattle.polling.proofs.drawing_out.draw.Statement.{statement}
 use Rattle.polling.proofs.drawing_out.draw.Tie as tie
@@ -45,9 +45,8 @@ returns-2 c =
           (ap (leftByDrawing rs (a .t)) (c .undrawn2 .ensures) ∙ ap₂ (λ (x : Polling) (y : Bool). drew x 0 (mark y) 0) (sym (while-over (a .p) (stateOf rs (a .t)) o)) (sym o));
     }
 
-meant-requires : tie.Need-meant-requires
-meant-requires c κs =
-    (sym (c .before .before .before .before .before .bad-pace .ensures) ∙ c .before .before .before .before .if1 .left, sym (c .before .before .before .is-over .ensures) ∙ c .before .before .if2 .left)
+listens-requires : tie.Need-listens-requires
+listens-requires c κs = search needs
 
 undrawn-requires-3 : tie.Need-undrawn-requires-3
 undrawn-requires-3 c κs = search needs
@@ -57,12 +56,12 @@ returns-3 c =
     let a = c .before .before .before .before .before .before .before .before .before .args in
     let b = sym (c .before .before .before .before .before .before .before .bad-pace .ensures) ∙ c .before .before .before .before .before .before .if1 .left in
     let o = sym (c .before .before .before .before .before .is-over .ensures) ∙ c .before .before .before .before .if2 .left in
-    let m = c .before .meant in
+    let on = c .before .before .if3 .taken in
     record {
-      on = λ rs its. draws-none (stateOf rs (a .t)) (a .p) (a .out .now) (leftByDrawing rs (a .t) (c .undrawn3 .result)) b (ap₂ (λ (x y : Bool). x || not y) o (ne-eqb (a .t .listening) 0 (c .before .before .if3 .taken)))
+      on = λ rs its. draws-none (stateOf rs (a .t)) (a .p) (a .out .now) (leftByDrawing rs (a .t) (c .undrawn3 .result)) b (ap₂ (λ (x y : Bool). x || not y) o (ne-eqb (a .t .listening) 0 on))
           (ap (leftByDrawing rs (a .t)) (c .undrawn3 .ensures)
-          ∙ ap (λ (x : Turn). drew (stateOf rs x) 0 0 0) (sym (m .ensures .0 .same))
-          ∙ ap₂ (λ (x : Polling) (y : Bool). drew x 0 (mark y) 0) (m .ensures .0 .on rs (its-entry rs (a .t) o its)) (sym o));
+          ∙ ap (λ (x : Turn). drew (turnBy (stateOf rs (a .t)) (x .lines) (x .passed) (a .t .tried) (x .listening)) 0 0 0) (c .before .listens .ensures .0)
+          ∙ ap₂ (λ (x : Polling) (y : Bool). drew x 0 (mark y) 0) (sym (while-listening (a .p) (stateOf rs (a .t)) o on)) (sym o));
     }
 
 draw-on-requires : tie.Need-draw-on-requires
@@ -85,7 +84,7 @@ draw-spec =
     is-over-requires
     undrawn-requires-2
     returns-2
-    meant-requires
+    listens-requires
     undrawn-requires-3
     returns-3
     draw-on-requires

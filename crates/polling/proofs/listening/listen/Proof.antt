@@ -11,9 +11,9 @@ use Rattle.lines.specs.Hearing.{hear}
 use Rattle.lines.specs.Calls.{answered}
 use Rattle.polling.specs.Pace.{timingOf}
 use Rattle.polling.specs.Listening.{later, listen}
-use Rattle.polling.specs.inside.Ears.{Ready, limitOf, cutTo, earOf}
+use Rattle.polling.specs.inside.Ears.{Ready, limitOf, nextLimit, cutTo, earOf}
 use Rattle.polling.proofs.Paces.{good}
-use Rattle.polling.proofs.OneTurn.{first, at-end, cut-by, cut-so, limit-most, closed-settled, Turn, turn}
+use Rattle.polling.proofs.OneTurn.{first, at-end, next-limit, cut-by, cut-so, limit-most, closed-settled, Turn, turn}
 use Rattle.polling.specs.declared.listening.Ear.{Ear}
 use Rattle.polling.proofs.listening.listen.Statement.{statement}
 use Rattle.polling.proofs.listening.listen.Tie as tie
@@ -30,12 +30,13 @@ within : (c : tie.In-loop Inv-loop μ-loop) → c .before .loop .i < length (c .
 within c = omega arith
 
 cut-at : (c : tie.After-cut Inv-loop μ-loop) → c .cut .result
-    ≡ cutTo (length (c .before .before .before .before .before .args .samples .now) - c .before .before .before .loop .i) (limitOf (c .before .before .before .before .before .args .p) (c .before .before .before .loop .s))
+    ≡ cutTo (length (c .before .before .before .before .before .args .samples .now) - c .before .before .before .loop .i)
+    (nextLimit (c .before .before .before .before .before .args .p) (c .before .before .before .loop .s) (c .before .before .before .before .before .args .before + c .before .before .before .loop .i))
     (c .before .before .before .before .before .args .before + c .before .before .before .loop .i)
 cut-at c =
     let a = c .before .before .before .before .before .args in
     let l = c .before .before .before .loop in
-    cut-by (a .p) (l .s) (c .cut .result) (length (a .samples .now) - l .i) (c .before .limit-of .result) (a .before + l .i) (c .cut .ensures) (c .before .limit-of .ensures)
+    cut-by (a .p) (l .s) (c .cut .result) (length (a .samples .now) - l .i) (c .before .next-limit .result) (a .before + l .i) (c .cut .ensures) (c .before .next-limit .ensures)
 
 cuts : (c : tie.After-cut Inv-loop μ-loop) → (1 ≤ c .cut .result) × (c .cut .result ≤ length (c .before .before .before .before .before .args .samples .now) - c .before .before .before .loop .i)
 cuts c =
@@ -61,11 +62,14 @@ loop-holds c =
     let f = c .before .pre in
     (omega arith, f .1 .0, first (a .p) (a .begun) (a .before) (a .samples .now), omega (arith, f .1 .1))
 
-sub-cut : tie.Need-sub-cut Inv-loop μ-loop
-sub-cut c = omega (arith, c .before .loop .inv .0)
+add-next-limit : tie.Need-add-next-limit Inv-loop μ-loop
+add-next-limit c = omega (arith, c .before .loop .inv .3)
 
-limit-of-requires : tie.Need-limit-of-requires Inv-loop μ-loop
-limit-of-requires c κs = search needs
+next-limit-requires : tie.Need-next-limit-requires Inv-loop μ-loop
+next-limit-requires c κs = search needs
+
+sub-cut : tie.Need-sub-cut Inv-loop μ-loop
+sub-cut c = omega (arith, c .before .before .loop .inv .0)
 
 add-cut : tie.Need-add-cut Inv-loop μ-loop
 add-cut c = omega (arith, c .before .before .loop .inv .3)
@@ -129,8 +133,15 @@ returns c =
     let is = c .closed .ensures ∙ u .closes (c .before .if1 .taken) ∙ ap earOf (sym (l .inv .2)) in
     (is, λ e. absurd (true≢false (sym (ap (λ (x : Ear). x .settled) (c .closed .ensures) ∙ closed-settled (h .result) (l .i + h .result .taken)) ∙ e)))
 
-limit-of-requires-2 : tie.Need-limit-of-requires-2 Inv-loop μ-loop
-limit-of-requires-2 c κs = search needs
+add-next-limit-2 : tie.Need-add-next-limit-2 Inv-loop μ-loop
+add-next-limit-2 c =
+    let l = c .before .before .before .before .before .before .before .before .before .before .before .before .before .loop in
+    let h = c .before .before .before .before .before .hear in
+    let u = its-turn (c .before .before .before .before .before .before .before .before .before .before) (h .result) (h .ensures) in
+    omega (arith, u .small, l .inv .3)
+
+next-limit-requires-2 : tie.Need-next-limit-requires-2 Inv-loop μ-loop
+next-limit-requires-2 c κs = search needs
 
 add-if2 : tie.Need-add-if2 Inv-loop μ-loop
 add-if2 c =
@@ -149,7 +160,9 @@ returns-2 c =
     let l = c .before .before .before .before .before .before .before .before .before .before .before .before .before .before .before .before .loop in
     let h = c .before .before .before .before .before .before .before .before .hear in
     let u = its-turn (c .before .before .before .before .before .before .before .before .before .before .before .before .before) (h .result) (h .ensures) in
-    let is = c .at-limit .ensures ∙ ap earOf (sym (l .inv .2 ∙ u .ends (c .before .before .before .before .if1 .left) (omega (arith, c .before .before .limit-of2 .ensures, c .before .if2 .taken)))) in
+    let next = c .before .before .next-limit2 in
+    let reached = next-limit (s .args .p) (good (s .args .p) (s .pre .0)) (h .result .«so_far») (s .args .before + (l .i + h .result .taken)) (next .result) (next .ensures) .1 (c .before .if2 .taken) in
+    let is = c .at-limit .ensures ∙ ap earOf (sym (l .inv .2 ∙ u .ends (c .before .before .before .before .if1 .left) reached)) in
     (is, λ e. absurd (true≢false (sym (ap (λ (x : Ear). x .settled) (c .at-limit .ensures)) ∙ e)))
 
 loop-less : tie.Need-loop-less Inv-loop μ-loop
@@ -167,7 +180,9 @@ loop-again c =
     let h = c .before .before .before .before .before .before .before .hear in
     let g = good (s .args .p) (s .pre .0) in
     let u = its-turn (c .before .before .before .before .before .before .before .before .before .before .before .before) (h .result) (h .ensures) in
-    let short : s .args .before + (l .i + h .result .taken) < limitOf (s .args .p) (h .result .«so_far») = omega (arith, c .before .limit-of2 .ensures, c .if2 .left) in
+    let next = c .before .next-limit2 in
+    let near = next-limit (s .args .p) g (h .result .«so_far») (s .args .before + (l .i + h .result .taken)) (next .result) (next .ensures) .0 in
+    let short : s .args .before + (l .i + h .result .taken) < limitOf (s .args .p) (h .result .«so_far») = omega (arith, near, c .if2 .left) in
     (omega (arith, u .few), u .ready (c .before .before .before .if1 .left), l .inv .2 ∙ u .goes (c .before .before .before .if1 .left) short, omega (arith, short, limit-most (s .args .p) g (h .result .«so_far»)))
 
 left-open-requires : tie.Need-left-open-requires Inv-loop μ-loop
@@ -187,8 +202,9 @@ listen-spec =
     Inv-loop
     μ-loop
     loop-holds
+    add-next-limit
+    next-limit-requires
     sub-cut
-    limit-of-requires
     add-cut
     cut-requires
     add-end
@@ -202,7 +218,8 @@ listen-spec =
     add-i
     closed-requires
     returns
-    limit-of-requires-2
+    add-next-limit-2
+    next-limit-requires-2
     add-if2
     at-limit-requires
     returns-2
