@@ -5,5 +5,4 @@ pub mod Characters
 pub mod SixKinds
 pub mod Tails
 pub mod Filling
-pub mod Putting
 pub mod Written

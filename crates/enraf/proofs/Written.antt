@@ -9,12 +9,13 @@ use lib.Dec.{eqb}
 use lib.ListN.{length, take, drop, set, length-append}
 use lib.Seq.{sets, sets-eq, take-at}
 use Rattle.frame.specs.Pick.{pick}
+use Rattle.putting.specs.Digit.{digit}
+use Rattle.putting.specs.Puts.{Puts}
 use Rattle.enraf.specs.declared.Done.{Done}
 use Rattle.enraf.specs.Check.{blockCheck}
-use Rattle.enraf.specs.Item.{Item, digit, tailOf}
+use Rattle.enraf.specs.Item.{Item, tailOf}
 use Rattle.enraf.specs.Record.{STX, ETX, B, Z, checkedOf, itemRecord}
 use Rattle.enraf.specs.Writing.{writeFault, done, WritesItem}
-use Rattle.enraf.specs.inside.Puts.{Puts}
 use Rattle.frame.proofs.Parts.{sets-append}
 
 pub refuses : (i : Item) (out : List ℕ) (n : ℕ) (answer : Done) → writeFault i out ≡ n → eqb n 0 ≡ false → answer ≡ done 0 n → WritesItem i out answer out
@@ -80,7 +81,7 @@ abbrev pub headOf : Item → List ℕ
 headOf i = STX ∷ digit (i .ciu) ∷ digit (i .gauge / 10) ∷ digit (i .gauge % 10) ∷ B ∷ Z ∷ i .first ∷ i .second ∷ []
 
 pub left : (i : Item) (out o1 o2 o3 : List ℕ) (end : ℕ) → length (itemRecord i) ≤ length out → o1 ≡ sets out 0 (headOf i)
-    → Puts (tailOf (i .kind) (i .error) (i .characters)) o1 8 end o2
+    → Puts (tailOf (i .kind) (i .error) (i .characters)) 18 o1 8 end o2
     → o3 ≡ sets o2 end (ETX ∷ blockCheck (take end (drop 1 (set o2 end ETX))) ∷ [])
     → o3 ≡ itemRecord i ++ drop (length (itemRecord i)) out
 unfolding itemRecord checkedOf

@@ -6,6 +6,7 @@ use Prim.Native.Nat.{ℕ, _+_, _-_, _*_, _/_, _%_}
 use lib.Dec.{eqb, leb}
 use lib.ListN.{length, getD, take, drop}
 use Rattle.frame.specs.Pick.{pick}
+use Rattle.putting.specs.Digit.{digit}
 
 -- What a record says: the CIU's address, the gauge's transmission address, the two letters, the kind, an error's number, and the data.
 pub record Item : Type 0 where
@@ -50,10 +51,7 @@ ampersand = 0x26
 abbrev pub exclamation : ℕ
 exclamation = 0x21
 
--- A decimal digit, as the character that it is written by: "0" is 30 hex.
-abbrev pub digit : ℕ → ℕ
-digit d = 0x30 + d
-
+-- Decimal digits, as the characters that they are written by: "0" is 30 hex.
 abbrev pub isDigit : ℕ → Bool
 isDigit b = leb 0x30 b && leb b 0x39
 

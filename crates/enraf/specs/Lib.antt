@@ -4,4 +4,3 @@ pub mod Item
 pub mod Record
 pub mod Reading
 pub mod Writing
-pub mod inside

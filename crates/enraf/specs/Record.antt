@@ -1,8 +1,9 @@
 -- Document 02, request 13: STX, CIU address digit, two transmission digits, B, Z, item, ETX, block check.
 use mathlib.Core.List.{List, [], _∷_, _++_}
 use Prim.Native.Nat.{ℕ, _/_, _%_}
+use Rattle.putting.specs.Digit.{digit}
 use Rattle.enraf.specs.Check.{blockCheck}
-use Rattle.enraf.specs.Item.{Item, digit, tailOf}
+use Rattle.enraf.specs.Item.{Item, tailOf}
 
 abbrev pub STX : ℕ
 STX = 0x02

@@ -1,17 +1,20 @@
 // Writing a record: its parts are stored one after another, straight into the output.
 use crate::Done;
 use crate::check::block_check;
+use putting::put_byte;
+use putting::put_word;
 ghost use mathlib.Core.Path.{_≡_};
 ghost use mathlib.Core.Bool.{true};
 ghost use mathlib.Core.List.{[], _∷_};
 ghost use Prim.Native.Nat.{_+_, _/_, _%_, _≤_, _<_};
 ghost use lib.ListN.{length, take, drop, set};
 ghost use lib.Seq.{sets};
-ghost use Rattle.enraf.specs.Item.{digit, digitCharacters, kindFits, tailOf};
+ghost use Rattle.putting.specs.Digit.{digit};
+ghost use Rattle.putting.specs.Puts.{Puts};
+ghost use Rattle.enraf.specs.Item.{digitCharacters, kindFits, tailOf};
 ghost use Rattle.enraf.specs.Check.{blockCheck};
 ghost use Rattle.enraf.specs.Record.{STX, ETX, B, Z};
 ghost use Rattle.enraf.specs.Writing.{done};
-ghost use Rattle.enraf.specs.inside.Puts.{Puts};
 
 pub(crate) fn refusal(number: u8) -> Done
     ensures { λ r. ⌜ r ≡ done 0 number ⌝ }
@@ -54,31 +57,11 @@ pub(crate) fn put_head(out: &mut [u8], ciu: u16, gauge: u16, first: u8, second: 
     out[7] = second;
 }
 
-fn put_byte(out: &mut [u8], at: usize, byte: u8) -> usize
-    requires { ⌜ at < length (now out) ⌝ }
-    ensures { λ r. ⌜ Puts (byte ∷ []) (now (out .entry)) at r (now (out .exit)) ⌝ }
-{
-    out[at] = byte;
-    at + 1
-}
-
-fn put_part(out: &mut [u8], at: usize, part: &[u8]) -> usize
-    requires { ⌜ at + length (now part) ≤ length (now out) ⌝ }
-    ensures { λ r. ⌜ Puts (now (part .entry)) (now (out .entry)) at r (now (out .exit)) ⌝ }
-{
-    let mut i = 0;
-    while i < part.len() {
-        out[at + i] = part[i];
-        i += 1;
-    }
-    at + part.len()
-}
-
 // An error's number in three digits.
 fn put_three(out: &mut [u8], at: usize, n: u16) -> usize
     requires { ⌜ at + 3 ≤ length (now out) ⌝ }
     requires { ⌜ n ≤ 999 ⌝ }
-    ensures { λ r. ⌜ Puts (digitCharacters n) (now (out .entry)) at r (now (out .exit)) ⌝ }
+    ensures { λ r. ⌜ Puts (digitCharacters n) 3 (now (out .entry)) at r (now (out .exit)) ⌝ }
 {
     out[at] = b'0' + (n / 100) as u8;
     out[at + 1] = b'0' + (n / 10 % 10) as u8;
@@ -90,20 +73,20 @@ fn put_three(out: &mut [u8], at: usize, n: u16) -> usize
 pub(crate) fn put_tail(out: &mut [u8], kind: u8, error: u16, characters: &[u8]) -> usize
     requires { ⌜ kindFits kind error (now characters) ≡ true ⌝ }
     requires { ⌜ 8 + length (tailOf kind error (now characters)) ≤ length (now out) ⌝ }
-    ensures { λ r. ⌜ Puts (tailOf kind error (now (characters .entry))) (now (out .entry)) 8 r (now (out .exit)) ⌝ }
+    ensures { λ r. ⌜ Puts (tailOf kind error (now (characters .entry))) 18 (now (out .entry)) 8 r (now (out .exit)) ⌝ }
 {
     match kind {
         2 => {
             let at = put_byte(out, 8, b'=');
-            put_part(out, at, characters)
+            put_word(out, at, characters)
         }
         3 => put_byte(out, 8, b'&'),
         4 => {
             let at = put_byte(out, 8, b'=');
-            let end = put_part(out, at, characters);
+            let end = put_word(out, at, characters);
             put_byte(out, end, b'&')
         }
-        5 => put_part(out, 8, characters),
+        5 => put_word(out, 8, characters),
         6 => {
             let at = put_byte(out, 8, b'!');
             put_three(out, at, error)

@@ -3,7 +3,8 @@ use mathlib.Core.List.{List, [], _∷_, _++_}
 use Prim.Native.Nat.{ℕ, _/_, _%_}
 use lib.Dec.{eqb, ltb}
 use Rattle.frame.specs.Pick.{pick}
-use Rattle.listing.specs.Text.{ascii, digit, inDecimal}
+use Rattle.putting.specs.Digit.{digit}
+use Rattle.listing.specs.Text.{ascii, inDecimal}
 use Rattle.calendar.specs.declared.counting.Day.{Day}
 use Rattle.calendar.specs.Days.{daysFrom}
 use Rattle.forms.specs.Form.{fill}

@@ -1,13 +1,13 @@
 // Days and moments in words: dates where the day of minute 0 is known, else days counted from it.
 use crate::form::put_form;
 use calendar::Day;
-use listing::text::put_byte;
 use listing::text::put_number;
-use listing::text::put_word;
+use putting::put_byte;
+use putting::put_word;
 ghost use mathlib.Core.Path.{_≡_};
 ghost use Prim.Native.Nat.{_+_, _≤_};
 ghost use lib.ListN.{length};
-ghost use Rattle.listing.specs.inside.Puts.{Puts};
+ghost use Rattle.putting.specs.Puts.{Puts};
 ghost use Rattle.forms.specs.Days.{twoDigits, yearText, monthDayText, dateText, dayText, momentText};
 
 fn put_two(out: &mut [u8], at: usize, n: u32) -> usize

@@ -1,10 +1,10 @@
 // Text with numbers in it, put by a form; and one of several forms, picked by a number.
-use listing::text::put_byte;
 use listing::text::put_number;
+use putting::put_byte;
 ghost use mathlib.Core.Path.{_≡_};
 ghost use Prim.Native.Nat.{_+_, _*_, _≤_};
 ghost use lib.ListN.{length, drop};
-ghost use Rattle.listing.specs.inside.Puts.{Puts};
+ghost use Rattle.putting.specs.Puts.{Puts};
 ghost use Rattle.forms.specs.Form.{fill, first, choice};
 ghost use Rattle.forms.specs.inside.Bounds.{takesNumber, passed, widest};
 ghost use Rattle.forms.specs.inside.Bounds as said;

@@ -4,7 +4,7 @@ use crate::form::put_form;
 ghost use mathlib.Core.Path.{_≡_};
 ghost use Prim.Native.Nat.{_+_, _≤_};
 ghost use lib.ListN.{length};
-ghost use Rattle.listing.specs.inside.Puts.{Puts};
+ghost use Rattle.putting.specs.Puts.{Puts};
 ghost use Rattle.forms.specs.Words.{levelText, degreesText, modeText, typeText, faultText};
 
 pub fn put_level(out: &mut [u8], at: usize, settings: u16, level: u16) -> usize

@@ -13,7 +13,7 @@ use Rattle.frame.specs.declared.Written.{Written}
 use Rattle.frame.specs.declared.Written.the-variants.{Bytes, Refused}
 use Rattle.frame.proofs.Fronts.{front}
 use Rattle.listing.specs.Calls.{Writes, writeFault}
-use Rattle.listing.specs.inside.Puts.{Puts}
+use Rattle.putting.specs.Puts.{Puts}
 
 -- what was asked is not there
 pub refused-12 : (needed : ℕ) (text out : List ℕ) (there : Bool) → there ≡ false → Writes there needed text out (Refused 12) out

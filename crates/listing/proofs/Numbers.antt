@@ -8,7 +8,8 @@ use native.Mathlib.Omega.{arith}
 use borrow.Author.Tests.{lt-ltb, le-ltb}
 use lib.Dec.{lit<}
 use lib.ListN.{length, length-append}
-use Rattle.listing.specs.Text.{digit, digitsUpTo, inDecimal}
+use Rattle.putting.specs.Digit.{digit}
+use Rattle.listing.specs.Text.{digitsUpTo, inDecimal}
 
 pub one-of : (most n : ℕ) → n < 10 → digitsUpTo (suc most) n ≡ digit n ∷ []
 unfolding digitsUpTo

@@ -1,20 +1,17 @@
 -- Text as bytes: words in ASCII, and numbers in decimal.
 use mathlib.Core.List.{List, _++_}
 use mathlib.Core.List as list
-use Prim.Native.Nat.{ℕ, zero, suc, _+_, _/_, _%_}
+use Prim.Native.Nat.{ℕ, zero, suc, _/_, _%_}
 use Prim.Native.Char.{code}
 use Prim.Native.String.{String, [], _∷_}
 use lib.Dec.{ltb}
 use Rattle.frame.specs.Pick.{pick}
+pub use Rattle.putting.specs.Digit.{digit}
 
 -- The bytes of a word.
 abbrev pub ascii : String → List ℕ
 ascii [] = list.[]
 ascii (c ∷ cs) = list._∷_ (code c) (ascii cs)
-
--- The byte of a decimal digit: "0" is 48.
-abbrev pub digit : ℕ → ℕ
-digit d = 48 + d
 
 -- The last decimal digits of a number, at most so many, and no zero before them.
 unfoldable pub digitsUpTo : ℕ → ℕ → List ℕ

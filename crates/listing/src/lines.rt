@@ -1,14 +1,14 @@
 // The lines of a listing and their parts. A slot's line has at most 40 bytes: slot 5, minute 10, address 5, level 5, temperature 6, the two alarms, six
 // blanks and the line's end; each part asks for room by its own share of them.
-use crate::text::put_byte;
 use crate::text::put_number;
 use crate::text::put_short;
-use crate::text::put_word;
 use frame::Reading;
 use frame::Reply;
 use frame::Temperature;
 use frame::is_plus;
 use frame::magnitude;
+use putting::put_byte;
+use putting::put_word;
 use sheet::Found;
 use sheet::Head;
 use sheet::look;
@@ -20,9 +20,10 @@ ghost use lib.ListN.{length, take};
 ghost use Rattle.frame.specs.Line.{bytesFor, mark};
 ghost use Rattle.sheet.specs.Slots.{sizeAllowed, slots, slotAt, slotOf, recordIn};
 ghost use Rattle.sheet.specs.Look.{entryWith};
-ghost use Rattle.listing.specs.Text.{ascii, inDecimal, digit};
+ghost use Rattle.putting.specs.Digit.{digit};
+ghost use Rattle.putting.specs.Puts.{Puts};
+ghost use Rattle.listing.specs.Text.{ascii, inDecimal};
 ghost use Rattle.listing.specs.Lines.{temperatureText, readingText, replyText, recordText, slotLine};
-ghost use Rattle.listing.specs.inside.Puts.{Puts};
 
 // A line that was put: the place after it, and how many records it shows.
 pub(crate) struct Line {

@@ -1,31 +1,11 @@
-// Text put into an output from a place on, byte after byte. Each call answers the place after what it put. What is public here is for other crates that
-// write text: they ask for room themselves, as these calls want it.
+// Numbers put into an output in decimal, as `putting` puts words. What is public here is for other crates that write text: they ask for room themselves, as
+// these calls want it.
+pub use putting::put_word;
 ghost use mathlib.Core.Path.{_≡_};
-ghost use mathlib.Core.List.{[], _∷_};
-ghost use Prim.Native.Nat.{_+_, _≤_, _<_};
+ghost use Prim.Native.Nat.{_+_, _≤_};
 ghost use lib.ListN.{length};
 ghost use Rattle.listing.specs.Text.{inDecimal};
-ghost use Rattle.listing.specs.inside.Puts.{Puts};
-
-pub fn put_byte(out: &mut [u8], at: usize, byte: u8) -> usize
-    requires { ⌜ at < length (now out) ⌝ }
-    ensures { λ r. ⌜ Puts (byte ∷ []) 1 (now (out .entry)) at r (now (out .exit)) ⌝ }
-{
-    out[at] = byte;
-    at + 1
-}
-
-pub fn put_word(out: &mut [u8], at: usize, word: &[u8]) -> usize
-    requires { ⌜ at + length (now word) ≤ length (now out) ⌝ }
-    ensures { λ r. ⌜ Puts (now (word .entry)) (length (now (word .entry))) (now (out .entry)) at r (now (out .exit)) ⌝ }
-{
-    let mut i = 0;
-    while i < word.len() {
-        out[at + i] = word[i];
-        i += 1;
-    }
-    at + word.len()
-}
+ghost use Rattle.putting.specs.Puts.{Puts};
 
 // How many digits a number has.
 fn digits_in(n: u32) -> usize

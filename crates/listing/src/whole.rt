@@ -11,8 +11,8 @@ ghost use Prim.Native.Nat.{_+_, _*_, _≤_};
 ghost use lib.ListN.{length};
 ghost use Rattle.sheet.specs.Slots.{sizeAllowed, slots, listOf};
 ghost use Rattle.sheet.specs.Look.{recordTold};
+ghost use Rattle.putting.specs.Puts.{Puts};
 ghost use Rattle.listing.specs.Lines.{headLine, linesUpTo, lastLine};
-ghost use Rattle.listing.specs.inside.Puts.{Puts};
 
 // How many records a slot holds: one or none.
 fn records_in(found: Found) -> usize

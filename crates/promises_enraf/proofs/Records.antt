@@ -10,7 +10,8 @@ use lib.ListN.{length, getD, take, drop, length-append, take-append-drop, drop-o
 use lib.Seq.{drop-cons, drop-drop, take-at, getD-at}
 use borrow.Author.Tests.{eq-eqb, le-leb, eqb-true}
 use Rattle.enraf.specs.Check.{blockCheck}
-use Rattle.enraf.specs.Item.{Item, digit, isDigit, digitAt, textFits, tailOf, kindIn, errorIn, charactersIn}
+use Rattle.putting.specs.Digit.{digit}
+use Rattle.enraf.specs.Item.{Item, isDigit, digitAt, textFits, tailOf, kindIn, errorIn, charactersIn}
 use Rattle.enraf.specs.Record.{STX, ETX, B, Z, checkedOf, itemRecord}
 use Rattle.enraf.specs.Reading.{framed, checkRight, addressed, tailIn, itemIn, readFault}
 use Rattle.enraf.proofs.ByTests.{read-fault-by, framed-by, addressed-by, accepted, frame-long, frame-signs, address-digits}

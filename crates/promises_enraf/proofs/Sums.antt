@@ -13,7 +13,8 @@ use lib.ListN.{length, getD, set}
 use borrow.Author.Tests.{leb-true}
 use Rattle.frame.proofs.Both.{both}
 use Rattle.enraf.specs.Check.{sumAfter, blockCheck}
-use Rattle.enraf.specs.Item.{Item, ampersand, exclamation, digit, digitCharacters, isLetter, isCharacter, allCharacters, kindFits, textFits, tailOf}
+use Rattle.putting.specs.Digit.{digit}
+use Rattle.enraf.specs.Item.{Item, ampersand, exclamation, digitCharacters, isLetter, isCharacter, allCharacters, kindFits, textFits, tailOf}
 use Rattle.enraf.specs.Record.{ETX, checkedOf}
 use Rattle.enraf.proofs.SixKinds.{data-fits, error-few, one-of-six, fits-kind}
 use Rattle.enraf.proofs.Tails.{tail-alone, tail-setting, tail-taken, tail-setting-taken, tail-value, tail-error}

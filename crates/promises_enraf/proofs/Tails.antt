@@ -10,7 +10,8 @@ use lib.ListN.{length, getD, take, drop, length-append, take-append-drop, drop-o
 use lib.Seq.{drop-cons, drop-drop, take-at, getD-at}
 use borrow.Author.Tests.{ne-eqb, le-leb, eqb-true, leb-true, not-true}
 use Rattle.frame.proofs.Both.{both}
-use Rattle.enraf.specs.Item.{equals, ampersand, exclamation, digit, isDigit, digitAt, digitCharacters, isCharacter, allCharacters, isData, setting, settingTaken, value, failed, kindFits, tailOf, begins, ends, isTaken, isError, kindIn, charactersIn, errorIn}
+use Rattle.putting.specs.Digit.{digit}
+use Rattle.enraf.specs.Item.{equals, ampersand, exclamation, isDigit, digitAt, digitCharacters, isCharacter, allCharacters, isData, setting, settingTaken, value, failed, kindFits, tailOf, begins, ends, isTaken, isError, kindIn, charactersIn, errorIn}
 use Rattle.enraf.proofs.ByTests.{kind-by, error-by, characters-by, number-by, is-alone, is-setting, is-taken, is-setting-taken, is-error, setting-taken-long, setting-long, error-long, error-begins, error-digits}
 use Rattle.enraf.proofs.SixKinds.{data-fits, error-fits, one-of-six}
 use Rattle.enraf.proofs.Tails.{tail-alone, tail-setting, tail-taken, tail-setting-taken, tail-value, tail-error}

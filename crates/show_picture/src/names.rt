@@ -1,6 +1,6 @@
 // A name in the page's own writing.
 use forms::form::put_form;
-use listing::text::put_byte;
+use putting::put_byte;
 ghost use Prim.Native.Nat.{_≤_};
 ghost use lib.ListN.{length};
 

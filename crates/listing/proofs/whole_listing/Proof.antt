@@ -11,7 +11,7 @@ use Rattle.listing.specs.Lines.{headLine, linesUpTo, lastLine, listingOf
 use Rattle.listing.specs.Calls.{roomFor}
 use Rattle.listing.proofs.Answers.{refused-15, written}
 use Rattle.listing.proofs.Counted.{told-slots, told-refused}
-use Rattle.listing.proofs.Putting.{text-is}
+use Rattle.putting.proofs.Putting.{text-is}
 use Rattle.listing.proofs.Seen.{size-small}
 use borrow.Author.Needs.{needs}
 use Rattle.listing.proofs.whole_listing.Statement.{statement}

@@ -6,7 +6,8 @@ use native.Mathlib.Decide.{decLt}
 use native.Mathlib.Omega.{arith}
 use lib.ListN.{length, getD, length-append, List·getD-append}
 use lib.Seq.{getD-append-seam}
-use Rattle.listing.specs.Text.{digit, digitsUpTo}
+use Rattle.putting.specs.Digit.{digit}
+use Rattle.listing.specs.Text.{digitsUpTo}
 use Rattle.listing.proofs.Numbers.{one-of, more-of, none-of, some-of, less}
 use Rattle.promises_card.specs.listing.Records.{readAfter}
 use Rattle.promises_card.specs.listing.Decimals.{ListingDecimals}

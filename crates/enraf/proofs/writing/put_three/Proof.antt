@@ -3,7 +3,7 @@ use mathlib.Core.Path.{_≡_, refl}
 use Prim.Native.Nat.{suc, _+_, _/_, _%_}
 use native.Mathlib.Omega.{arith}
 use lib.ListN.{set, length-set}
-use Rattle.enraf.specs.Item.{digit}
+use Rattle.putting.specs.Digit.{digit}
 use native.Mathlib.Numerals.{add-one}
 use borrow.Author.Needs.{needs}
 use Rattle.enraf.proofs.writing.put_three.Statement.{statement}
@@ -53,7 +53,11 @@ returns c =
     let at = c .args .at in
     let n = c .args .n in
     let two : at + 2 ≡ suc (suc at) = omega arith in
-    record { ends = refl; leaves = λ i. set (set (set (c .args .out .now) at (digit (n / 100))) (add-one at i) (digit (n / 10 % 10))) (two i) (digit (n % 10)) }
+    record {
+      ends = refl;
+      leaves = λ i. set (set (set (c .args .out .now) at (digit (n / 100))) (add-one at i) (digit (n / 10 % 10))) (two i) (digit (n % 10));
+      within = omega arith;
+    }
 
 pub put-three-spec : {M : Type 1} → statement M
 put-three-spec =

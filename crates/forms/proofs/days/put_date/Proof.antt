@@ -1,7 +1,7 @@
 -- `forms::days::put_date` meets its contract: its parts are put one after another. Assumes nothing.
 use mathlib.Core.Path.{_≡_, refl, sym, ap, _∙_}
 use native.Mathlib.Omega.{arith}
-use Rattle.listing.proofs.Putting.{then, text-is, at-most}
+use Rattle.putting.proofs.Putting.{then, text-is, at-most}
 use Rattle.forms.specs.Days.{dateText}
 use borrow.Author.Needs.{needs}
 use Rattle.forms.proofs.days.put_date.Statement.{statement}

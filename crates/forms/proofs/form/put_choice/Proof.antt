@@ -5,7 +5,7 @@ use Prim.Native.Nat.{ℕ, _+_, _-_, _≤_}
 use native.Mathlib.Omega.{arith}
 use borrow.Author.Needs.{needs}
 use lib.ListN.{length, take, drop, length-drop}
-use Rattle.listing.proofs.Putting.{text-is, at-most}
+use Rattle.putting.proofs.Putting.{text-is, at-most}
 use Rattle.forms.specs.Form.{fill, first, choice}
 use Rattle.forms.specs.inside.Bounds.{passed, widest}
 use Rattle.forms.proofs.Forms.{first-short, first-front, choice-passed, choice-widest}

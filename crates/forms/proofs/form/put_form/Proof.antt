@@ -8,9 +8,9 @@ use native.Mathlib.Omega.{arith}
 use borrow.Author.Needs.{needs}
 use lib.ListN.{length, getD, drop}
 use Rattle.listing.specs.Text.{inDecimal}
-use Rattle.listing.specs.inside.Puts.{Puts}
+use Rattle.putting.specs.Puts.{Puts}
 use Rattle.listing.proofs.Numbers.{few-digits}
-use Rattle.listing.proofs.Putting.{then, text-is, at-most, nothing-put}
+use Rattle.putting.proofs.Putting.{then, text-is, at-most, nothing-put}
 use Rattle.forms.specs.Form.{fill}
 use Rattle.forms.specs.inside.Bounds.{takesNumber}
 use Rattle.forms.proofs.Forms.{fill-next, fill-end, takes-left}

@@ -3,7 +3,7 @@ use mathlib.Core.Path.{_≡_, sym}
 use Prim.Native.Nat.{ℕ, _-_, _<_, _≤_}
 use native.Mathlib.Omega.{arith}
 use borrow.Author.Tests.{lt-ltb, le-ltb}
-use Rattle.listing.proofs.Putting.{text-is, at-most}
+use Rattle.putting.proofs.Putting.{text-is, at-most}
 use Rattle.forms.specs.Words.{inTenths, belowZero, degreesText}
 use borrow.Author.Needs.{needs}
 use Rattle.forms.proofs.words.put_degrees.Statement.{statement}

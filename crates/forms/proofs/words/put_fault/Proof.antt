@@ -1,7 +1,7 @@
 -- `forms::words::put_fault` meets its contract: the form that the number picks. Assumes nothing.
 use mathlib.Core.Path.{_≡_, refl, sym, ap, _∙_}
 use native.Mathlib.Omega.{arith}
-use Rattle.listing.proofs.Putting.{then, text-is, at-most, nothing-put}
+use Rattle.putting.proofs.Putting.{then, text-is, at-most, nothing-put}
 use Rattle.forms.specs.Words.{faultText}
 use borrow.Author.Needs.{needs}
 use Rattle.forms.proofs.words.put_fault.Statement.{statement}

@@ -2,7 +2,7 @@
 use mathlib.Core.Path.{sym, ap}
 use mathlib.Core.Bool.{Bool}
 use Rattle.frame.specs.Line.{mark}
-use Rattle.listing.specs.Text.{digit}
+use Rattle.putting.specs.Digit.{digit}
 use Rattle.listing.proofs.lines.alarm.Statement.{statement}
 use Rattle.listing.proofs.lines.alarm.Tie as tie
 

@@ -1,6 +1,6 @@
 -- `listing::lines::put_count` meets its contract: the word, the number, the end of the line. Assumes nothing.
 use native.Mathlib.Omega.{arith}
-use Rattle.listing.proofs.Putting.{then, at-most}
+use Rattle.putting.proofs.Putting.{then, at-most}
 use borrow.Author.Needs.{needs}
 use Rattle.listing.proofs.lines.put_count.Statement.{statement}
 use Rattle.listing.proofs.lines.put_count.Tie as tie

@@ -1,5 +1,5 @@
 -- `listing::lines::put_other` meets its contract: the number, then the word. Assumes nothing.
-use Rattle.listing.proofs.Putting.{then}
+use Rattle.putting.proofs.Putting.{then}
 use borrow.Author.Needs.{needs}
 use Rattle.listing.proofs.lines.put_other.Statement.{statement}
 use Rattle.listing.proofs.lines.put_other.Tie as tie

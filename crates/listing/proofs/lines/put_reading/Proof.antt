@@ -4,9 +4,10 @@ use mathlib.Core.Bool.{Bool, true, false}
 use mathlib.Core.List.{List, [], _∷_}
 use Prim.Native.Nat.{ℕ}
 use Rattle.frame.specs.Line.{mark}
-use Rattle.listing.specs.Text.{digit, digitsUpTo}
+use Rattle.putting.specs.Digit.{digit}
+use Rattle.listing.specs.Text.{digitsUpTo}
 use Rattle.listing.specs.Lines.{alarmText, readingText}
-use Rattle.listing.proofs.Putting.{then, text-is}
+use Rattle.putting.proofs.Putting.{then, text-is}
 use borrow.Author.Needs.{needs}
 use Rattle.listing.proofs.lines.put_reading.Statement.{statement}
 use Rattle.listing.proofs.lines.put_reading.Tie as tie

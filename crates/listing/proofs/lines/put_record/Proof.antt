@@ -3,7 +3,7 @@ use mathlib.Core.Path.{ap}
 use native.Mathlib.Omega.{arith}
 use Rattle.listing.specs.Lines.{replyText, recordText}
 use Rattle.listing.proofs.Numbers.{few-digits}
-use Rattle.listing.proofs.Putting.{then, text-is}
+use Rattle.putting.proofs.Putting.{then, text-is}
 use borrow.Author.Needs.{needs}
 use Rattle.listing.proofs.lines.put_record.Statement.{statement}
 use Rattle.listing.proofs.lines.put_record.Tie as tie

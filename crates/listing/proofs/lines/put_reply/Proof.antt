@@ -2,7 +2,7 @@
 use mathlib.Core.Path.{sym, ap}
 use native.Mathlib.Omega.{arith}
 use Rattle.listing.specs.Lines.{replyText}
-use Rattle.listing.proofs.Putting.{then, text-is, at-most}
+use Rattle.putting.proofs.Putting.{then, text-is, at-most}
 use borrow.Author.Needs.{needs}
 use Rattle.listing.proofs.lines.put_reply.Statement.{statement}
 use Rattle.listing.proofs.lines.put_reply.Tie as tie

@@ -10,7 +10,7 @@ use Rattle.sheet.specs.declared.Found.the-variants.{Blank, Spoiled, Foreign, Re
 use Rattle.sheet.specs.declared.Head.{Head}
 use Rattle.sheet.specs.Slots.{slotAt, slotOf, recordIn}
 use Rattle.listing.specs.Lines.{slotLine}
-use Rattle.listing.proofs.Putting.{text-is, at-most, nothing-put}
+use Rattle.putting.proofs.Putting.{text-is, at-most, nothing-put}
 use Rattle.listing.proofs.Seen.{lineFound, recordsFound, seen-line, seen-records, seen-bits, size-small}
 use borrow.Author.Needs.{needs}
 use Rattle.listing.proofs.lines.put_slot.Statement.{statement}

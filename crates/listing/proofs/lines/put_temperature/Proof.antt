@@ -15,7 +15,7 @@ use Rattle.frame.specs.Temperature.{isPlus, magnitude}
 use Rattle.frame.proofs.Signs.{magnitude-small}
 use Rattle.listing.specs.Text.{ascii, inDecimal}
 use Rattle.listing.specs.Lines.{temperatureText}
-use Rattle.listing.proofs.Putting.{then, text-is, at-most}
+use Rattle.putting.proofs.Putting.{then, text-is, at-most}
 use borrow.Author.Needs.{needs}
 use Rattle.listing.proofs.lines.put_temperature.Statement.{statement}
 use Rattle.listing.proofs.lines.put_temperature.Tie as tie

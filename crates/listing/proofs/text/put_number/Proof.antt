@@ -7,9 +7,10 @@ use native.Mathlib.Omega.{arith}
 use borrow.Author.Needs.{needs}
 use lib.ListN.{length, set, length-set, length-append}
 use lib.Seq.{sets}
-use Rattle.listing.specs.Text.{digit, inDecimal}
+use Rattle.putting.specs.Digit.{digit}
+use Rattle.listing.specs.Text.{inDecimal}
 use Rattle.listing.proofs.Numbers.{one-digit, more-digits, few-digits, some-digit}
-use Rattle.listing.proofs.Putting.{set-front}
+use Rattle.putting.proofs.Putting.{set-front}
 use Rattle.listing.proofs.text.put_number.Statement.{statement}
 use Rattle.listing.proofs.text.put_number.Tie as tie
 

@@ -8,8 +8,8 @@ use lib.ListN.{length}
 use Rattle.sheet.proofs.FewRecords.{few-records}
 use Rattle.sheet.specs.Slots.{slots, listUpTo}
 use Rattle.listing.specs.Lines.{linesUpTo}
-use Rattle.listing.specs.inside.Puts.{Puts}
-use Rattle.listing.proofs.Putting.{then, text-is, at-most, nothing-put}
+use Rattle.putting.specs.Puts.{Puts}
+use Rattle.putting.proofs.Putting.{then, text-is, at-most, nothing-put}
 use Rattle.listing.proofs.Slotwise.{lines-more, records-more}
 use Rattle.listing.proofs.whole.put_lines.Statement.{statement}
 use Rattle.listing.proofs.whole.put_lines.Tie as tie

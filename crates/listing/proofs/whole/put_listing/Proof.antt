@@ -6,7 +6,7 @@ use native.Mathlib.Omega.{arith}
 use Rattle.sheet.specs.Slots.{slots}
 use Rattle.listing.specs.Text.{ascii, inDecimal}
 use Rattle.listing.specs.Lines.{headLine, countLine}
-use Rattle.listing.proofs.Putting.{then, text-is, at-most}
+use Rattle.putting.proofs.Putting.{then, text-is, at-most}
 use Rattle.listing.proofs.Seen.{size-small}
 use borrow.Author.Needs.{needs}
 use Rattle.sheet.proofs.FewRecords.{few-records}

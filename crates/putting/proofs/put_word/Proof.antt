@@ -1,4 +1,4 @@
--- `listing::text::put_word` meets its contract: after i turns the first i bytes of the word stand in the output. Assumes nothing.
+-- `putting::put_word` meets its contract: after i turns the first i bytes of the word stand in the output. Assumes nothing.
 use mathlib.Core.Path.{_≡_, refl, ap, _∙_}
 use mathlib.Core.List.{List}
 use Prim.Native.Nat.{ℕ, _≤_, _-_, _+_}
@@ -6,8 +6,8 @@ use native.Mathlib.Omega.{arith}
 use lib.ListN.{length, take, getD, set, length-set}
 use lib.Seq.{sets, take-all}
 use Rattle.frame.proofs.Parts.{sets-next}
-use Rattle.listing.proofs.text.put_word.Statement.{statement}
-use Rattle.listing.proofs.text.put_word.Tie as tie
+use Rattle.putting.proofs.put_word.Statement.{statement}
+use Rattle.putting.proofs.put_word.Tie as tie
 
 abbrev Inv-loop : tie.InvT-loop
 Inv-loop out₀ at word i₀ out i = (i ≤ length word) × (length out ≡ length out₀) × (out ≡ sets out₀ at (take i word))

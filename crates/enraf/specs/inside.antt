@@ -1,2 +1,0 @@
--- What only the code needs; nobody has to believe it.
-pub mod Puts

@@ -1,0 +1,2 @@
+-- The laws that the proofs above cite.
+pub mod Putting

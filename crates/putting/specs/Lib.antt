@@ -1,0 +1,3 @@
+-- What is put into an output, and what that leaves.
+pub mod Digit
+pub mod Puts
