@@ -18,8 +18,8 @@ use Rattle.summary.specs.declared.Summary.{Summary}
 use Rattle.summary.specs.Handed.{linesOf}
 use Rattle.summary.specs.Updated.{putAmong}
 use Rattle.summary.specs.Joined.{putAll, joinLines}
-use Rattle.summary.specs.inside.Placed.{Sound}
-use Rattle.summary.specs.inside.Joining.{mergedFrom, merged, Turn}
+use Rattle.summary.specs.Sound.{Sound}
+use Rattle.joins.specs.inside.Joining.{mergedFrom, merged, Turn}
 use Rattle.summary.proofs.LinesAdded.{count-of, line-of}
 use Rattle.summary.proofs.Putting.{Order, less, same, more, order, pair-together, put-before, put-at, put-after}
 

@@ -11,8 +11,8 @@ ghost use Prim.Native.Nat.{_+_, _<_, _≤_};
 ghost use lib.ListN.{length};
 ghost use Rattle.summary.specs.Line.{pairOf, page};
 ghost use Rattle.summary.specs.Joined.{joinLines};
-ghost use Rattle.summary.specs.inside.Placed.{Sound};
-ghost use Rattle.summary.specs.inside.Joining.{Few, Turn};
+ghost use Rattle.summary.specs.Sound.{Sound, Few};
+ghost use Rattle.joins.specs.inside.Joining.{Turn};
 
 // The pairs of all 30 lines, one number each: what the turns go over, so that they copy no line.
 fn pairs_in(lines: [Line; 30]) -> [u32; 30]

@@ -5,4 +5,7 @@ pub mod Handed
 pub mod Updated
 pub mod Calls
 pub mod Joined
+-- What those who add to a summary stand on.
+pub mod Sound
+pub mod InWords
 pub mod inside

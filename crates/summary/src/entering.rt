@@ -11,8 +11,10 @@ ghost use mathlib.Core.Path.{_≡_};
 ghost use Prim.Native.Nat.{_<_, _≤_};
 ghost use lib.ListN.{length};
 ghost use Rattle.summary.specs.Updated.{withLine};
-ghost use Rattle.summary.specs.inside.Placed.{movedOn, Small};
-ghost use Rattle.summary.specs.inside.Entering.{frontPair, Front, Back, lineBy, Thirty, linesBy, heldAs, Places, Stands, One, Enters};
+ghost use Rattle.summary.specs.Sound.{Small};
+ghost use Rattle.summary.specs.InWords.{lineBy, Thirty, linesBy, heldAs, One, Enters};
+ghost use Rattle.summary.specs.inside.Placed.{movedOn};
+ghost use Rattle.summary.specs.inside.Entering.{frontPair, Front, Back, Places, Stands};
 
 // What is held of a summary beside its lines' words: how many lines are used, how many records are on none of them, and the number that refuses the summary, 0
 // where none does.

@@ -20,7 +20,7 @@ use Rattle.summary.specs.Handed.{linesOf, lineAt, misshapen, most, countsOver, 
 use Rattle.summary.specs.Updated.{putAmong}
 use Rattle.summary.specs.Calls.{madeOf}
 use Rattle.summary.specs.Joined.{putAll, joinLines, joinPage, unkept, joinOver, joinFault, joinOf}
-use Rattle.summary.specs.inside.Placed.{Sound}
+use Rattle.summary.specs.Sound.{Sound}
 use Rattle.summary.proofs.Every.{neither, none-over, over-none}
 use Rattle.summary.proofs.HandedIn.{sound-handed, used}
 use Rattle.summary.proofs.KeptPairs.{Same, is, isnt, compare}

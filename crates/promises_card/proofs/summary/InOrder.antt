@@ -19,7 +19,7 @@ use Rattle.summary.specs.declared.Kept.{Kept}
 use Rattle.summary.specs.Line.{pairOf, page, blankLine}
 use Rattle.summary.specs.Handed.{linesOf, lineAt, risesAt, misshapen, handedFault}
 use Rattle.summary.specs.Updated.{lineOf, hasLine, putAmong, fits, withLine, withRecord}
-use Rattle.summary.specs.inside.Placed.{Sound}
+use Rattle.summary.specs.Sound.{Sound}
 use Rattle.summary.proofs.HandedIn.{sound-handed, few, used, unused}
 use Rattle.summary.proofs.Shaped.{LevelsTold, right-told, AllTold, all-told, told-own, told-put, shaped-page}
 use Rattle.summary.proofs.Putting.{rises-put}

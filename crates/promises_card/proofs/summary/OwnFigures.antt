@@ -19,7 +19,7 @@ use Rattle.summary.specs.Line.{pairOf, together, page}
 use Rattle.summary.specs.Worked.{pairIn}
 use Rattle.summary.specs.Handed.{linesOf, handedFault}
 use Rattle.summary.specs.Updated.{lineOf, hasLine, putAmong, fits, oneOther, withLine, withRecord}
-use Rattle.summary.specs.inside.Placed.{Sound}
+use Rattle.summary.specs.Sound.{Sound}
 use Rattle.summary.proofs.HandedIn.{small-not-refused}
 use Rattle.summary.proofs.Pages.{lines-page}
 use Rattle.summary.proofs.PairFigures.{pair-own}

@@ -11,7 +11,7 @@ use Rattle.summary.specs.declared.Summary.{Summary}
 use Rattle.summary.specs.Line.{page, blankLine, together}
 use Rattle.summary.specs.Handed.{linesOf, lineAt, most}
 use Rattle.summary.specs.Joined.{joinLines}
-use Rattle.summary.specs.inside.Joining.{merged, Turn}
+use Rattle.joins.specs.inside.Joining.{merged, Turn}
 use Rattle.summary.proofs.LineAdded.{page-is}
 use Rattle.summary.proofs.LinesAdded.{count-of, line-of}
 use Rattle.joins.proofs.Merging.{Merging, PairsOf, pairs-of, turn-first, turn-second, turn-both, none-merged, place-free, one-merged, all-done, join-merged}

@@ -8,7 +8,7 @@ use borrow.Author.Needs.{needs}
 use lib.ListN.{length, drop}
 use Rattle.summary.specs.declared.Line.{Line}
 use Rattle.summary.specs.Handed.{linesOf}
-use Rattle.summary.specs.inside.Joining.{merged, Turn}
+use Rattle.joins.specs.inside.Joining.{merged, Turn}
 use Rattle.summary.proofs.LinesAdded.{count-of}
 use Rattle.joins.proofs.Merging.{PairsOf, pairs-of, turn-first, turn-second, turn-both, next-none, join-merged}
 use Rattle.joins.proofs.joining.count_pairs.Statement.{statement}

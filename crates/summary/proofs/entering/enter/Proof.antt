@@ -10,8 +10,9 @@ use Rattle.summary.specs.declared.Summary.{Summary}
 use Rattle.summary.specs.declared.entering.Held.{Held}
 use Rattle.summary.specs.Line.{pairOf, together}
 use Rattle.summary.specs.Handed.{lineAt}
-use Rattle.summary.specs.inside.Placed.{Small}
-use Rattle.summary.specs.inside.Entering.{frontPair, Thirty, heldAs, Places, One}
+use Rattle.summary.specs.Sound.{Small}
+use Rattle.summary.specs.InWords.{Thirty, heldAs, One}
+use Rattle.summary.specs.inside.Entering.{frontPair, Places}
 use Rattle.summary.proofs.Moved.{moved-long}
 use Rattle.summary.proofs.LineEntered.{line-there, enters-changed, enters-others, enters-new}
 use borrow.Author.Needs.{needs}

@@ -9,7 +9,7 @@ use lib.ListN.{length, getD, set, length-set}
 use lib.Seq.{ext-getD, getD-set-same, getD-set-other}
 use Rattle.summary.specs.declared.Line.{Line}
 use Rattle.summary.specs.Line.{blankLine}
-use Rattle.summary.specs.inside.Entering.{lineBy, linesBy}
+use Rattle.summary.specs.InWords.{lineBy, linesBy}
 use Rattle.summary.proofs.Words.{by-at, by-length}
 use Rattle.summary.proofs.entering.gather.Statement.{statement}
 use Rattle.summary.proofs.entering.gather.Tie as tie

@@ -9,7 +9,7 @@ use lib.ListN.{length, getD, set, length-set}
 use lib.Seq.{ext-getD, getD-set-same, getD-set-other}
 use Rattle.summary.specs.declared.Line.{Line}
 use Rattle.summary.specs.Line.{blankLine}
-use Rattle.summary.specs.inside.Entering.{lineBy, linesBy}
+use Rattle.summary.specs.InWords.{lineBy, linesBy}
 use Rattle.summary.proofs.Words.{told-line, by-at, by-length}
 use Rattle.summary.proofs.entering.lay_out.Statement.{statement}
 use Rattle.summary.proofs.entering.lay_out.Tie as tie

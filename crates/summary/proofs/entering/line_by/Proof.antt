@@ -1,6 +1,6 @@
 -- `summary::entering::line_by` meets its contract: it is the line as it is defined.
 use mathlib.Core.Path.{refl}
-use Rattle.summary.specs.inside.Entering.{lineBy}
+use Rattle.summary.specs.InWords.{lineBy}
 use borrow.Author.Needs.{needs}
 use Rattle.summary.proofs.entering.line_by.Statement.{statement}
 use Rattle.summary.proofs.entering.line_by.Tie as tie

@@ -4,8 +4,8 @@ use mathlib.Core.List.{List}
 use Rattle.summary.specs.declared.Line.{Line}
 use Rattle.summary.specs.declared.Summary.{Summary}
 use Rattle.summary.specs.Updated.{withLine}
-use Rattle.summary.specs.inside.Placed.{Small}
-use Rattle.summary.specs.inside.Entering.{heldAs}
+use Rattle.summary.specs.Sound.{Small}
+use Rattle.summary.specs.InWords.{heldAs}
 use borrow.Author.Needs.{needs}
 use Rattle.summary.proofs.entering.with_line.Statement.{statement}
 use Rattle.summary.proofs.entering.with_line.Tie as tie

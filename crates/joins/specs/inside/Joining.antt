@@ -1,19 +1,12 @@
--- How the code joins: it asks first that no count of a summary is over, and merges two rows of lines that rise. That merging them is `putAll` of
--- specs/Joined.antt is proved.
+-- How the code joins: it merges two rows of lines that rise. That merging them is `putAll` of summary/specs/Joined.antt is proved.
 use mathlib.Core.Path.{_≡_}
 use mathlib.Core.List.{List, [], _∷_}
-use Prim.Native.Nat.{ℕ, _<_, _≤_}
+use Prim.Native.Nat.{ℕ, _<_}
 use lib.Dec.{eqb, ltb}
 use lib.ListN.{getD}
 use Rattle.frame.specs.Pick.{pick}
 use Rattle.summary.specs.declared.Line.{Line}
-use Rattle.summary.specs.declared.Summary.{Summary}
 use Rattle.summary.specs.Line.{pairOf, together}
-use Rattle.summary.specs.Handed.{lineAt, most}
-
-pub record Few (s : Summary) : Type 0 where
-  pub good : (i : ℕ) → i < s .count → lineAt s i .good ≤ most
-  pub faulty : (i : ℕ) → i < s .count → lineAt s i .faulty ≤ most
 
 -- A line and the lines behind it, merged with others: `rest` merges those behind it.
 unfoldable pub mergedFrom : Line → (List Line → List Line) → List Line → List Line

@@ -1,0 +1,2 @@
+-- What only the code needs; nobody has to believe it.
+pub mod Joining
