@@ -11,8 +11,8 @@ ghost use Prim.Native.Nat.{_+_, _<_, _≤_};
 ghost use lib.ListN.{length};
 ghost use Rattle.summary.specs.Line.{pairOf, page};
 ghost use Rattle.summary.specs.Joined.{joinLines};
-ghost use Rattle.summary.specs.Sound.{Sound, Few};
-ghost use Rattle.joins.specs.inside.Joining.{Turn};
+ghost use Rattle.summary.specs.Sound.{Sound};
+ghost use Rattle.joins.specs.inside.Joining.{Joinable, Turn};
 
 // The pairs of all 30 lines, one number each: what the turns go over, so that they copy no line.
 fn pairs_in(lines: [Line; 30]) -> [u32; 30]
@@ -84,11 +84,7 @@ pub(crate) fn count_pairs(a: Summary, b: Summary) -> usize
 
 // The lines of both, merged.
 pub(crate) fn add_lines(a: Summary, b: Summary) -> Summary
-    requires { ⌜ Sound a ⌝ }
-    requires { ⌜ Sound b ⌝ }
-    requires { ⌜ Few a ⌝ }
-    requires { ⌜ Few b ⌝ }
-    requires { ⌜ length (joinLines a b) ≤ 30 ⌝ }
+    requires { ⌜ Joinable a b ⌝ }
     ensures { λ r. ⌜ r ≡ page (a .others) (joinLines a b) ⌝ }
 {
     let n = a.count as usize;
@@ -107,20 +103,16 @@ pub(crate) fn add_lines(a: Summary, b: Summary) -> Summary
         let at = count as usize;
         count += 1;
         if whose == 0 {
-            let line = left[i];
-            lines[at] = line;
+            lines[at] = left[i];
             i += 1;
             continue;
         }
         if whose == 1 {
-            let line = right[j];
-            lines[at] = line;
+            lines[at] = right[j];
             j += 1;
             continue;
         }
-        let one = left[i];
-        let other = right[j];
-        lines[at] = together(one, other);
+        lines[at] = together(left[i], right[j]);
         i += 1;
         j += 1;
     }

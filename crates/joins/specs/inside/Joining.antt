@@ -1,12 +1,23 @@
 -- How the code joins: it merges two rows of lines that rise. That merging them is `putAll` of summary/specs/Joined.antt is proved.
 use mathlib.Core.Path.{_≡_}
 use mathlib.Core.List.{List, [], _∷_}
-use Prim.Native.Nat.{ℕ, _<_}
+use Prim.Native.Nat.{ℕ, _<_, _≤_}
 use lib.Dec.{eqb, ltb}
-use lib.ListN.{getD}
+use lib.ListN.{length, getD}
 use Rattle.frame.specs.Pick.{pick}
 use Rattle.summary.specs.declared.Line.{Line}
+use Rattle.summary.specs.declared.Summary.{Summary}
 use Rattle.summary.specs.Line.{pairOf, together}
+use Rattle.summary.specs.Joined.{joinLines}
+use Rattle.summary.specs.Sound.{Sound, Few}
+
+-- Two summaries that can be merged: the lines of both rise, no count of either is over, and they have at most 30 pairs together.
+pub record Joinable (a b : Summary) : Type 0 where
+  pub first : Sound a
+  pub second : Sound b
+  pub few-first : Few a
+  pub few-second : Few b
+  pub pairs : length (joinLines a b) ≤ 30
 
 -- A line and the lines behind it, merged with others: `rest` merges those behind it.
 unfoldable pub mergedFrom : Line → (List Line → List Line) → List Line → List Line

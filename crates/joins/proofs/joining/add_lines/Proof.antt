@@ -61,16 +61,16 @@ module _ (t : tie.After-turn Inv-loop μ-loop) where
   turned = t .turn .ensures
 
   of-a : PairsOf first (a .count) (linesOf a)
-  of-a = pairs-of a first (start .pre .0) (t .before .before .before .before .before .before .before .before .pairs-in .ensures)
+  of-a = pairs-of a first (start .pre .first) (t .before .before .before .before .before .before .before .before .pairs-in .ensures)
 
   of-b : PairsOf second (b .count) (linesOf b)
-  of-b = pairs-of b second (start .pre .1 .0) (t .before .before .before .before .before .before .before .pairs-in2 .ensures)
+  of-b = pairs-of b second (start .pre .second) (t .before .before .before .before .before .before .before .pairs-in2 .ensures)
 
   so-far : Merging (linesOf a) (linesOf b) out at i j
   so-far = t .before .before .before .before .loop .inv .1 .1
 
   small : length (merged (linesOf a) (linesOf b)) ≤ 30
-  small = omega (arith, start .pre .1 .1 .1 .1, ap length (join-merged a b (start .pre .1 .0)))
+  small = omega (arith, start .pre .pairs, ap length (join-merged a b (start .pre .second)))
 
   -- the line that is next, and where it goes
   next-0 : whose ≡ 0 → merged (drop i (linesOf a)) (drop j (linesOf b)) ≡ lineAt a i ∷ merged (drop (i + 1) (linesOf a)) (drop j (linesOf b))
@@ -113,6 +113,9 @@ module _ (c : tie.Else2 Inv-loop μ-loop) where
   room : at t2 < 30
   room = free t2 (together (lineAt (a t2) (i t2)) (lineAt (b t2) (j t2))) (i t2 + 1) (j t2 + 1) then
 
+  within : (i t2 < 30) × (j t2 < 30)
+  within = (omega (arith, both .0, start t2 .pre .first .few), omega (arith, both .1, start t2 .pre .second .few))
+
 cast-n : tie.Need-cast-n Inv-loop μ-loop
 cast-n c = search needs
 
@@ -140,7 +143,7 @@ add-loop-2 c = omega arith
 turn-requires : tie.Need-turn-requires Inv-loop μ-loop
 turn-requires c κs =
     let s = c .before .before .before .before .before .before .before .before .before .before .before .before in
-    (s .pre .0 .few, (s .pre .1 .0 .few, (c .before .before .before .loop .inv .0, omega arith)))
+    (s .pre .first .few, (s .pre .second .few, (c .before .before .before .loop .inv .0, omega arith)))
 
 cast-at : tie.Need-cast-at Inv-loop μ-loop
 cast-at c = omega (arith, so-far c .few)
@@ -148,14 +151,14 @@ cast-at c = omega (arith, so-far c .few)
 add-count : tie.Need-add-count Inv-loop μ-loop
 add-count c = omega (arith, so-far c .few)
 
-mul-line : tie.Need-mul-line Inv-loop μ-loop
-mul-line c = omega (arith, turned (c .before) .first (c .if1 .taken) .0, start (c .before) .pre .0 .few)
-
-array-copy-out-line : tie.Need-array-copy-out-line Inv-loop μ-loop
-array-copy-out-line c = omega (arith, turned (c .before) .first (c .if1 .taken) .0, start (c .before) .pre .0 .few)
-
 mul-lines : tie.Need-mul-lines Inv-loop μ-loop
-mul-lines c =
+mul-lines c = omega (arith, turned (c .before) .first (c .if1 .taken) .0, start (c .before) .pre .first .few)
+
+array-copy-out-lines : tie.Need-array-copy-out-lines Inv-loop μ-loop
+array-copy-out-lines c = omega (arith, turned (c .before) .first (c .if1 .taken) .0, start (c .before) .pre .first .few)
+
+mul-lines-2 : tie.Need-mul-lines-2 Inv-loop μ-loop
+mul-lines-2 c =
     let t = c .before .before in
     omega (arith, free t (lineAt (a t) (i t)) (i t + 1) (j t) (next-0 t (c .before .if1 .taken)))
 
@@ -176,14 +179,14 @@ loop-again c =
     let e = c .before .if1 .taken in
     (omega (arith, turned t .first e .0), (t .before .before .before .before .loop .inv .1 .0, grown t (lineAt (a t) (i t)) (i t + 1) (j t) (next-0 t e)))
 
-mul-line-2 : tie.Need-mul-line-2 Inv-loop μ-loop
-mul-line-2 c = omega (arith, turned (c .before .before) .second (c .if2 .taken) .0, start (c .before .before) .pre .1 .0 .few)
+mul-lines-3 : tie.Need-mul-lines-3 Inv-loop μ-loop
+mul-lines-3 c = omega (arith, turned (c .before .before) .second (c .if2 .taken) .0, start (c .before .before) .pre .second .few)
 
-array-copy-out-line-2 : tie.Need-array-copy-out-line-2 Inv-loop μ-loop
-array-copy-out-line-2 c = omega (arith, turned (c .before .before) .second (c .if2 .taken) .0, start (c .before .before) .pre .1 .0 .few)
+array-copy-out-lines-2 : tie.Need-array-copy-out-lines-2 Inv-loop μ-loop
+array-copy-out-lines-2 c = omega (arith, turned (c .before .before) .second (c .if2 .taken) .0, start (c .before .before) .pre .second .few)
 
-mul-lines-2 : tie.Need-mul-lines-2 Inv-loop μ-loop
-mul-lines-2 c =
+mul-lines-4 : tie.Need-mul-lines-4 Inv-loop μ-loop
+mul-lines-4 c =
     let t = c .before .before .before in
     omega (arith, free t (lineAt (b t) (j t)) (i t) (j t + 1) (next-1 t (c .before .if2 .taken)))
 
@@ -204,28 +207,28 @@ loop-again-2 c =
     let e = c .before .if2 .taken in
     (t .before .before .before .before .loop .inv .0, (omega (arith, turned t .second e .0), grown t (lineAt (b t) (j t)) (i t) (j t + 1) (next-1 t e)))
 
-mul-one : tie.Need-mul-one Inv-loop μ-loop
-mul-one c = omega (arith, both c .0, start (t2 c) .pre .0 .few)
+mul-together : tie.Need-mul-together Inv-loop μ-loop
+mul-together c = omega (arith, within c .0, within c .1)
 
-array-copy-out-one : tie.Need-array-copy-out-one Inv-loop μ-loop
-array-copy-out-one c = omega (arith, both c .0, start (t2 c) .pre .0 .few)
+array-copy-out-together : tie.Need-array-copy-out-together Inv-loop μ-loop
+array-copy-out-together c = omega (arith, within c .0, within c .1)
 
-mul-other : tie.Need-mul-other Inv-loop μ-loop
-mul-other c = omega (arith, both (c .before) .1, start (t2 (c .before)) .pre .1 .0 .few)
+mul-together-2 : tie.Need-mul-together-2 Inv-loop μ-loop
+mul-together-2 c = omega (arith, within (c .before) .0, within (c .before) .1)
 
-array-copy-out-other : tie.Need-array-copy-out-other Inv-loop μ-loop
-array-copy-out-other c = omega (arith, both (c .before) .1, start (t2 (c .before)) .pre .1 .0 .few)
+array-copy-out-together-2 : tie.Need-array-copy-out-together-2 Inv-loop μ-loop
+array-copy-out-together-2 c = omega (arith, within (c .before) .0, within (c .before) .1)
 
 together-requires : tie.Need-together-requires Inv-loop μ-loop
 together-requires c κs =
     let e = c .before .before in
     let l = both e in
-    let fa = start (t2 e) .pre .1 .1 .0 in
-    let fb = start (t2 e) .pre .1 .1 .1 .0 in
+    let fa = start (t2 e) .pre .few-first in
+    let fb = start (t2 e) .pre .few-second in
     (omega (arith, fa .good (i (t2 e)) (l .0), fb .good (j (t2 e)) (l .1)), omega (arith, fa .faulty (i (t2 e)) (l .0), fb .faulty (j (t2 e)) (l .1)))
 
-mul-lines-3 : tie.Need-mul-lines-3 Inv-loop μ-loop
-mul-lines-3 c = omega (arith, room (c .before .before .before))
+mul-lines-5 : tie.Need-mul-lines-5 Inv-loop μ-loop
+mul-lines-5 c = omega (arith, room (c .before .before .before))
 
 array-set-from-lines-3 : tie.Need-array-set-from-lines-3 Inv-loop μ-loop
 array-set-from-lines-3 c = omega (arith, room (c .before .before .before))
@@ -254,10 +257,10 @@ returns c =
     let a = s .args .a in
     let b = s .args .b in
     let inv = l .loop .inv in
-    let low-i : length (linesOf a) ≤ l .loop .i = omega (arith, count-of a (s .pre .0), inv .0, inv .1 .0) in
-    let low-j : length (linesOf b) ≤ l .loop .j = omega (arith, count-of b (s .pre .1 .0), inv .0, inv .1 .0) in
+    let low-i : length (linesOf a) ≤ l .loop .i = omega (arith, count-of a (s .pre .first), inv .0, inv .1 .0) in
+    let low-j : length (linesOf b) ≤ l .loop .j = omega (arith, count-of b (s .pre .second), inv .0, inv .1 .0) in
     let d = all-done (linesOf a) (linesOf b) (l .loop .lines) (l .loop .count) (l .loop .i) (l .loop .j) (inv .1 .1) low-i low-j in
-    sym (ap (page (a .others)) (join-merged a b (s .pre .1 .0)) ∙ page-is (a .others) (l .loop .count) (merged (linesOf a) (linesOf b)) (l .loop .lines) (sym (d .0)) (d .1))
+    sym (ap (page (a .others)) (join-merged a b (s .pre .second)) ∙ page-is (a .others) (l .loop .count) (merged (linesOf a) (linesOf b)) (l .loop .lines) (sym (d .0)) (d .1))
 
 pub add-lines-spec : {M : Type 1} → statement M
 add-lines-spec =
@@ -276,26 +279,26 @@ add-lines-spec =
     turn-requires
     cast-at
     add-count
-    mul-line
-    array-copy-out-line
     mul-lines
+    array-copy-out-lines
+    mul-lines-2
     array-set-from-lines
     add-i
     loop-less
     loop-again
-    mul-line-2
-    array-copy-out-line-2
-    mul-lines-2
+    mul-lines-3
+    array-copy-out-lines-2
+    mul-lines-4
     array-set-from-lines-2
     add-j
     loop-less-2
     loop-again-2
-    mul-one
-    array-copy-out-one
-    mul-other
-    array-copy-out-other
+    mul-together
+    array-copy-out-together
+    mul-together-2
+    array-copy-out-together-2
     together-requires
-    mul-lines-3
+    mul-lines-5
     array-set-from-lines-3
     add-i-2
     add-j-2
