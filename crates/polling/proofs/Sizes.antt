@@ -2,28 +2,18 @@
 use mathlib.Core.Path.{_≡_, refl, ap, ap₂, _∙_}
 use mathlib.Core.Bool.{Bool, true, false}
 use mathlib.Core.List.{List, []}
-use Prim.Native.Nat.{ℕ, zero, suc, _+_, _*_, _≤_}
+use Prim.Native.Nat.{ℕ, _+_, _*_, _≤_}
 use native.Mathlib.Omega.{arith}
 use lib.Dec.{ltb}
 use lib.ListN.{length, replicate, length-append, length-replicate}
 use Rattle.frame.specs.Pick.{pick}
 use Rattle.frame.specs.Line.{firstBytes}
 use Rattle.frame.specs.Poll.{pollLine}
-use Rattle.drawing.specs.Pulses.{bitAfter, bitsAfter, drawn, drawing}
-use Rattle.drawing.proofs.Rest.{one, one-long, bit-first}
+use Rattle.drawing.specs.Pulses.{drawing}
+use Rattle.drawing.proofs.Rest.{drawing-long}
 use Rattle.polling.specs.declared.Pace.{Pace}
 use Rattle.polling.specs.Meant.{pollDrawn, tryDrawn}
 use Rattle.polling.proofs.Paces.{Good}
-
-drawn-long : (low still before count : ℕ) (message : List ℕ) → length (drawn low still (bitsAfter before count message)) ≡ count * (low + still)
-unfolding drawn bitsAfter
-drawn-long low still before zero message = omega arith
-drawn-long low still before (suc count) message =
-    let b = bitAfter message before in
-    let rest = drawn-long low still (suc before) count message in
-    ap length (bit-first low still b (bitsAfter (suc before) count message))
-    ∙ length-append (one low still b) (drawn low still (bitsAfter (suc before) count message))
-    ∙ omega (arith, rest, one-long low still b)
 
 module _ (p : Pace) (address : ℕ) where
   poll-long : (t : Bool) → ltb 999 address ≡ t → length (pollDrawn p address) ≡ pick t 0 (16 * (p .low + p .still))
@@ -31,7 +21,7 @@ module _ (p : Pace) (address : ℕ) where
   poll-long true e = ap (λ (t : Bool). length (pick t [] (drawing (p .low) (p .still) 16 (firstBytes 2 (pollLine address false false))))) e
   poll-long false e =
       ap (λ (t : Bool). length (pick t [] (drawing (p .low) (p .still) 16 (firstBytes 2 (pollLine address false false))))) e
-      ∙ drawn-long (p .low) (p .still) 0 16 (firstBytes 2 (pollLine address false false))
+      ∙ drawing-long (p .low) (p .still) 16 (firstBytes 2 (pollLine address false false))
 
   pub try-long : (t : Bool) → ltb 999 address ≡ t → length (tryDrawn p address) ≡ p .delay + pick t 0 (16 * (p .low + p .still))
   unfolding tryDrawn

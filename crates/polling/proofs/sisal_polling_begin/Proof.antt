@@ -46,12 +46,11 @@ use Rattle.polling.specs.Calls.{BeginsPolling}
 use Rattle.polling.specs.inside.Boards.{HoldsBoard, BeginsOn}
 use Rattle.board.proofs.LentRows.{length-counted}
 use Rattle.lending.proofs.Thin.{shared-rows, lent-as, slice-val}
-use Rattle.lending.proofs.Loading.{Thirty, thirty, mach, tells, Load, load-says, Own, to-load, goes-load}
+use Rattle.lending.proofs.Loading.{Thirty, thirty, mach, tells, Load, Own, to-load, goes-load, when-loaded}
 use Rattle.board.proofs.Row as T
 use Rattle.board.proofs.Row.Laws as T′
 use Rattle.polling.proofs.Begun as F
 use Rattle.polling.proofs.Begun.Laws as F′
-use Rattle.lending.proofs.lent.load as load′
 use Rattle.lending.proofs.lent.load.Symbol as load-def
 use Rattle.lending.proofs.lent.load.Symbol.{name as #load}
 use Rattle.lending.proofs.lent.load.Met as load-thm
@@ -152,14 +151,11 @@ module _ {M : Type 1} (𝓤 : URA M) (H : Heap 𝓤) (A : Atoms 𝓤) (W : Given
         -- [the token; what the slice owns, twice; _4; …]
         use2 W (raw (Load 𝓤 H A mem run .pre to-rows)) (goes-load 𝓤 H A mem run W b o ys κ γ q) $
         calls-at ! fm (Load 𝓤 H A mem run) known-load to-rows (and-then ! (load ! (from ! (stop !)) (look ! 8 refl)) (no-more !)) (λ u.
-        use1 W (later (some (λ (xs : List Row). ((‵ (flft κ q) ⊛ ‵ ftrue) ⊛ ‵ (Thirty .own xs (u ∷ []))) ⊛ raw (ensured 𝓤 H A load′.ended (load′.clauses 𝓤 H A mem run) (κ, tt) (x, tt) tt xs)))) (id⊢ 𝓤 _) $ await ! tt $ pick ! (λ xs.
-        split ! $ move ! (1 ∷ []) $ use1 W (raw (fact 𝓤 (xs ≡ filled (boardOf ys)))) (load-says 𝓤 H A mem run κ x xs) $ heard ! (xs ≡ filled (boardOf ys)) (λ loaded. split ! $ split ! $
-        -- [the token; true; the result; what the slice owns; _4; …]
-        move ! (1 ∷ []) $ drop ! $ move ! (1 ∷ []) $
-        peeks ! Thirty (Is Thirty) (shows 𝓤 H A Thirty) xs (u ∷ []) (λ is.
+        when-loaded 𝓤 H A mem run W b o ys κ γ q u tt (λ xs loaded is.
+        -- [the result; the token; what the slice owns; _4; …]
         land ! (from ! (stop !)) (init ! 5 refl (typed xs _ is .0)) $ drop ! $
         rewrite ! 4 (λ (v : Val). ‵ (fat fullShare thirty l₃ 0 v)) (ap only (tells xs _ is)) refl $
-        works C Λ fm l₀ l₁ l₂ l₃ l₄ known-core xs loaded (subst (Is Thirty xs) (tells xs _ is) is))))))))))
+        works C Λ fm l₀ l₁ l₂ l₃ l₄ known-core xs loaded (subst (Is Thirty xs) (tells xs _ is) is))))))))
 
 module _ {M : Type 1} (𝓤 : URA M) (H : Heap 𝓤) (A : Atoms 𝓤) (W : Given 𝓤 H A) (mem : Memory → SProp 𝓤) (run : Routine → Fun 𝓤) (𝓣 : Tables 𝓤 H) (known-load : Triple 𝓤 (𝓣 .C #load) (Load 𝓤 H A mem run)) (known-core : Triple 𝓤 (𝓣 .C #core) (Core 𝓤 H A mem run)) where
   call-walks : Walks 𝓤 H A call.ended stayed (WpFn 𝓤 H (𝓣 .C) (𝓣 .Λ) code.function) (call.clauses 𝓤 H A mem run)
