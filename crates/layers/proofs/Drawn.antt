@@ -15,8 +15,8 @@ use Rattle.summary.proofs.Seen.{list-more}
 use Rattle.summary.proofs.PairFigures.{pair-append}
 use Rattle.calendar.specs.declared.counting.Day.{Day}
 use Rattle.layers.specs.Drawing.{partText, lineGoesOn, layerText}
-use Rattle.listing.specs.inside.Puts.{Puts}
-use Rattle.listing.proofs.Putting.{text-is, at-most, nothing-put}
+use Rattle.putting.specs.Puts.{Puts}
+use Rattle.putting.proofs.Putting.{text-is, at-most, nothing-put}
 use Rattle.layers.specs.inside.Layers.{joinedAfter}
 
 pub layer-append : (b : Day) (n : ℕ) (j : Bool) (l m : List Entry) → layerText b n j (l ++ m) ≡ layerText b n j l ++ layerText b n (joinedAfter n j l) m

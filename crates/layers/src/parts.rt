@@ -9,14 +9,14 @@ use frame::Reply;
 use frame::Temperature;
 use frame::is_plus;
 use frame::magnitude;
-use listing::text::put_word;
+use putting::put_word;
 ghost use mathlib.Core.Path.{_≡_};
 ghost use mathlib.Core.Bool.{false};
 ghost use Prim.Native.Nat.{_+_, _-_, _≤_};
 ghost use lib.Dec.{ltb};
 ghost use lib.ListN.{length};
 ghost use Rattle.frame.specs.Pick.{pick};
-ghost use Rattle.listing.specs.inside.Puts.{Puts};
+ghost use Rattle.putting.specs.Puts.{Puts};
 ghost use Rattle.layers.specs.Drawing.{heatValue, valueIn, pointText, alarmShown, alarmMark, saidAs, faultMark, markText};
 
 // What a record has on a line, or nothing.

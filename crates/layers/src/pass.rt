@@ -16,7 +16,7 @@ ghost use Rattle.sheet.specs.Slots.{sizeAllowed, slots, slotAt, slotOf, recordI
 ghost use Rattle.sheet.specs.Look.{entryWith};
 ghost use Rattle.summary.specs.Line.{pairBy};
 ghost use Rattle.summary.specs.Worked.{ofPair};
-ghost use Rattle.listing.specs.inside.Puts.{Puts};
+ghost use Rattle.putting.specs.Puts.{Puts};
 ghost use Rattle.layers.specs.Drawing.{partText, lineGoesOn, layerText};
 ghost use Rattle.layers.specs.inside.Layers.{joinedAfter};
 ghost use Rattle.layers.specs.inside.Noted.{Noted};

@@ -1,6 +1,5 @@
 -- The laws that several proofs cite, each in a file named for what it speaks of.
 pub mod Numbers
-pub mod Putting
 pub mod Seen
 pub mod Answers
 pub mod Counted

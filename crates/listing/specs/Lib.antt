@@ -2,5 +2,3 @@
 pub mod Text
 pub mod Lines
 pub mod Calls
--- What only the code needs.
-pub mod inside

@@ -6,7 +6,7 @@ use Prim.Native.Char.{code}
 use Prim.Native.String.{String, [], _∷_}
 use lib.Dec.{ltb}
 use Rattle.frame.specs.Pick.{pick}
-pub use Rattle.putting.specs.Digit.{digit}
+use Rattle.putting.specs.Digit.{digit}
 
 -- The bytes of a word.
 abbrev pub ascii : String → List ℕ

@@ -1,6 +1,5 @@
 // Numbers put into an output in decimal, as `putting` puts words. What is public here is for other crates that write text: they ask for room themselves, as
 // these calls want it.
-pub use putting::put_word;
 ghost use mathlib.Core.Path.{_≡_};
 ghost use Prim.Native.Nat.{_+_, _≤_};
 ghost use lib.ListN.{length};

@@ -3,11 +3,11 @@ use calendar::Day;
 use forms::days::put_month_day;
 use forms::days::put_year;
 use forms::form::put_form;
-use listing::text::put_word;
+use putting::put_word;
 ghost use mathlib.Core.Path.{_≡_};
 ghost use Prim.Native.Nat.{_+_, _-_, _*_, _/_, _≤_, _<_, min};
 ghost use lib.ListN.{length};
-ghost use Rattle.listing.specs.inside.Puts.{Puts};
+ghost use Rattle.putting.specs.Puts.{Puts};
 ghost use Rattle.picture.specs.Axis.{axisOf};
 ghost use Rattle.picture.specs.Page.{dateOnAxis, dayOnAxis, tickText, daysText};
 

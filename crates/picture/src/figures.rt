@@ -7,14 +7,14 @@ use forms::words::put_degrees;
 use forms::words::put_fault;
 use forms::words::put_level;
 use layers::gauge::Gauged;
-use listing::text::put_word;
+use putting::put_word;
 use summary::Line;
 ghost use mathlib.Core.Path.{_≡_};
 ghost use Prim.Native.Nat.{_+_, _-_, _≤_, _<_};
 ghost use lib.Dec.{ltb};
 ghost use lib.ListN.{length};
 ghost use Rattle.frame.specs.Pick.{pick};
-ghost use Rattle.listing.specs.inside.Puts.{Puts};
+ghost use Rattle.putting.specs.Puts.{Puts};
 ghost use Rattle.picture.specs.Page.{boundText, lastText, heatText, offText, kindText, kindsText, levelsText, figuresText};
 
 fn put_bound(out: &mut [u8], at: usize, settings: u16, n: u16) -> usize

@@ -13,7 +13,7 @@ use layers::gauge::Gauged;
 use layers::gauge::gauge;
 use layers::noting::note_slots;
 use layers::pass::put_layer;
-use listing::text::put_word;
+use putting::put_word;
 use summary::Line;
 use summary::figures::pair_of;
 ghost use mathlib.Core.Path.{_≡_};
@@ -23,7 +23,7 @@ ghost use lib.ListN.{length};
 ghost use Rattle.sheet.specs.Slots.{sizeAllowed, slots, listOf};
 ghost use Rattle.summary.specs.Line.{pairOf};
 ghost use Rattle.summary.specs.Worked.{ofPair};
-ghost use Rattle.listing.specs.inside.Puts.{Puts};
+ghost use Rattle.putting.specs.Puts.{Puts};
 ghost use Rattle.layers.specs.inside.Noted.{Noted};
 ghost use Rattle.picture.specs.Page.{valueText, labelText, scaleText, beginText, frameText, levelRow, heatRow, markRow, rowsText, headingText, sectionText};
 

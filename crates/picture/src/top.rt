@@ -4,10 +4,10 @@ use calendar::Day;
 use cards::Tally;
 use forms::days::put_moment;
 use forms::form::put_form;
-use listing::text::put_word;
+use putting::put_word;
 ghost use Prim.Native.Nat.{_+_, _≤_};
 ghost use lib.ListN.{length};
-ghost use Rattle.listing.specs.inside.Puts.{Puts};
+ghost use Rattle.putting.specs.Puts.{Puts};
 ghost use Rattle.picture.specs.Page.{openingText, rulesText, scalesText, shapesText, styleText, legendText, whenText, othersText, countsText, topText};
 
 // The file's beginning with the card's name, the rules of its text, and how lines and marks look.

@@ -5,14 +5,14 @@ use crate::section::put_section;
 use crate::top::put_style;
 use crate::top::put_top;
 use calendar::Day;
-use listing::text::put_word;
+use putting::put_word;
 use summary::Line;
 ghost use mathlib.Core.Path.{_≡_};
 ghost use mathlib.Core.Bool.{true};
 ghost use Prim.Native.Nat.{_+_, _*_, _≤_, _<_};
 ghost use lib.ListN.{length, take};
 ghost use Rattle.sheet.specs.Slots.{sizeAllowed, slots, listOf};
-ghost use Rattle.listing.specs.inside.Puts.{Puts};
+ghost use Rattle.putting.specs.Puts.{Puts};
 ghost use Rattle.picture.specs.Page.{sectionsText, pageOf};
 ghost use Rattle.picture.specs.inside.Room.{roomOf};
 

@@ -8,7 +8,8 @@ use lib.Dec.{eqb, ltb}
 use lib.ListN.{getD}
 use Rattle.frame.specs.Pick.{pick}
 use Rattle.summary.specs.Line.{noLevel}
-use Rattle.listing.specs.Text.{ascii, digit, inDecimal}
+use Rattle.listing.specs.Text.{ascii, inDecimal}
+use Rattle.putting.specs.Digit.{digit}
 use Rattle.calendar.specs.declared.counting.Day.{Day}
 use Rattle.calendar.specs.Days.{daysFrom}
 use Rattle.forms.specs.Form.{fill, choice}

@@ -9,7 +9,8 @@ use borrow.Author.Tests.{ne-eqb, lt-ltb, ltb-true}
 use lib.Dec.{eqb, ltb}
 use lib.ListN.{length, getD, drop}
 use Rattle.frame.specs.Pick.{pick}
-use Rattle.listing.specs.Text.{ascii, digit, digitsUpTo, inDecimal}
+use Rattle.listing.specs.Text.{ascii, digitsUpTo, inDecimal}
+use Rattle.putting.specs.Digit.{digit}
 use Rattle.forms.specs.Form.{fill, first, others, choice}
 use Rattle.promises_picture.specs.Reader.{upTo, passedOver, readOf, plain}
 

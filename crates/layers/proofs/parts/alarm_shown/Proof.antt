@@ -1,7 +1,7 @@
 -- `layers::parts::alarm_shown` meets its contract, by its tests. Assumes nothing.
 use mathlib.Core.Path.{_≡_, refl, sym, ap, _∙_}
 use native.Mathlib.Omega.{arith}
-use Rattle.listing.proofs.Putting.{then, text-is, at-most, nothing-put}
+use Rattle.putting.proofs.Putting.{then, text-is, at-most, nothing-put}
 use borrow.Author.Tests.{eq-eqb, ne-eqb}
 use Rattle.layers.proofs.parts.alarm_shown.Statement.{statement}
 use Rattle.layers.proofs.parts.alarm_shown.Tie as tie

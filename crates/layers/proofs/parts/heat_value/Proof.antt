@@ -7,7 +7,7 @@ use mir.Val.{SFits}
 use Rattle.frame.proofs.Signs.{magnitude-small}
 use Rattle.layers.specs.Drawing.{stands, heatValue}
 use Rattle.layers.proofs.ByTests.{same, degrees-value}
-use Rattle.listing.proofs.Putting.{then, text-is, at-most, nothing-put}
+use Rattle.putting.proofs.Putting.{then, text-is, at-most, nothing-put}
 use borrow.Author.Needs.{needs}
 use Rattle.layers.proofs.parts.heat_value.Statement.{statement}
 use Rattle.layers.proofs.parts.heat_value.Tie as tie

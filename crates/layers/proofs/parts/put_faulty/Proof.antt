@@ -2,7 +2,7 @@
 use mathlib.Core.Path.{_≡_, refl, sym, ap, _∙_}
 use native.Mathlib.Omega.{arith}
 use Rattle.layers.proofs.ByTests.{as-mark, as-words, as-nothing}
-use Rattle.listing.proofs.Putting.{then, text-is, at-most, nothing-put}
+use Rattle.putting.proofs.Putting.{then, text-is, at-most, nothing-put}
 use Rattle.layers.specs.Drawing.{faultMark}
 use borrow.Author.Needs.{needs}
 use Rattle.layers.proofs.parts.put_faulty.Statement.{statement}

@@ -1,7 +1,7 @@
 -- `layers::parts::put_mark` meets its contract: the text is that of the case that the match saw. Assumes nothing.
 use mathlib.Core.Path.{_≡_, refl, sym, ap, _∙_}
 use native.Mathlib.Omega.{arith}
-use Rattle.listing.proofs.Putting.{then, text-is, at-most, nothing-put}
+use Rattle.putting.proofs.Putting.{then, text-is, at-most, nothing-put}
 use Rattle.layers.specs.Drawing.{markText}
 use borrow.Author.Needs.{needs}
 use Rattle.layers.proofs.parts.put_mark.Statement.{statement}

@@ -8,7 +8,7 @@ use borrow.Author.Tests.{lt-ltb, le-ltb}
 use lib.Dec.{ltb}
 use Rattle.frame.specs.declared.Reply.{Reply}
 use Rattle.frame.specs.Pick.{pick}
-use Rattle.listing.proofs.Putting.{text-is, at-most}
+use Rattle.putting.proofs.Putting.{text-is, at-most}
 use Rattle.calendar.specs.declared.counting.Day.{Day}
 use Rattle.layers.specs.declared.parts.Value.{Value}
 use Rattle.layers.specs.Drawing.{valueIn, pointText, markText}

@@ -3,7 +3,7 @@ use mathlib.Core.Path.{_≡_, refl, sym, ap, _∙_}
 use native.Mathlib.Omega.{arith}
 use borrow.Author.Tests.{not-true, not-false}
 use Rattle.layers.proofs.ByTests.{no-point, a-point}
-use Rattle.listing.proofs.Putting.{then, text-is, at-most, nothing-put}
+use Rattle.putting.proofs.Putting.{then, text-is, at-most, nothing-put}
 use Rattle.layers.specs.Drawing.{pointText}
 use borrow.Author.Needs.{needs}
 use Rattle.layers.proofs.parts.put_point.Statement.{statement}

@@ -1,7 +1,7 @@
 -- `layers::parts::put_said` meets its contract: its parts are put one after another. Assumes nothing.
 use mathlib.Core.Path.{_≡_, refl, sym, ap, _∙_}
 use native.Mathlib.Omega.{arith}
-use Rattle.listing.proofs.Putting.{then, text-is, at-most, nothing-put}
+use Rattle.putting.proofs.Putting.{then, text-is, at-most, nothing-put}
 use borrow.Author.Needs.{needs}
 use Rattle.layers.proofs.parts.put_said.Statement.{statement}
 use Rattle.layers.proofs.parts.put_said.Tie as tie

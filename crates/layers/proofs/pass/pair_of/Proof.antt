@@ -1,7 +1,7 @@
 -- `layers::pass::pair_of` meets its contract: the address times 65,536, and the settings. Assumes nothing.
 use mathlib.Core.Path.{_≡_, refl, sym, ap, _∙_}
 use native.Mathlib.Omega.{arith}
-use Rattle.listing.proofs.Putting.{then, text-is, at-most, nothing-put}
+use Rattle.putting.proofs.Putting.{then, text-is, at-most, nothing-put}
 use Rattle.summary.specs.Line.{pairBy}
 use borrow.Author.Needs.{needs}
 use Rattle.layers.proofs.pass.pair_of.Statement.{statement}

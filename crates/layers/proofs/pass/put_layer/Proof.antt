@@ -9,8 +9,8 @@ use lib.ListN.{length, getD}
 use Rattle.sheet.specs.Record.{Entry}
 use Rattle.sheet.specs.Slots.{slots, listOf}
 use Rattle.summary.specs.Worked.{ofPair}
-use Rattle.listing.specs.inside.Puts.{Puts}
-use Rattle.listing.proofs.Putting.{then, text-is, at-most, nothing-put}
+use Rattle.putting.specs.Puts.{Puts}
+use Rattle.putting.proofs.Putting.{then, text-is, at-most, nothing-put}
 use Rattle.calendar.specs.declared.counting.Day.{Day}
 use Rattle.layers.specs.Drawing.{layerText}
 use Rattle.layers.specs.inside.Layers.{joinedAfter}

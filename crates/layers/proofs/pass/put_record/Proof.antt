@@ -9,7 +9,7 @@ use lib.ListN.{length}
 use lib.Seq.{length-take-le}
 use Rattle.frame.specs.declared.Reply.{Reply}
 use Rattle.frame.specs.Pick.{pick}
-use Rattle.listing.proofs.Putting.{text-is}
+use Rattle.putting.proofs.Putting.{text-is}
 use Rattle.layers.specs.Drawing.{valueIn, pointText, markText, partText, lineGoesOn}
 use borrow.Author.Needs.{needs}
 use Rattle.layers.proofs.pass.put_record.Statement.{statement}

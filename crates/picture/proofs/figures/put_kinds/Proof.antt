@@ -5,8 +5,8 @@ use Prim.Native.Nat.{ℕ, zero, suc, _+_, _*_, _-_, _<_, _≤_}
 use native.Mathlib.Numerals.{add-one}
 use native.Mathlib.Omega.{arith}
 use lib.ListN.{length, getD}
-use Rattle.listing.specs.inside.Puts.{Puts}
-use Rattle.listing.proofs.Putting.{then, text-is, at-most, nothing-put}
+use Rattle.putting.specs.Puts.{Puts}
+use Rattle.putting.proofs.Putting.{then, text-is, at-most, nothing-put}
 use Rattle.picture.specs.Page.{kindText, kindsText}
 use Rattle.picture.proofs.figures.put_kinds.Statement.{statement}
 use Rattle.picture.proofs.figures.put_kinds.Tie as tie

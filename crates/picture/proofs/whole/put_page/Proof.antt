@@ -27,7 +27,7 @@ use Rattle.summary.proofs.OneRecordMore.{worked, count-worked}
 use Rattle.summary.proofs.Pages.{lines-page}
 use Rattle.summary.proofs.Seen.{few-slots}
 use Rattle.listing.specs.Text.{ascii}
-use Rattle.listing.proofs.Putting.{then, text-is, at-most}
+use Rattle.putting.proofs.Putting.{then, text-is, at-most}
 use Rattle.calendar.specs.declared.counting.Day.{Day}
 use Rattle.picture.specs.declared.axis.Axis.{Axis}
 use Rattle.picture.specs.Axis.{axisOf}

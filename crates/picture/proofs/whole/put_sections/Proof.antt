@@ -12,8 +12,8 @@ use Rattle.sheet.specs.Slots.{listOf}
 use Rattle.summary.specs.declared.Line.{Line}
 use Rattle.summary.specs.Line.{pairOf, blankLine}
 use Rattle.summary.specs.Worked.{ofPair}
-use Rattle.listing.specs.inside.Puts.{Puts}
-use Rattle.listing.proofs.Putting.{then, text-is, at-most, nothing-put}
+use Rattle.putting.specs.Puts.{Puts}
+use Rattle.putting.proofs.Putting.{then, text-is, at-most, nothing-put}
 use Rattle.picture.specs.Page.{sectionText, sectionsText}
 use Rattle.picture.specs.inside.Room.{roomOf}
 use Rattle.picture.specs.declared.axis.Axis.{Axis}

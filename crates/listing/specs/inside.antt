@@ -1,2 +1,0 @@
--- What only the code needs, and nobody has to believe.
-pub mod Puts
