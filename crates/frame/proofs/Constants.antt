@@ -8,6 +8,7 @@ use mathlib.Core.List.{List, [], _∷_}
 use Prim.Native.Nat.{ℕ, _+_, _-_, _*_, _/_, _%_, _^_, _<_, _≤_}
 use native.Mathlib.Nat.{mod-eq-of-lt, mod-one, mod-lt}
 use native.Mathlib.Omega.{arith}
+use borrow.Author.Tests.{ne-eqb}
 use lib.Dec.{eqb, lit<, lit≤}
 use lib.ListN.{length}
 use lib.Pow.{pow-pos}
@@ -184,3 +185,20 @@ allowed k =
     pick-case Allowed (eqb k 0) (lit≤ tt, (lit≤ tt, (lit≤ tt, (lit≤ tt, lit≤ tt))))
     (pick-case Allowed (eqb k 1) (lit≤ tt, (lit≤ tt, (lit≤ tt, (lit≤ tt, lit≤ tt))))
     (pick-case Allowed (eqb k 2) (lit≤ tt, (lit≤ tt, (lit≤ tt, (lit≤ tt, lit≤ tt)))) (lit≤ tt, (lit≤ tt, (lit≤ tt, (lit≤ tt, lit≤ tt))))))
+
+-- those of a number by two questions: feet or metres, and then which
+module _ (k : ℕ) where
+  pub fractional-by : k ≡ 0 → constantsBy k ≡ fractional
+  fractional-by e = rw e
+
+  pub decimal-by : k < 2 → (k ≡ 0 → ⊥) → constantsBy k ≡ decimalFeet
+  decimal-by few some = let one : k ≡ 1 = omega arith in rw one
+
+  pub metres20-by : k ≡ 2 → constantsBy k ≡ metres20
+  metres20-by e = rw e
+
+  pub metres30-by : 2 ≤ k → (k ≡ 2 → ⊥) → constantsBy k ≡ metres30
+  metres30-by many other =
+      let none : k ≡ 0 → ⊥ = omega arith in
+      let one : k ≡ 1 → ⊥ = omega arith in
+      simp (ne-eqb k 0 none, ne-eqb k 1 one, ne-eqb k 2 other)

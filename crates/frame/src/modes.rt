@@ -189,16 +189,22 @@ impl Metres30 {
     }
 }
 
-// The level of a line in the mode of this number: the level, or 2 ^ 16 times the fault. There is one reader, and each mode hands it its constants.
+// The level of a line in the mode of this number: the level, or 2 ^ 16 times the fault. There is one reader, and each mode hands it its constants. Feet
+// or metres are asked first, and then which: two jumps with two ways each, where a choice of four at once becomes one jump by the number, which
+// a processor guesses worse where modes come mixed.
 pub(crate) fn read_level(mode: u64, n: u64) -> u64
     ensures { λ r. ⌜ r ≡ levelCode (modeOf mode) n ⌝ }
 {
-    match mode {
-        0 => Fractional::read(n),
-        1 => Decimal::read(n),
-        2 => Metres20::read(n),
-        _ => Metres30::read(n),
+    if mode < 2 {
+        if mode == 0 {
+            return Fractional::read(n);
+        }
+        return Decimal::read(n);
     }
+    if mode == 2 {
+        return Metres20::read(n);
+    }
+    Metres30::read(n)
 }
 
 // The constants of the mode of this number, those that its type carries.
@@ -224,14 +230,18 @@ pub(crate) fn read_level_by_pairs(mode: u64, k: Constants, n: u64) -> u64
     pairs::read_by(k.digits, k.first, k.before, k.after, k.largest, k.start, n)
 }
 
-// The bits of a level in the mode of this number; the fill is 0.
+// The bits of a level in the mode of this number, asked for as in `read_level`; the fill is 0.
 pub(crate) fn write_level(mode: u64, v: u64) -> u64
     ensures { λ r. ⌜ r ≡ putLevel (modeOf mode) v ⌝ }
 {
-    match mode {
-        0 => Fractional::write(v),
-        1 => Decimal::write(v),
-        2 => Metres20::write(v),
-        _ => Metres30::write(v),
+    if mode < 2 {
+        if mode == 0 {
+            return Fractional::write(v);
+        }
+        return Decimal::write(v);
     }
+    if mode == 2 {
+        return Metres20::write(v);
+    }
+    Metres30::write(v)
 }

@@ -63,18 +63,22 @@ fn unread(settings: u8, address: u16, count: usize, reply: &[u8]) -> u64
     misformed(count, reply)
 }
 
-// The marks of a reply, counted over its bytes as they are lent.
+// The marks of a reply of 5 or 7 bytes, counted over its bytes as they are lent.
 fn marks(reply: &[u8]) -> u32
+    requires { ⌜ 5 ≤ length (now reply) ⌝ }
     requires { ⌜ length (now reply) ≤ 7 ⌝ }
+    requires { ⌜ length (now reply) ≢ 6 ⌝ }
     ensures { λ r. ⌜ r ≡ marks (now (reply .entry)) ⌝ }
 {
-    let mut sum: u32 = 0;
-    let mut i = 0;
-    while i < reply.len() {
-        sum += u8::count_ones(reply[i]);
-        i += 1;
+    let five = u8::count_ones(reply[0])
+        + u8::count_ones(reply[1])
+        + u8::count_ones(reply[2])
+        + u8::count_ones(reply[3])
+        + u8::count_ones(reply[4]);
+    if reply.len() == 7 {
+        return five + u8::count_ones(reply[5]) + u8::count_ones(reply[6]);
     }
-    sum
+    five
 }
 
 // Parity covers the whole reply, parity bit included: its marks are even in number, or odd, by setting.

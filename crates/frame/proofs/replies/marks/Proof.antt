@@ -1,58 +1,96 @@
--- `frame::replies::marks` meets its contract: what is counted and the marks of the bytes from the i-th on are the marks of all. It fits because a
--- byte has at most 8 ones. Assumes nothing.
-use mathlib.Core.Path.{_≡_, ap, _∙_}
-use mathlib.Core.List.{List}
-use Prim.Native.Nat.{ℕ, suc, _+_, _*_, _-_, _≤_}
+-- `frame::replies::marks` meets its contract: the sum is that of the definition's bytes, and fits because a byte has at most 8 ones. Assumes
+-- nothing.
 use native.Mathlib.Omega.{arith}
-use lib.Count.{ones, ones-le}
-use lib.ListN.{length, drop, getD}
-use Rattle.frame.specs.Line.{marks}
-use Rattle.frame.proofs.Counted.{from-place, none-left}
+use lib.Count.{ones-le}
+use lib.ListN.{getD}
+use Rattle.frame.proofs.Marks.{five-bytes, seven-bytes}
+use borrow.Author.Needs.{needs}
 use Rattle.frame.proofs.replies.marks.Statement.{statement}
 use Rattle.frame.proofs.replies.marks.Tie as tie
 
-abbrev Inv-loop : tie.InvT-loop
-Inv-loop reply sum₀ i₀ sum i = (i ≤ length reply) × (sum ≤ 8 * i) × (sum + marks (drop i reply) ≡ marks reply)
+shared-slice-read-five : tie.Need-shared-slice-read-five
+shared-slice-read-five c = search needs
 
-abbrev μ-loop : tie.MeasureT-loop
-μ-loop reply sum₀ i₀ sum i = length reply - i
+shared-slice-read-five-2 : tie.Need-shared-slice-read-five-2
+shared-slice-read-five-2 c = search needs
 
--- one byte more is counted
-one-more : (s : List ℕ) (sum i : ℕ) → sum + marks (drop i s) ≡ marks s → sum + ones (getD s i 0) + marks (drop (i + 1) s) ≡ marks s
-one-more s sum i e =
-    let up : suc i ≡ i + 1 = omega arith in
-    let next = from-place s i ∙ ap (λ (k : ℕ). ones (getD s i 0) + marks (drop k s)) up in
-    omega (arith, next)
-
-loop-holds : tie.Need-loop-holds Inv-loop μ-loop
-loop-holds c = (omega arith, omega arith, omega arith)
-
-shared-slice-read-sum : tie.Need-shared-slice-read-sum Inv-loop μ-loop
-shared-slice-read-sum c = omega arith
-
-add-sum : tie.Need-add-sum Inv-loop μ-loop
-add-sum c =
-    let l = c .before .before .loop in
-    let b = getD (c .before .before .before .args .reply .now) (l .i) 0 in
-    omega (arith, l .inv .0, l .inv .1, ones-le 8 b (c .shared-slice-known .given (l .i) .fits))
-
-add-i : tie.Need-add-i Inv-loop μ-loop
-add-i c = omega arith
-
-loop-less : tie.Need-loop-less Inv-loop μ-loop
-loop-less c = omega arith
-
-loop-again : tie.Need-loop-again Inv-loop μ-loop
-loop-again c =
-    let l = c .before .before .loop in
-    let s = c .before .before .before .args .reply .now in
-    let few = ones-le 8 (getD s (l .i) 0) (c .shared-slice-known .given (l .i) .fits) in
-    (omega arith, omega arith, one-more s (l .sum) (l .i) (l .inv .2))
-
-returns : tie.Need-returns Inv-loop μ-loop
-returns c =
+add-five : tie.Need-add-five
+add-five c =
     let s = c .before .before .args .reply .now in
-    omega (arith, c .before .loop .inv .2, none-left s (c .before .loop .i) (omega arith))
+    let k = c .before .shared-slice-known .given in
+    omega (arith, ones-le 8 (getD s 0 0) (k 0 .fits), ones-le 8 (getD s 1 0) (k 1 .fits))
+
+shared-slice-read-five-3 : tie.Need-shared-slice-read-five-3
+shared-slice-read-five-3 c = search needs
+
+add-five-2 : tie.Need-add-five-2
+add-five-2 c =
+    let s = c .before .before .before .args .reply .now in
+    let k = c .before .before .shared-slice-known .given in
+    omega (arith, ones-le 8 (getD s 0 0) (k 0 .fits), ones-le 8 (getD s 1 0) (k 1 .fits), ones-le 8 (getD s 2 0) (k 2 .fits))
+
+shared-slice-read-five-4 : tie.Need-shared-slice-read-five-4
+shared-slice-read-five-4 c = search needs
+
+add-five-3 : tie.Need-add-five-3
+add-five-3 c =
+    let s = c .before .before .before .before .args .reply .now in
+    let k = c .before .before .before .shared-slice-known .given in
+    omega (arith, ones-le 8 (getD s 0 0) (k 0 .fits), ones-le 8 (getD s 1 0) (k 1 .fits), ones-le 8 (getD s 2 0) (k 2 .fits), ones-le 8 (getD s 3 0) (k 3 .fits))
+
+shared-slice-read-five-5 : tie.Need-shared-slice-read-five-5
+shared-slice-read-five-5 c = search needs
+
+add-five-4 : tie.Need-add-five-4
+add-five-4 c =
+    let s = c .before .before .before .before .before .args .reply .now in
+    let k = c .before .before .before .before .shared-slice-known .given in
+    omega (arith, ones-le 8 (getD s 0 0) (k 0 .fits), ones-le 8 (getD s 1 0) (k 1 .fits), ones-le 8 (getD s 2 0) (k 2 .fits), ones-le 8 (getD s 3 0) (k 3 .fits), ones-le 8 (getD s 4 0) (k 4 .fits))
+
+shared-slice-read-result : tie.Need-shared-slice-read-result
+shared-slice-read-result c = search needs
+
+add-result : tie.Need-add-result
+add-result c =
+    let s = c .before .before .before .before .before .before .before .args .reply .now in
+    let k = c .before .before .before .before .before .before .shared-slice-known .given in
+    omega (arith, ones-le 8 (getD s 0 0) (k 0 .fits), ones-le 8 (getD s 1 0) (k 1 .fits), ones-le 8 (getD s 2 0) (k 2 .fits), ones-le 8 (getD s 3 0) (k 3 .fits), ones-le 8 (getD s 4 0) (k 4 .fits), ones-le 8 (getD s 5 0) (k 5 .fits))
+
+shared-slice-read-result-2 : tie.Need-shared-slice-read-result-2
+shared-slice-read-result-2 c = search needs
+
+add-result-2 : tie.Need-add-result-2
+add-result-2 c =
+    let s = c .before .before .before .before .before .before .before .before .args .reply .now in
+    let k = c .before .before .before .before .before .before .before .shared-slice-known .given in
+    omega (arith, ones-le 8 (getD s 0 0) (k 0 .fits), ones-le 8 (getD s 1 0) (k 1 .fits), ones-le 8 (getD s 2 0) (k 2 .fits), ones-le 8 (getD s 3 0) (k 3 .fits), ones-le 8 (getD s 4 0) (k 4 .fits), ones-le 8 (getD s 5 0) (k 5 .fits), ones-le 8 (getD s 6 0) (k 6 .fits))
+
+returns : tie.Need-returns
+returns c =
+    let b = c .before .before .before .before .before .before .before .before in
+    seven-bytes (b .args .reply .now) (c .before .before .if1 .taken)
+
+returns-2 : tie.Need-returns-2
+returns-2 c =
+    let b = c .before .before .before .before .before .before in
+    five-bytes (b .args .reply .now) (omega (arith, b .pre, c .if1 .left))
 
 pub marks-spec : {M : Type 1} → statement M
-marks-spec = tie.close (tie.spec Inv-loop μ-loop loop-holds shared-slice-read-sum add-sum add-i loop-less loop-again returns)
+marks-spec =
+    tie.close
+    (tie.spec
+    shared-slice-read-five
+    shared-slice-read-five-2
+    add-five
+    shared-slice-read-five-3
+    add-five-2
+    shared-slice-read-five-4
+    add-five-3
+    shared-slice-read-five-5
+    add-five-4
+    shared-slice-read-result
+    add-result
+    shared-slice-read-result-2
+    add-result-2
+    returns
+    returns-2)
