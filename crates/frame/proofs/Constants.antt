@@ -45,7 +45,7 @@ pub record Fits (m : Mode) (k : Constants) : Type 0 where
   pub cut : digitBits (k .first) (k .after) ≡ lastBit m + 1 - m .first
   pub count : k .digits ≡ length (m .row)
   pub last : 27 + k .after ≡ 64 - lastBit m
-  pub fill : (n : ℕ) → fillAt n (k .before) (k .after) ≡ fillClear n (m .fill)
+  pub fill : (n : ℕ) → fillAt n (k .first) (k .after) ≡ fillClear n (m .fill)
   pub largest : k .largest ≡ m .largest
   pub straight : k .start ≡ false
   pub values : k .largest < valuesOf (digitRow (k .charts) (k .digits))
@@ -70,10 +70,10 @@ module _ (m : Mode) (k : Constants) (f : Fits m k) where
       ∙ rw (f .straight, same-codes v, f .wide, f .last, f .largest)
 
 -- fill on both sides of the digits, or only after them
-both-sides : (n j : ℕ) → fillAt n 1 j ≡ (eqb (n / 2 ^ 48 % 2 ^ 1) 0 && (eqb (n / 2 ^ 27 % 2 ^ j) 0 && true))
+both-sides : (n j : ℕ) → fillAt n 17 j ≡ (eqb (n / 2 ^ 48 % 2 ^ 1) 0 && (eqb (n / 2 ^ 27 % 2 ^ j) 0 && true))
 both-sides n j = rw (and-true (eqb (n / 2 ^ 27 % 2 ^ j) 0))
 
-only-after : (n j : ℕ) → fillAt n 0 j ≡ (eqb (n / 2 ^ 27 % 2 ^ j) 0 && true)
+only-after : (n j : ℕ) → fillAt n 16 j ≡ (eqb (n / 2 ^ 27 % 2 ^ j) 0 && true)
 only-after n j = rw (mod-one (n / 2 ^ 49), and-true (eqb (n / 2 ^ 27 % 2 ^ j) 0))
 
 pub fractional-fits : Fits fractionalMode fractional
@@ -178,13 +178,13 @@ constants-fit k = go (eqb k 0) (eqb k 1) (eqb k 2)
 
 -- and are within the bounds that the readers ask for
 abbrev pub Allowed : Constants → Type 0
-Allowed k = (k .digits ≤ 5) × ((16 ≤ k .first) × ((k .first ≤ 17) × ((k .before ≤ 1) × (k .after ≤ 6))))
+Allowed k = (k .digits ≤ 5) × ((16 ≤ k .first) × ((k .first ≤ 17) × (k .after ≤ 6)))
 
 pub allowed : (k : ℕ) → Allowed (constantsBy k)
 allowed k =
-    pick-case Allowed (eqb k 0) (lit≤ tt, (lit≤ tt, (lit≤ tt, (lit≤ tt, lit≤ tt))))
-    (pick-case Allowed (eqb k 1) (lit≤ tt, (lit≤ tt, (lit≤ tt, (lit≤ tt, lit≤ tt))))
-    (pick-case Allowed (eqb k 2) (lit≤ tt, (lit≤ tt, (lit≤ tt, (lit≤ tt, lit≤ tt)))) (lit≤ tt, (lit≤ tt, (lit≤ tt, (lit≤ tt, lit≤ tt))))))
+    pick-case Allowed (eqb k 0) (lit≤ tt, (lit≤ tt, (lit≤ tt, lit≤ tt)))
+    (pick-case Allowed (eqb k 1) (lit≤ tt, (lit≤ tt, (lit≤ tt, lit≤ tt)))
+    (pick-case Allowed (eqb k 2) (lit≤ tt, (lit≤ tt, (lit≤ tt, lit≤ tt))) (lit≤ tt, (lit≤ tt, (lit≤ tt, lit≤ tt)))))
 
 -- those of a number by two questions: feet or metres, and then which
 module _ (k : ℕ) where

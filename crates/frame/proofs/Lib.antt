@@ -23,6 +23,7 @@ pub mod Walks
 pub mod Fronts
 pub mod Parts
 pub mod Counted
+pub mod Cut
 pub mod Sums
 pub mod Tenths
 pub mod ToldBack

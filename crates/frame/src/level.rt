@@ -4,8 +4,9 @@ ghost use Prim.Native.Nat.{_+_, _-_, _*_, _/_, _%_, _^_, _<_, _≤_};
 ghost use Rattle.frame.specs.Charts.{sizeOf};
 ghost use Rattle.frame.specs.Level.{Level, readRow};
 ghost use Rattle.frame.specs.inside.Packed.{chartOf, digitOf, digitRow, readCode, Below, levelNumber};
-ghost use Rattle.frame.specs.inside.Constants.{fillAt, digitBits, readAt};
+ghost use Rattle.frame.specs.inside.Constants.{fillAt, readAt};
 use crate::charts;
+use crate::line;
 
 // What the reader gives for a digit in no chart: this, and the digit's place. Every level is below it.
 pub(crate) const LOST: u64 = 1 << 32;
@@ -49,25 +50,24 @@ pub(crate) fn read_digits(row: u64, left: u64, bits: u64, odd: bool, sofar: u64,
     read_digits(row / 16, left - 1, bits, d % 2 == 1, next, place + 1)
 }
 
-// The fill bits of a mode are 0: those from bit 16 up to its first digit bit, and those after its digits up to bit 37.
-pub(crate) fn fill_clear(n: u64, before: u64, after: u64) -> bool
-    requires { ⌜ before ≤ 1 ⌝ }
-    requires { ⌜ after ≤ 6 ⌝ }
-    ensures { λ r. ⌜ r ≡ fillAt n before after ⌝ }
-{
-    let head = (n >> (49 - before)) % (1 << before);
-    let tail = (n >> 27) % (1 << after);
-    head == 0 && tail == 0
-}
-
-// The bits of the digits of a line.
-pub(crate) fn digit_bits(n: u64, first: u64, after: u64) -> u64
+// The fill bits of a mode are 0: bit 16 where its digits begin after it, and those after its digits up to bit 37.
+pub(crate) fn fill_clear(n: u64, first: u64, after: u64) -> bool
     requires { ⌜ 16 ≤ first ⌝ }
     requires { ⌜ first ≤ 17 ⌝ }
     requires { ⌜ after ≤ 6 ⌝ }
-    ensures { λ r. ⌜ r ≡ n / 2 ^ (27 + after) % 2 ^ digitBits first after ⌝ }
+    ensures { λ r. ⌜ r ≡ fillAt n first after ⌝ }
 {
-    (n >> (27 + after)) % (1 << (38 - first - after))
+    let head = (n >> 48) % 2 * (first - 16);
+    let tail = (n >> 27) % (1 << after);
+    head + tail == 0
+}
+
+// The bits of the digits of a line whose fill is 0: what stands after bit 15 and above the fill. Where bit 16 is fill it is a 0 before them.
+pub(crate) fn digit_bits(n: u64, after: u64) -> u64
+    requires { ⌜ after ≤ 6 ⌝ }
+    ensures { λ r. ⌜ r ≡ n % 2 ^ 49 / 2 ^ (27 + after) ⌝ }
+{
+    (n % line::BIT_15) >> (27 + after)
 }
 
 // What a reader of digits gave, as a level or a fault: 7 with the place of the digit in no chart, 8 above the largest.
@@ -89,7 +89,6 @@ pub(crate) fn judged(largest: u64, v: u64) -> u64
 pub(crate) fn read_by(
     digits: u64,
     first: u64,
-    before: u64,
     after: u64,
     largest: u64,
     charts: u64,
@@ -99,13 +98,12 @@ pub(crate) fn read_by(
     requires { ⌜ digits ≤ 5 ⌝ }
     requires { ⌜ 16 ≤ first ⌝ }
     requires { ⌜ first ≤ 17 ⌝ }
-    requires { ⌜ before ≤ 1 ⌝ }
     requires { ⌜ after ≤ 6 ⌝ }
-    ensures { λ r. ⌜ r ≡ readAt digits first before after largest charts start n ⌝ }
+    ensures { λ r. ⌜ r ≡ readAt digits first after largest charts start n ⌝ }
 {
-    if !fill_clear(n, before, after) {
+    if !fill_clear(n, first, after) {
         return 6 * FAULT;
     }
-    let bits = digit_bits(n, first, after);
+    let bits = digit_bits(n, after);
     judged(largest, read_digits(charts, digits, bits, start, 0, 0))
 }

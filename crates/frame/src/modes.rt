@@ -8,13 +8,12 @@ use crate::level;
 use crate::level_writing;
 use crate::pairs;
 
-// How many digits a mode has, the bit that they begin at, the fill bits before them (from bit 16) and after them (up to bit 37), its largest
-// level, the charts of its digits in a word (four bits a digit, the top digit lowest), and the starting state: whether a digit above the
-// first is odd. None stands there, and the first is always read straight.
+// How many digits a mode has, the bit that they begin at (those from bit 16 up to it are fill), the fill bits after them (up to bit 37), its
+// largest level, the charts of its digits in a word (four bits a digit, the top digit lowest), and the starting state: whether a digit above
+// the first is odd. None stands there, and the first is always read straight.
 pub(crate) struct Constants {
     pub(crate) digits: u64,
     pub(crate) first: u64,
-    pub(crate) before: u64,
     pub(crate) after: u64,
     pub(crate) largest: u64,
     pub(crate) charts: u64,
@@ -28,7 +27,6 @@ impl Fractional {
     const CONSTANTS: Constants = Constants {
         digits: 4,
         first: 17,
-        before: 1,
         after: 6,
         largest: 15359,
         charts: 0x5432,
@@ -39,16 +37,7 @@ impl Fractional {
         ensures { λ r. ⌜ r ≡ readBy fractional n ⌝ }
     {
         let k = Self::CONSTANTS;
-        level::read_by(
-            k.digits,
-            k.first,
-            k.before,
-            k.after,
-            k.largest,
-            k.charts,
-            k.start,
-            n,
-        )
+        level::read_by(k.digits, k.first, k.after, k.largest, k.charts, k.start, n)
     }
 
     // The codes of a level's digits: sixteenths, inches, feet, feet tens.
@@ -75,7 +64,6 @@ impl Decimal {
     const CONSTANTS: Constants = Constants {
         digits: 4,
         first: 17,
-        before: 1,
         after: 6,
         largest: 7999,
         charts: 0x3332,
@@ -86,16 +74,7 @@ impl Decimal {
         ensures { λ r. ⌜ r ≡ readBy decimalFeet n ⌝ }
     {
         let k = Self::CONSTANTS;
-        level::read_by(
-            k.digits,
-            k.first,
-            k.before,
-            k.after,
-            k.largest,
-            k.charts,
-            k.start,
-            n,
-        )
+        level::read_by(k.digits, k.first, k.after, k.largest, k.charts, k.start, n)
     }
 
     // The codes of a level's digits: hundredths, tenths, feet, feet tens.
@@ -120,7 +99,6 @@ impl Metres20 {
     const CONSTANTS: Constants = Constants {
         digits: 5,
         first: 16,
-        before: 0,
         after: 5,
         largest: 19999,
         charts: 0x33330,
@@ -131,16 +109,7 @@ impl Metres20 {
         ensures { λ r. ⌜ r ≡ readBy metres20 n ⌝ }
     {
         let k = Self::CONSTANTS;
-        level::read_by(
-            k.digits,
-            k.first,
-            k.before,
-            k.after,
-            k.largest,
-            k.charts,
-            k.start,
-            n,
-        )
+        level::read_by(k.digits, k.first, k.after, k.largest, k.charts, k.start, n)
     }
 
     fn write(v: u64) -> u64
@@ -158,7 +127,6 @@ impl Metres30 {
     const CONSTANTS: Constants = Constants {
         digits: 5,
         first: 16,
-        before: 0,
         after: 4,
         largest: 32699,
         charts: 0x33331,
@@ -169,16 +137,7 @@ impl Metres30 {
         ensures { λ r. ⌜ r ≡ readBy metres30 n ⌝ }
     {
         let k = Self::CONSTANTS;
-        level::read_by(
-            k.digits,
-            k.first,
-            k.before,
-            k.after,
-            k.largest,
-            k.charts,
-            k.start,
-            n,
-        )
+        level::read_by(k.digits, k.first, k.after, k.largest, k.charts, k.start, n)
     }
 
     fn write(v: u64) -> u64
@@ -227,7 +186,7 @@ pub(crate) fn read_level_by_pairs(mode: u64, k: Constants, n: u64) -> u64
     if mode == 0 {
         return Fractional::read(n);
     }
-    pairs::read_by(k.digits, k.first, k.before, k.after, k.largest, k.start, n)
+    pairs::read_by(k.digits, k.first, k.after, k.largest, k.start, n)
 }
 
 // The bits of a level in the mode of this number, asked for as in `read_level`; the fill is 0.

@@ -109,26 +109,17 @@ fn judged(largest: u64, zeros: u64, v: u64) -> u64
 
 // A level by its mode's constants, as `level::read_by` has it, two digits at a time. A digit 0000 stands before digits that are odd in number: read
 // straight it is 0 and even, so that the first digit of the mode is still read straight.
-pub(crate) fn read_by(
-    digits: u64,
-    first: u64,
-    before: u64,
-    after: u64,
-    largest: u64,
-    start: bool,
-    n: u64,
-) -> u64
+pub(crate) fn read_by(digits: u64, first: u64, after: u64, largest: u64, start: bool, n: u64) -> u64
     requires { ⌜ digits ≤ 5 ⌝ }
     requires { ⌜ 16 ≤ first ⌝ }
     requires { ⌜ first ≤ 17 ⌝ }
-    requires { ⌜ before ≤ 1 ⌝ }
     requires { ⌜ after ≤ 6 ⌝ }
-    ensures { λ r. ⌜ r ≡ readPairsAt digits first before after largest start n ⌝ }
+    ensures { λ r. ⌜ r ≡ readPairsAt digits first after largest start n ⌝ }
 {
-    if !level::fill_clear(n, before, after) {
+    if !level::fill_clear(n, first, after) {
         return 6 * level::FAULT;
     }
-    let bits = level::digit_bits(n, first, after);
+    let bits = level::digit_bits(n, after);
     let v = read_pairs((digits + 1) / 2, bits, start, 0, 0);
     judged(largest, digits % 2, v)
 }

@@ -8,6 +8,7 @@ use borrow.Author.Tests.{not-true, not-false}
 use Rattle.frame.specs.Level.{Level, readRow}
 use Rattle.frame.specs.inside.Packed.{digitRow, readCode, Below}
 use Rattle.frame.specs.inside.Constants.{fillAt, digitBits}
+use Rattle.frame.proofs.Cut.{clear-cut}
 use Rattle.frame.proofs.Digits.{below-more, row-below}
 use Rattle.frame.proofs.Upward.{sixteen-le}
 use borrow.Author.Needs.{needs}
@@ -27,7 +28,7 @@ mul-result c = search needs
 returns : tie.Need-returns
 returns c =
     let a = c .before .before .args in
-    let set : fillAt (a .n) (a .before) (a .after) ≡ false = sym (c .before .fill-clear .ensures) ∙ not-true _ (c .if1 .taken) in
+    let set : fillAt (a .n) (a .first) (a .after) ≡ false = sym (c .before .fill-clear .ensures) ∙ not-true _ (c .if1 .taken) in
     rw set
 
 digit-bits-requires : tie.Need-digit-bits-requires
@@ -43,12 +44,14 @@ judged-requires c κs = search needs
 
 returns-2 : tie.Need-returns-2
 returns-2 c =
-    let a = c .before .before .before .before .before .args in
-    let clear : fillAt (a .n) (a .before) (a .after) ≡ true = sym (c .before .before .before .before .fill-clear .ensures) ∙ not-false _ (c .before .before .before .if1 .left) in
+    let b = c .before .before .before .before .before in
+    let a = b .args in
+    let clear : fillAt (a .n) (a .first) (a .after) ≡ true = sym (c .before .before .before .before .fill-clear .ensures) ∙ not-false _ (c .before .before .before .if1 .left) in
     let bits = a .n / 2 ^ (27 + a .after) % 2 ^ digitBits (a .first) (a .after) in
     let l = readRow (digitRow (a .charts) (a .digits)) bits (a .start) 0 0 in
+    let cut : c .before .before .digit-bits .result ≡ bits = c .before .before .digit-bits .ensures ∙ clear-cut (a .n) (a .first) (a .after) (b .pre .1) clear in
     let read : c .before .read-digits .result ≡ readCode l =
-    c .before .read-digits .ensures ∙ ap (λ (n : ℕ). readCode (readRow (digitRow (a .charts) (a .digits)) n (a .start) 0 0)) (c .before .before .digit-bits .ensures) in
+    c .before .read-digits .ensures ∙ ap (λ (n : ℕ). readCode (readRow (digitRow (a .charts) (a .digits)) n (a .start) 0 0)) cut in
     rw clear (c .judged .ensures l (under (a .digits) l (omega arith) (row-below (a .charts) (a .digits) bits (a .start) 0 0)) read)
 
 pub read-by-spec : {M : Type 1} → statement M

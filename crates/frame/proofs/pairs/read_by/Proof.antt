@@ -9,6 +9,7 @@ use Rattle.frame.specs.Level.{Level}
 use Rattle.frame.specs.Pairs.{readPairs}
 use Rattle.frame.specs.inside.Packed.{readCode, Below}
 use Rattle.frame.specs.inside.Constants.{fillAt, digitBits}
+use Rattle.frame.proofs.Cut.{clear-cut}
 use Rattle.frame.proofs.Digits.{below-more}
 use Rattle.frame.proofs.PairSteps.{hundred-le, pairs-below}
 use borrow.Author.Needs.{needs}
@@ -28,7 +29,7 @@ mul-result c = search needs
 returns : tie.Need-returns
 returns c =
     let a = c .before .before .args in
-    let set : fillAt (a .n) (a .before) (a .after) ≡ false = sym (c .before .fill-clear .ensures) ∙ not-true _ (c .if1 .taken) in
+    let set : fillAt (a .n) (a .first) (a .after) ≡ false = sym (c .before .fill-clear .ensures) ∙ not-true _ (c .if1 .taken) in
     rw set
 
 digit-bits-requires : tie.Need-digit-bits-requires
@@ -52,11 +53,12 @@ returns-2 c =
     let b = d .before .before .before in
     let a = b .args in
     let left = (a .digits + 1) / 2 in
-    let clear : fillAt (a .n) (a .before) (a .after) ≡ true = sym (d .before .before .fill-clear .ensures) ∙ not-false _ (d .before .if1 .left) in
+    let clear : fillAt (a .n) (a .first) (a .after) ≡ true = sym (d .before .before .fill-clear .ensures) ∙ not-false _ (d .before .if1 .left) in
     let bits = a .n / 2 ^ (27 + a .after) % 2 ^ digitBits (a .first) (a .after) in
     let l = readPairs left bits (a .start) 0 0 in
+    let cut : d .digit-bits .result ≡ bits = d .digit-bits .ensures ∙ clear-cut (a .n) (a .first) (a .after) (b .pre .1) clear in
     let read : c .before .read-pairs .result ≡ readCode l =
-    c .before .read-pairs .ensures ∙ ap (λ (n : ℕ). readCode (readPairs left n (a .start) 0 0)) (d .digit-bits .ensures) in
+    c .before .read-pairs .ensures ∙ ap (λ (n : ℕ). readCode (readPairs left n (a .start) 0 0)) cut in
     let few : left ≤ 4 = omega (arith, b .pre .0) in
     rw clear (c .judged .ensures l (under left l few (pairs-below left bits (a .start) 0 0)) read)
 
