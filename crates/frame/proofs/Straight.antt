@@ -1,6 +1,6 @@
 -- The digits of a level, written from the ones digit up, in one sum: dividing by a digit's values and then by the next one's is dividing by
 -- both. Assumes nothing.
-use mathlib.Core.Path.{_≡_}
+use mathlib.Core.Path.{_≡_, refl, sym}
 use mathlib.Core.Bool.{Bool, false}
 use Prim.Native.Nat.{ℕ, _+_, _*_, _/_, _%_, _^_, _<_}
 use native.Mathlib.Nat.{div-div-eq-div-mul}
@@ -8,6 +8,23 @@ use native.Mathlib.Omega.{arith}
 use Rattle.frame.specs.Charts.{feetTens, decimal, inches, sixteenths, sizeOf, codeOf}
 use Rattle.frame.specs.inside.Packed.{chartOf, onesCode, threeUp, writeUp}
 use Rattle.frame.specs.inside.Constants.{fractional, decimalFeet, codesBy}
+
+-- what stands above a digit, by one division of the level
+pub above-16 : (v : ℕ) → v / 16 ≡ v / sizeOf (chartOf 5)
+unfolding chartOf sixteenths
+above-16 v = refl
+
+pub above-192 : (v : ℕ) → v / 192 ≡ v / 16 / sizeOf (chartOf 4)
+unfolding chartOf inches
+above-192 v = sym (div-div-eq-div-mul v 16 12)
+
+pub above-10 : (v : ℕ) → v / 10 ≡ v / sizeOf (chartOf 3)
+unfolding chartOf decimal
+above-10 v = refl
+
+pub above-more : (v unit : ℕ) → v / (unit * 10) ≡ v / unit / sizeOf (chartOf 3)
+unfolding chartOf decimal
+above-more v unit = sym (div-div-eq-div-mul v unit 10)
 
 -- the two modes in feet
 pub fractional-up : (v : ℕ)

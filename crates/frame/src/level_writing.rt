@@ -8,28 +8,37 @@ ghost use Rattle.frame.specs.inside.Constants.{digitBits, placedAt};
 use crate::charts;
 use crate::modes::Constants;
 
-// The code of a level's ones digit, the digit just above it being odd or not: what the digits above leave is the digit.
-pub(crate) fn digit_code(chart: u64, v: u64, odd: bool) -> u64
+// The code of a level's ones digit, the digit just above it being odd or not. `above` is what stands above it: what that leaves is the digit.
+fn digit_code(chart: u64, v: u64, above: u64, odd: bool) -> u64
+    requires { ⌜ above ≡ v / sizeOf (chartOf chart) ⌝ }
     ensures { λ r. ⌜ (r ≡ codeOf odd (chartOf chart) (v % sizeOf (chartOf chart))) × (r < 16) ⌝ }
 {
-    let above = charts::over(chart, v);
     charts::code(chart, v - above * charts::size(chart), odd)
 }
 
 // The same where another digit stands above it: that is odd exactly if all that stands above is, because every chart has an even number of
-// values.
-pub(crate) fn ones_code(chart: u64, v: u64) -> u64
+// values. The caller has what stands above, for it is the level of the next digit, and so each division is made once.
+pub(crate) fn ones_code(chart: u64, v: u64, above: u64) -> u64
+    requires { ⌜ above ≡ v / sizeOf (chartOf chart) ⌝ }
     ensures { λ r. ⌜ (r ≡ onesCode (chartOf chart) v) × (r < 16) ⌝ }
 {
-    let above = charts::over(chart, v);
-    digit_code(chart, v, above % 2 == 1)
+    digit_code(chart, v, above, above % 2 == 1)
+}
+
+// The code of a level's first digit: no digit stands above it, and `start` is the state that its mode begins with.
+pub(crate) fn first_code(chart: u64, v: u64, start: bool) -> u64
+    ensures { λ r. ⌜ (r ≡ codeOf start (chartOf chart) (v % sizeOf (chartOf chart))) × (r < 16) ⌝ }
+{
+    digit_code(chart, v, charts::over(chart, v), start)
 }
 
 // The last three decimal digits of a level in their codes, as three of the modes have them.
 pub(crate) fn three_decimals(v: u64) -> u64
     ensures { λ r. ⌜ (r ≡ threeUp v) × (r < 4096) ⌝ }
 {
-    ones_code(3, v) + 16 * ones_code(3, v / 10) + 256 * ones_code(3, v / 100)
+    ones_code(3, v, v / 10)
+        + 16 * ones_code(3, v / 10, v / 100)
+        + 256 * ones_code(3, v / 100, v / 1000)
 }
 
 // The five digits of a level in metres in their codes: the chart of the first one is handed over by its number, with the state above it.
@@ -37,7 +46,9 @@ pub(crate) fn five_digits(top: u64, v: u64, start: bool) -> u64
     requires { ⌜ top < 16 ⌝ }
     ensures { λ r. ⌜ (r ≡ writeUp (0x33330 + top) 5 start v) × (r < 2 ^ 20) ⌝ }
 {
-    three_decimals(v) + 4096 * ones_code(3, v / 1000) + 65536 * digit_code(top, v / 10000, start)
+    three_decimals(v)
+        + 4096 * ones_code(3, v / 1000, v / 10000)
+        + 65536 * first_code(top, v / 10000, start)
 }
 
 // Every digit bit of a mode.

@@ -44,10 +44,10 @@ impl Fractional {
     fn codes(v: u64) -> u64
         ensures { λ r. ⌜ (r ≡ codesBy fractional v) × (r < 2 ^ 20) ⌝ }
     {
-        level_writing::ones_code(5, v)
-            + 16 * level_writing::ones_code(4, v / 16)
-            + 256 * level_writing::ones_code(3, v / 192)
-            + 4096 * level_writing::digit_code(2, v / 1920, Self::CONSTANTS.start)
+        level_writing::ones_code(5, v, v / 16)
+            + 16 * level_writing::ones_code(4, v / 16, v / 192)
+            + 256 * level_writing::ones_code(3, v / 192, v / 1920)
+            + 4096 * level_writing::first_code(2, v / 1920, Self::CONSTANTS.start)
     }
 
     fn write(v: u64) -> u64
@@ -82,7 +82,7 @@ impl Decimal {
         ensures { λ r. ⌜ (r ≡ codesBy decimalFeet v) × (r < 2 ^ 20) ⌝ }
     {
         level_writing::three_decimals(v)
-            + 4096 * level_writing::digit_code(2, v / 1000, Self::CONSTANTS.start)
+            + 4096 * level_writing::first_code(2, v / 1000, Self::CONSTANTS.start)
     }
 
     fn write(v: u64) -> u64

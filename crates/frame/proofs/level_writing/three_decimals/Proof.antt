@@ -1,15 +1,16 @@
 -- `frame::level_writing::three_decimals` meets its contract: the codes of three digits in one sum. Assumes nothing.
 use native.Mathlib.Omega.{arith}
 use Rattle.frame.specs.inside.Packed.{chartOf}
+use Rattle.frame.proofs.Straight.{above-10, above-more}
 use borrow.Author.Needs.{needs}
 use Rattle.frame.proofs.level_writing.three_decimals.Statement.{statement}
 use Rattle.frame.proofs.level_writing.three_decimals.Tie as tie
 
 ones-code-requires : tie.Need-ones-code-requires
-ones-code-requires c κs = search needs
+ones-code-requires c κs = above-10 (c .args .v)
 
 ones-code-requires-2 : tie.Need-ones-code-requires-2
-ones-code-requires-2 c κs = search needs
+ones-code-requires-2 c κs = above-more (c .before .args .v) 10
 
 mul-result : tie.Need-mul-result
 mul-result c = search needs
@@ -18,7 +19,7 @@ add-result : tie.Need-add-result
 add-result c = search needs
 
 ones-code-requires-3 : tie.Need-ones-code-requires-3
-ones-code-requires-3 c κs = search needs
+ones-code-requires-3 c κs = above-more (c .before .before .args .v) 100
 
 mul-result-2 : tie.Need-mul-result-2
 mul-result-2 c = search needs

@@ -10,8 +10,8 @@ use Rattle.frame.proofs.modes.Decimal.codes.Tie as tie
 three-decimals-requires : tie.Need-three-decimals-requires
 three-decimals-requires c κs = search needs
 
-digit-code-requires : tie.Need-digit-code-requires
-digit-code-requires c κs = search needs
+first-code-requires : tie.Need-first-code-requires
+first-code-requires c κs = search needs
 
 mul-result : tie.Need-mul-result
 mul-result c = search needs
@@ -22,8 +22,8 @@ add-result c = search needs
 returns : tie.Need-returns
 unfolding chartOf
 returns c =
-    (rw (c .before .three-decimals .ensures .0, c .digit-code .ensures .0) (sym (decimal-up (c .before .before .args .v))), omega arith)
+    (rw (c .before .three-decimals .ensures .0, c .first-code .ensures .0) (sym (decimal-up (c .before .before .args .v))), omega arith)
 
 pub codes-spec : {M : Type 1} → statement M
 codes-spec =
-    tie.close (tie.spec three-decimals-requires digit-code-requires mul-result add-result returns)
+    tie.close (tie.spec three-decimals-requires first-code-requires mul-result add-result returns)
