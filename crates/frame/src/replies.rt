@@ -13,6 +13,7 @@ use crate::Reply;
 use crate::Temperature;
 use crate::heat;
 use crate::heat::Told;
+use crate::kinds;
 use crate::level;
 use crate::line;
 use crate::modes;
@@ -119,7 +120,7 @@ fn read_heat(settings: u8, count: usize, n: u64) -> u64
     if count == 40 {
         return heat::ABSENT;
     }
-    heat::read(settings / 4 % 2 == 1, n)
+    heat::read(kinds::of_1800(settings), n)
 }
 
 // The reading of a reply whose level and temperature are read, or fault 9.
