@@ -9,6 +9,7 @@ pub mod SlotParts
 pub mod LastUsed
 pub mod FewRecords
 pub mod Records
+pub mod Seen
 pub mod Storing
 pub mod Refusals
 -- Where stores go, the slot that a save takes, the last used slot, and one save.

@@ -4,11 +4,10 @@ use mathlib.Core.List.{_++_}
 use Prim.Native.Nat.{ℕ}
 use native.Mathlib.Omega.{arith}
 use lib.Seq.{length-take-le}
+use Rattle.sheet.proofs.Seen.{told-slots, told-refused, few-slots}
 use Rattle.listing.specs.Text.{ascii, inDecimal}
 use Rattle.listing.specs.Lines.{headLine}
 use Rattle.listing.proofs.Answers.{refused-12, put-first, handed}
-use Rattle.listing.proofs.Counted.{told-slots, told-refused}
-use Rattle.listing.proofs.Seen.{size-small}
 use borrow.Author.Needs.{needs}
 use Rattle.listing.proofs.head_line.Statement.{statement}
 use Rattle.listing.proofs.head_line.Tie as tie
@@ -30,7 +29,7 @@ cast-put-count c =
     let counted = c .before .before .before in
     let start = counted .before .before .before .before .before in
     let told = told-slots (start .args .sheet .now) _ (counted .counted .given .0 .0) (counted .before .before .count-slots .ensures) (counted .counted .given .1) in
-    omega (arith, size-small (start .args .sheet .now) (told .0))
+    omega (arith, few-slots (start .args .sheet .now) (told .0))
 
 put-count-requires : tie.Need-put-count-requires
 put-count-requires c κs = search needs

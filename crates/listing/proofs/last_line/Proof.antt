@@ -7,11 +7,10 @@ use Prim.Native.Nat.{ℕ}
 use native.Mathlib.Omega.{arith}
 use lib.Seq.{length-take-le}
 use Rattle.sheet.specs.Slots.{sizeAllowed, slots}
+use Rattle.sheet.proofs.Seen.{told-slots, told-refused, few-slots}
 use Rattle.listing.specs.Text.{ascii, inDecimal}
 use Rattle.listing.specs.Lines.{countLine}
 use Rattle.listing.proofs.Answers.{refused-12, put-first, handed}
-use Rattle.listing.proofs.Counted.{told-slots, told-refused}
-use Rattle.listing.proofs.Seen.{size-small}
 use borrow.Author.Needs.{needs}
 use Rattle.sheet.proofs.FewRecords.{few-records}
 use Rattle.listing.proofs.last_line.Statement.{statement}
@@ -40,7 +39,7 @@ cast-put-count : tie.Need-cast-put-count
 cast-put-count c =
     let counted = c .before .before .before .before in
     let s = counted .before .before .before .before .before .args .sheet .now in
-    omega (arith, c .before .before .count-records .ensures, few-records s (slots s), size-small s (told counted .0))
+    omega (arith, c .before .before .count-records .ensures, few-records s (slots s), few-slots s (told counted .0))
 
 put-count-requires : tie.Need-put-count-requires
 put-count-requires c κs = search needs

@@ -6,8 +6,8 @@ use native.Mathlib.Omega.{arith}
 use borrow.Author.Tests.{lt-ltb, le-ltb}
 use lib.Seq.{length-take-le}
 use Rattle.sheet.specs.Slots.{sizeAllowed, slots}
+use Rattle.sheet.proofs.Seen.{told-slots, told-refused}
 use Rattle.listing.proofs.Answers.{refused-12, put-first, handed}
-use Rattle.listing.proofs.Counted.{told-slots, told-refused}
 use borrow.Author.Needs.{needs}
 use Rattle.listing.proofs.slot_line.Statement.{statement}
 use Rattle.listing.proofs.slot_line.Tie as tie

@@ -10,9 +10,8 @@ use Rattle.listing.specs.Text.{ascii}
 use Rattle.listing.specs.Lines.{headLine, linesUpTo, lastLine, listingOf}
 use Rattle.listing.specs.Calls.{roomFor}
 use Rattle.listing.proofs.Answers.{refused-15, written}
-use Rattle.listing.proofs.Counted.{told-slots, told-refused}
+use Rattle.sheet.proofs.Seen.{told-slots, told-refused, few-slots}
 use Rattle.putting.proofs.Putting.{text-is}
-use Rattle.listing.proofs.Seen.{size-small}
 use borrow.Author.Needs.{needs}
 use Rattle.listing.proofs.whole_listing.Statement.{statement}
 use Rattle.listing.proofs.whole_listing.Tie as tie
@@ -33,7 +32,7 @@ told c = told-slots (c .before .before .before .before .before .args .sheet .now
 small : (c : tie.After-counted) → c .counted .given .0 .0 ≤ 2048
 small c =
     let size = told c in
-    omega (arith, size-small (c .before .before .before .before .before .args .sheet .now) (size .0))
+    omega (arith, few-slots (c .before .before .before .before .before .args .sheet .now) (size .0))
 
 count-slots-requires : tie.Need-count-slots-requires
 count-slots-requires c κs = search needs

@@ -8,7 +8,7 @@ use Rattle.sheet.proofs.FewRecords.{few-records}
 use Rattle.sheet.specs.Slots.{slots, listOf}
 use Rattle.listing.specs.Text.{ascii, inDecimal}
 use Rattle.listing.specs.Lines.{countLine, lastLine}
-use Rattle.listing.proofs.Seen.{size-small}
+use Rattle.sheet.proofs.Seen.{few-slots}
 use Rattle.promises_card.specs.listing.Records.{ListingRecords}
 use Rattle.promises_card.proofs.listing.Written.{wrote, was-there}
 use Rattle.promises_card.proofs.listing.Decimals.{listing-decimals}
@@ -21,6 +21,6 @@ pub listing-records : ListingRecords
 listing-records =
     record {
       counted = λ s last w.
-          let few : length (listOf s) < 10 ^ 10 = omega (arith, few-records s (slots s), size-small s (was-there _ _ (lastLine s) last w)) in
+          let few : length (listOf s) < 10 ^ 10 = omega (arith, few-records s (slots s), few-slots s (was-there _ _ (lastLine s) last w)) in
           record { digits = inDecimal (length (listOf s)); text = wrote _ _ (lastLine s) last w ∙ last-is s; number = listing-decimals .number (length (listOf s)) few };
     }

@@ -20,7 +20,7 @@ use Rattle.listing.specs.Text.{ascii}
 use Rattle.listing.specs.Lines.{headLine, recordText, listedLine, slotLine, linesUpTo, countLine, lastLine, listingOf}
 use Rattle.listing.specs.Calls.{Writes, writeFault, roomFor}
 use Rattle.listing.proofs.Numbers.{few-digits}
-use Rattle.listing.proofs.Seen.{size-small}
+use Rattle.sheet.proofs.Seen.{few-slots}
 use Rattle.promises_card.specs.listing.Room.{ListingRoom}
 use Rattle.promises_card.proofs.listing.Replies.{reply-few}
 
@@ -64,14 +64,14 @@ lines-few s (suc k) bytes small = simp length-append (omega (arith, lines-few s 
 head-few : (s : List ℕ) → sizeAllowed s ≡ true → length (headLine s) ≤ 40
 unfolding headLine
 head-few s size =
-    let small = size-small s size in
+    let small = few-slots s size in
     let number = few-digits 4 (slots s) (omega arith) in
     simp length-append (omega arith)
 
 last-few : (s : List ℕ) → sizeAllowed s ≡ true → length (lastLine s) ≤ 40
 unfolding countLine
 last-few s size =
-    let small = size-small s size in
+    let small = few-slots s size in
     let records = few-records s (slots s) in
     let number = few-digits 4 (length (listOf s)) (omega arith) in
     simp length-append (omega arith)
@@ -88,7 +88,7 @@ whole-few s bytes = go (sizeAllowed s) refl
     go : (a : Bool) → sizeAllowed s ≡ a → length (pick a (headLine s ++ linesUpTo s (slots s) ++ lastLine s) (ascii "fault 12\n")) ≤ pick a (40 * (slots s + 2)) 9
     go true e =
         let head = head-few s e in
-        let lines = lines-few s (slots s) bytes (size-small s e) in
+        let lines = lines-few s (slots s) bytes (few-slots s e) in
         let last = last-few s e in
         simp length-append (omega arith)
     go false e = omega arith
@@ -99,7 +99,7 @@ listing-room =
       head-line = λ s out after said size long w. accepted (sizeAllowed s) (headLine s) out after said size (head-few s size) long w;
       slot-line = λ s out after slot said bytes size near long w.
           accepted (sizeAllowed s && ltb slot (slots s)) (slotLine s slot) out after said (simp (size, lt-ltb slot (slots s) near))
-          (slot-few s slot bytes (omega (arith, size-small s size))) long w;
+          (slot-few s slot bytes (omega (arith, few-slots s size))) long w;
       last-line = λ s out after said size long w. accepted (sizeAllowed s) (lastLine s) out after said size (last-few s size) long w;
       whole = whole-few;
     }

@@ -20,7 +20,7 @@ use Rattle.summary.specs.Worked.{summaryOf}
 use Rattle.summary.specs.Handed.{handedFault}
 use Rattle.summary.specs.Updated.{withRecord}
 use Rattle.summary.proofs.OneRecordMore.{summary-more}
-use Rattle.summary.proofs.Seen.{few-slots}
+use Rattle.sheet.proofs.Seen.{few-slots}
 use Rattle.summary.proofs.Shaped.{handed-worked}
 use Rattle.promises_card.specs.summary.Chain.{Step, Goes, Chain}
 use Rattle.promises_card.specs.summary.Chain as chain

@@ -10,8 +10,9 @@ use Rattle.sheet.specs.declared.Found.the-variants.{Blank, Spoiled, Foreign, Re
 use Rattle.sheet.specs.declared.Head.{Head}
 use Rattle.sheet.specs.Slots.{slotAt, slotOf, recordIn}
 use Rattle.listing.specs.Lines.{slotLine}
+use Rattle.sheet.proofs.Seen.{seen-bits, few-slots}
 use Rattle.putting.proofs.Putting.{text-is, at-most, nothing-put}
-use Rattle.listing.proofs.Seen.{lineFound, recordsFound, seen-line, seen-records, seen-bits, size-small}
+use Rattle.listing.proofs.Seen.{lineFound, recordsFound, seen-line, seen-records}
 use borrow.Author.Needs.{needs}
 use Rattle.listing.proofs.lines.put_slot.Statement.{statement}
 use Rattle.listing.proofs.lines.put_slot.Tie as tie
@@ -45,7 +46,7 @@ look-requires c κs = search needs
 cast-number : tie.Need-cast-number
 cast-number c =
     let start = c .before .before .before .before in
-    omega (arith, size-small (start .args .sheet .now) (start .pre .1 .0))
+    omega (arith, few-slots (start .args .sheet .now) (start .pre .1 .0))
 
 enum-told : tie.Need-enum-told
 enum-told c = search needs

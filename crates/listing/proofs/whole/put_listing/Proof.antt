@@ -6,8 +6,8 @@ use native.Mathlib.Omega.{arith}
 use Rattle.sheet.specs.Slots.{slots}
 use Rattle.listing.specs.Text.{ascii, inDecimal}
 use Rattle.listing.specs.Lines.{headLine, countLine}
+use Rattle.sheet.proofs.Seen.{few-slots}
 use Rattle.putting.proofs.Putting.{then, text-is, at-most}
-use Rattle.listing.proofs.Seen.{size-small}
 use borrow.Author.Needs.{needs}
 use Rattle.sheet.proofs.FewRecords.{few-records}
 use Rattle.listing.proofs.whole.put_listing.Statement.{statement}
@@ -19,7 +19,7 @@ slice-aggregate-put-count c = search needs
 cast-put-count : tie.Need-cast-put-count
 cast-put-count c =
     let start = c .before .before .before .before in
-    omega (arith, start .pre .1 .0, size-small (start .args .sheet .now) (start .pre .0))
+    omega (arith, start .pre .1 .0, few-slots (start .args .sheet .now) (start .pre .0))
 
 put-count-requires : tie.Need-put-count-requires
 put-count-requires c κs = search needs
@@ -35,7 +35,7 @@ cast-put-count-2 c =
     let put = c .before .before .before .before in
     let start = put .before .before .before .before .before .before .before .before .before in
     let s = start .args .sheet .now in
-    omega (arith, put .put-lines .ensures .1, few-records s (slots s), size-small s (start .pre .0))
+    omega (arith, put .put-lines .ensures .1, few-records s (slots s), few-slots s (start .pre .0))
 
 put-count-requires-2 : tie.Need-put-count-requires-2
 put-count-requires-2 c κs = search needs
