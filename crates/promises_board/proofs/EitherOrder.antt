@@ -2,13 +2,13 @@
 -- place and the other keeps its row, its number is the same, and two rows at different places are set in either order.
 use mathlib.Core.Path.{_≡_, refl, sym, _∙_, ap}
 use mathlib.Core.Bool.{Bool, true, false}
-use mathlib.Core.List.{List, _++_, append-nil}
-use Prim.Native.Nat.{ℕ, _<_, _≤_, min}
+use mathlib.Core.List.{List, _++_}
+use Prim.Native.Nat.{ℕ, _<_}
 use native.Mathlib.Omega.{arith}
 use lib.Dec.{eqb, ltb}
-use lib.ListN.{length, set, getD, length-set, length-take, drop-of-length-le}
-use lib.Seq.{getD-set-same, getD-set-other, set-out, set-comm, drop-at}
-use borrow.Author.Tests.{eqb-true, eqb-false, ltb-true, ltb-false}
+use lib.ListN.{length, set, getD, length-set}
+use lib.Seq.{getD-set-same, getD-set-other, set-out, set-comm}
+use borrow.Author.Tests.{eqb-true, eqb-false}
 use Rattle.frame.specs.Level.{levelOf, placeLost}
 use Rattle.frame.specs.Line.{line}
 use Rattle.frame.specs.Pick.{pick}
@@ -23,7 +23,7 @@ use Rattle.promises_order.specs.OldBoard.{OldHears as Hears}
 use Rattle.board.proofs.Places.{place-le, place-before, place-at, place-is}
 use Rattle.promises_frame.proofs.Cases.{by-lt}
 use Rattle.promises_board.proofs.After.{numberBy}
-use Rattle.promises_order.proofs.Order.{hear-length}
+use Rattle.promises_order.proofs.Order.{hear-length, beyond-after}
 use Rattle.promises_board.proofs.Free.{board-of}
 
 -- One row set, to a row of which every test holds as of the one before it.
@@ -178,23 +178,6 @@ rows-meet board m a k y n b l z ne =
     (X board n b l z m a k y en) (Y board n b l z m a k y en) (X board m a k y n b l z ne) (Y board m a k y n b l z ne)
     ∙ sym (second-rows board n b l z m a k y en)
 
--- The rows past the thirtieth stay.
-past : (rows after now : List Row) → length now ≡ length (boardOf rows) → after ≡ now ++ beyond rows → beyond after ≡ beyond rows
-past rows after now e is = ap beyond is ∙ go (ltb (length rows) 30) refl
-  where
-    few : length now ≡ min 30 (length rows)
-    few = e ∙ length-take 30 rows
-
-    go : (t : Bool) → ltb (length rows) 30 ≡ t → beyond (now ++ beyond rows) ≡ beyond rows
-    go true s =
-        let l : length rows < 30 = ltb-true (length rows) 30 s in
-        let m : length rows ≤ 30 = omega arith in
-        let w : length now ≤ 30 = omega (arith, few) in
-        ap (λ (zs : List Row). beyond (now ++ zs)) (drop-of-length-le rows m) ∙ ap beyond (append-nil now) ∙ drop-of-length-le now w ∙ sym (drop-of-length-le rows m)
-    go false s =
-        let l : 30 ≤ length rows = ltb-false (length rows) 30 s in
-        drop-at now (beyond rows) 30 (omega (arith, few))
-
 pub either-order : (rows one both other again : List Row) (m a k n b l : ℕ) (y z : List ℕ) (p q r s : Heard) → (a ≡ b → ⊥)
     → Hears rows m a k y p one → Hears one n b l z q both → Hears rows n b l z r other → Hears other m a k y s again
     → (p ≡ s) × (q ≡ r) × (both ≡ again)
@@ -209,6 +192,6 @@ either-order rows one both other again m a k n b l y z p q r s ne hp hq hr hs =
           ∙ ap (λ (i : ℕ). heardAs i (hearPlace (hearRows board m a k y) b l z)) (second-number board m a k y n b l z ne) ∙ ap (heardAs (hearNumber board b l z)) (second-named board m a k y n b l z ne) ∙ sym (hr .answers),
       hq .leaves ∙ ap (λ (zs : List Row). hearRows zs n b l z ++ beyond one) one-is ∙ ap (λ (zs : List Row). zs ++ beyond one) (rows-meet board m a k y n b l z ne)
           ∙ ap (λ (zs : List Row). hearRows zs m a k y ++ beyond one) (sym other-is)
-          ∙ ap (λ (zs : List Row). hearRows (boardOf other) m a k y ++ zs) (past rows one (hearRows board m a k y) (hear-length board m a k y) (hp .leaves) ∙ sym (past rows other (hearRows board n b l z) (hear-length board n b l z) (hr .leaves)))
+          ∙ ap (λ (zs : List Row). hearRows (boardOf other) m a k y ++ zs) (beyond-after rows one (hearRows board m a k y) (hear-length board m a k y) (hp .leaves) ∙ sym (beyond-after rows other (hearRows board n b l z) (hear-length board n b l z) (hr .leaves)))
           ∙ sym (hs .leaves),
     )

@@ -1,21 +1,21 @@
 -- One outcome: the record is two equations. First fault: the list of tests is asked in this order, and the pulse is out of range where one of four tests
 -- holds. Only its bytes: what is left of the output stands behind the samples put.
 use mathlib.Core.Path.{_≡_, refl, sym, ap, ap₂, _∙_}
-use mathlib.Core.Bool.{Bool, true, false, not, _&&_, _||_}
+use mathlib.Core.Bool.{Bool, true, false, not, _||_}
 use mathlib.Core.List.{List, _++_}
 use Prim.Native.Nat.{ℕ, _+_, _-_, _≤_}
 use native.Mathlib.Omega.{arith}
-use borrow.Author.Tests.{leb-true, leb-false, le-ltb, lt-ltb}
-use lib.Dec.{leb, ltb}
+use lib.Dec.{ltb}
 use lib.ListN.{length, getD, take, drop, length-append, length-take, length-drop}
 use lib.Seq.{getD-append-add, getD-drop}
-use Rattle.frame.specs.Pick.{pick, within}
+use Rattle.frame.specs.Pick.{pick}
 use Rattle.frame.specs.Line.{formed}
 use Rattle.frame.specs.Faults.{firstOf}
 use Rattle.drawing.specs.declared.Done.{Done}
 use Rattle.drawing.specs.Pulses.{badPulse, drawing}
 use Rattle.drawing.specs.Calls.{drawFault, portion}
 use Rattle.promises_frame.proofs.FirstFault.{asked, given}
+use Rattle.promises_frame.proofs.Outside.{outside}
 use Rattle.promises_drawing.specs.Outcome.{DrawOutcome, drawTable, drawOrder, DrawFirstFault, DrawOnlyItsBytes}
 use Rattle.promises_drawing.proofs.Answered.{Answer, refused, drew, answered, number-is}
 
@@ -28,21 +28,6 @@ draw-outcome =
       draw = λ low still count message from out.
           record { same = λ a b p q. pair a b (p .answers ∙ sym (q .answers)) (p .leaves ∙ sym (q .leaves)); some = _; allowed = record { answers = refl; leaves = refl } };
     }
-
--- Not within.
-not-least : (a b : ℕ) → not (leb a b) ≡ ltb b a
-not-least a b = go (leb a b) refl
-  where
-    go : (t : Bool) → leb a b ≡ t → not t ≡ ltb b a
-    go true e = sym (le-ltb b a (leb-true a b e))
-    go false e = sym (lt-ltb b a (leb-false a b e))
-
-either : (x y : Bool) → not (x && y) ≡ (not x || not y)
-either true y = refl
-either false y = refl
-
-outside : (low high n : ℕ) → not (within low high n) ≡ (ltb n low || ltb high n)
-outside low high n = either (leb low n) (leb n high) ∙ ap₂ (λ (x y : Bool). x || y) (not-least low n) (not-least n high)
 
 four : (a b c d : Bool) → ((a || b) || (c || d)) ≡ (a || b || c || d)
 four true b c d = refl

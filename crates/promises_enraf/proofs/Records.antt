@@ -1,11 +1,10 @@
 -- Whole records, both ways: an item that fits is read from its own record, and bytes that are accepted are the record of the item that they say. Bytes of
 -- ten or more are taken apart into the first eight, what follows the letters, and the last two; the rest is the laws of `Tails`.
 use mathlib.Core.Path.{_≡_, refl, sym, ap, _∙_}
-use mathlib.Core.Bool.{true, _&&_}
+use mathlib.Core.Bool.{true}
 use mathlib.Core.List.{List, [], _∷_, _++_, append-assoc}
 use Prim.Native.Nat.{ℕ, suc, _+_, _-_, _*_, _/_, _%_, _≤_, _<_}
 use native.Mathlib.Omega.{arith}
-use lib.Dec.{leb}
 use lib.ListN.{length, getD, take, drop, length-append, take-append-drop, drop-of-length-le}
 use lib.Seq.{drop-cons, drop-drop, take-at, getD-at}
 use borrow.Author.Tests.{eq-eqb, le-leb, eqb-true}
@@ -17,7 +16,7 @@ use Rattle.enraf.specs.Reading.{framed, checkRight, addressed, tailIn, itemIn, 
 use Rattle.enraf.proofs.ByTests.{read-fault-by, framed-by, addressed-by, accepted, frame-long, frame-signs, address-digits}
 use Rattle.enraf.proofs.SixKinds.{fits-kind}
 use Rattle.enraf.proofs.Written.{record-long}
-use Rattle.promises_enraf.proofs.Tails.{read-back, written-again, digit-bounds}
+use Rattle.promises_enraf.proofs.Tails.{read-back, written-again, digit-bounds, digit-is}
 
 -- An item's own record.
 module _ (i : Item) (low : i .ciu ≤ 9) (few : i .gauge ≤ 99) (fits : textFits i ≡ true) where
@@ -68,12 +67,6 @@ module _ (i : Item) (low : i .ciu ≤ 9) (few : i .gauge ≤ 99) (fits : textFit
       let inner : take (length s - 2) (drop 1 s) ≡ c = ap (λ (l : List ℕ). take (length s - 2) (drop 1 l)) as-checked ∙ take-at c (check ∷ []) (length s - 2) m in
       eq-eqb (getD s (length s - 1) 0) (blockCheck (take (length s - 2) (drop 1 s))) (last ∙ sym (ap blockCheck inner))
 
-  digit-ok : (n : ℕ) → n ≤ 9 → isDigit (digit n) ≡ true
-  digit-ok n h =
-      let a : leb 0x30 (digit n) ≡ true = le-leb 0x30 (digit n) (omega arith) in
-      let b : leb (digit n) 0x39 ≡ true = le-leb (digit n) 0x39 (omega arith) in
-      λ k. (a k && b k)
-
   pub says : itemIn (itemRecord i) ≡ i
   unfolding itemIn itemRecord checkedOf
   says =
@@ -100,7 +93,7 @@ module _ (i : Item) (low : i .ciu ≤ 9) (few : i .gauge ≤ 99) (fits : textFit
   has-digits : addressed (itemRecord i) ≡ true
   unfolding itemRecord checkedOf
   has-digits =
-      addressed-by (itemRecord i) true true true (digit-ok (i .ciu) low) (digit-ok (i .gauge / 10) (omega arith)) (digit-ok (i .gauge % 10) (omega arith))
+      addressed-by (itemRecord i) true true true (digit-is (i .ciu) low) (digit-is (i .gauge / 10) (omega arith)) (digit-is (i .gauge % 10) (omega arith))
 
   pub readable : readFault (itemRecord i) ≡ 0
   readable = read-fault-by (itemRecord i) true true true true in-frame check-is has-digits (ap textFits says ∙ fits)

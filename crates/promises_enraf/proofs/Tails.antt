@@ -69,7 +69,7 @@ last-behind b d h =
 not-none : (n : ℕ) → eqb (suc n) 0 ≡ false
 not-none n = ne-eqb (suc n) 0 (λ e. omega arith)
 
-digit-is : (n : ℕ) → n ≤ 9 → isDigit (digit n) ≡ true
+pub digit-is : (n : ℕ) → n ≤ 9 → isDigit (digit n) ≡ true
 digit-is n h =
     let low : leb 0x30 (digit n) ≡ true = le-leb 0x30 (digit n) (omega arith) in
     let high : leb (digit n) 0x39 ≡ true = le-leb (digit n) 0x39 (omega arith) in

@@ -1,5 +1,6 @@
 -- Ways to go by cases.
 pub mod Cases
+pub mod Outside
 -- Laws of lines: fields, bytes, three decimal digits, marks.
 pub mod Fields
 pub mod Bytes

@@ -46,7 +46,7 @@ module _ (rows after now : List Row) (long : length now ≡ length (boardOf rows
           ap (λ (zs : List Row). boardOf (now ++ zs)) (drop-of-length-le rows m) ∙ ap boardOf (append-nil now) ∙ take-all 30 now (omega (arith, few))
       go false s = let l : 30 ≤ length rows = ltb-false (length rows) 30 s in take-at now (beyond rows) 30 (omega (arith, few))
 
-  beyond-after : beyond after ≡ beyond rows
+  pub beyond-after : beyond after ≡ beyond rows
   beyond-after = ap beyond is ∙ go (ltb (length rows) 30) refl
     where
       go : (t : Bool) → ltb (length rows) 30 ≡ t → beyond (now ++ beyond rows) ≡ beyond rows

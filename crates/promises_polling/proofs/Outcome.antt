@@ -1,11 +1,11 @@
 -- One outcome: each record is one equation, that of drawing two. First fault: each range is two tests, and of a pace that passes them a hearing tells 0, 21 or 22.
 use mathlib.Core.Path.{_≡_, refl, sym, ap, ap₂, subst, _∙_}
-use mathlib.Core.Bool.{Bool, true, false, not, _&&_, _||_}
+use mathlib.Core.Bool.{Bool, true, false, not, _||_}
 use mathlib.Core.List.{List, [], _∷_, _++_}
 use Prim.Native.Nat.{ℕ}
 use native.Mathlib.Omega.{arith}
-use borrow.Author.Tests.{leb-true, leb-false, le-ltb, lt-ltb, eqb-true}
-use lib.Dec.{eqb, leb, ltb}
+use borrow.Author.Tests.{eqb-true}
+use lib.Dec.{eqb, ltb}
 use lib.ListN.{length, drop}
 use Rattle.frame.specs.Pick.{pick, within}
 use Rattle.frame.specs.Line.{mark}
@@ -35,6 +35,7 @@ use Rattle.polling.specs.Settling.{isAnswered, askedAgain, answeredWith, settle
 use Rattle.polling.specs.Calls.{begun, BeginsPolling, DrawsPolling, heardBy, HearsPolling}
 use Rattle.promises_polling.specs.Outcome.{PollingOutcome, beginTable, outOfPace, paceTable, PollingFirstFault}
 use Rattle.promises_frame.proofs.FirstFault.{asked, given}
+use Rattle.promises_frame.proofs.Outside.{outside}
 use Rattle.promises_lines.proofs.Legal.{Legal, rest}
 use Rattle.promises_lines.proofs.Ends.{meant-legal}
 use Rattle.promises_polling.proofs.Meaning.{Mode, over, drawing, drawn, listening, mode}
@@ -52,21 +53,6 @@ polling-outcome =
           record { same = λ a b x y. pair a b (x .answers ∙ sym (y .answers)) (x .leaves ∙ sym (y .leaves)); some = _; allowed = record { answers = refl; leaves = refl } };
       hear = λ w p minute samples. record { same = λ a b x y. x .answers ∙ sym (y .answers); some = _; allowed = record { answers = refl } };
     }
-
--- Not within.
-not-least : (a b : ℕ) → not (leb a b) ≡ ltb b a
-not-least a b = go (leb a b) refl
-  where
-    go : (t : Bool) → leb a b ≡ t → not t ≡ ltb b a
-    go true e = sym (le-ltb b a (leb-true a b e))
-    go false e = sym (lt-ltb b a (leb-false a b e))
-
-either : (x y : Bool) → not (x && y) ≡ (not x || not y)
-either true y = refl
-either false y = refl
-
-outside : (low high n : ℕ) → not (within low high n) ≡ (ltb n low || ltb high n)
-outside low high n = either (leb low n) (leb n high) ∙ ap₂ (λ (x y : Bool). x || y) (not-least low n) (not-least n high)
 
 -- The same tests in a row.
 regroup : (a b c d e : Bool) → (((a || b) || (c || d)) || e) ≡ (a || b || c || d || e)
