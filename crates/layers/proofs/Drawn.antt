@@ -11,7 +11,7 @@ use Rattle.frame.specs.Pick.{pick}
 use Rattle.sheet.specs.Record.{Entry}
 use Rattle.sheet.specs.Slots.{slotAt, slotOf, recordIn, listUpTo}
 use Rattle.summary.specs.Worked.{pairIn, ofPair}
-use Rattle.summary.proofs.Seen.{list-more}
+use Rattle.sheet.proofs.Seen.{list-more}
 use Rattle.summary.proofs.PairFigures.{pair-append}
 use Rattle.calendar.specs.declared.counting.Day.{Day}
 use Rattle.layers.specs.Drawing.{partText, lineGoesOn, layerText}

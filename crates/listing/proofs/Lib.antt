@@ -2,5 +2,4 @@
 pub mod Numbers
 pub mod Seen
 pub mod Answers
-pub mod Counted
 pub mod Slotwise

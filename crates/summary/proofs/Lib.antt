@@ -10,7 +10,6 @@ pub mod PairFigures
 pub mod KeptPairs
 pub mod OneRecordMore
 pub mod HandedIn
-pub mod Seen
 pub mod Saved
 pub mod GoodLevel
 pub mod Shaped

@@ -7,8 +7,7 @@ use Rattle.putting.proofs.Putting.{then, text-is, at-most, nothing-put}
 use borrow.Author.Tests.{ltb-true, ltb-false}
 use lib.ListN.{length}
 use Rattle.listing.proofs.Answers.{refused-12, refused-15, written}
-use Rattle.listing.proofs.Counted.{told-slots, told-refused}
-use Rattle.summary.proofs.Seen.{few-slots}
+use Rattle.sheet.proofs.Seen.{told-slots, told-refused, few-slots}
 use borrow.Author.Needs.{needs}
 use Rattle.picture.proofs.picture.Statement.{statement}
 use Rattle.picture.proofs.picture.Tie as tie

@@ -9,7 +9,7 @@ use Rattle.sheet.specs.Record.{Entry}
 use Rattle.sheet.specs.Slots.{slotAt, slotOf, recordIn}
 use Rattle.sheet.specs.Look.{recordTold}
 use Rattle.summary.specs.Worked.{ofPair}
-use Rattle.summary.proofs.Seen.{seen-bits, seen-record}
+use Rattle.sheet.proofs.Seen.{seen-bits, seen-record}
 use Rattle.layers.specs.declared.gauge.Gauged.{Gauged}
 use Rattle.layers.specs.Gauged.{gaugedWith}
 use Rattle.layers.proofs.Drawn.{of-none}

@@ -4,7 +4,7 @@ use Prim.Native.Nat.{ℕ, _-_, _<_, _≤_}
 use native.Mathlib.Omega.{arith}
 use lib.ListN.{length, length-set}
 use Rattle.sheet.specs.Slots.{slots}
-use Rattle.summary.proofs.Seen.{few-slots}
+use Rattle.sheet.proofs.Seen.{few-slots}
 use Rattle.layers.proofs.MoreNoted.{NotedTo, noted-none, noted-next, noted-all}
 use Rattle.layers.proofs.noting.note_slots.Statement.{statement}
 use Rattle.layers.proofs.noting.note_slots.Tie as tie

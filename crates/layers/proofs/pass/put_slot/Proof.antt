@@ -12,7 +12,7 @@ use Rattle.sheet.specs.Record.{Entry}
 use Rattle.sheet.specs.Slots.{slotAt, slotOf, recordIn}
 use Rattle.sheet.specs.Look.{recordTold}
 use Rattle.summary.specs.Worked.{ofPair}
-use Rattle.summary.proofs.Seen.{seen-bits, seen-record}
+use Rattle.sheet.proofs.Seen.{seen-bits, seen-record}
 use Rattle.layers.proofs.Drawn.{of-none, adds-same, adds-none}
 use Rattle.layers.proofs.pass.put_slot.Statement.{statement}
 use Rattle.layers.proofs.pass.put_slot.Tie as tie

@@ -25,7 +25,7 @@ use Rattle.summary.specs.Calls.{madeOf, afresh, MakesSummary}
 use Rattle.summary.proofs.KeptPairs.{once-pairs, once-take, rises-order, length-order}
 use Rattle.summary.proofs.OneRecordMore.{worked, count-worked}
 use Rattle.summary.proofs.Pages.{lines-page}
-use Rattle.summary.proofs.Seen.{few-slots}
+use Rattle.sheet.proofs.Seen.{few-slots}
 use Rattle.listing.specs.Text.{ascii}
 use Rattle.putting.proofs.Putting.{then, text-is, at-most}
 use Rattle.calendar.specs.declared.counting.Day.{Day}
