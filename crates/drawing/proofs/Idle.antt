@@ -34,7 +34,7 @@ beyond [] out at k h = refl
 beyond (v ∷ vs) out at k h = beyond vs (set out at v) (suc at) k (omega arith) ∙ getD-set-other out at k v 0 (λ e. omega arith)
 
 -- the first of two parts, and what it leaves of the second
-take-both : (n : ℕ) (xs ys : List ℕ) → take n (xs ++ ys) ≡ take n xs ++ take (n - length xs) ys
+pub take-both : (n : ℕ) (xs ys : List ℕ) → take n (xs ++ ys) ≡ take n xs ++ take (n - length xs) ys
 take-both zero [] ys = refl
 take-both zero (x ∷ xs) ys = let z : 0 - suc (length xs) ≡ 0 = omega arith in rw z
 take-both (suc n) [] ys = simp unary-clauses refl

@@ -44,13 +44,13 @@ drawing-long low still count message =
     drawn-long low still (bitsAfter 0 count message) ∙ ap (λ (n : ℕ). n * (low + still)) (bits-after-long 0 count message)
 
 -- a run passed in part
-drop-run : (p n x : ℕ) → _≡_ {A = List ℕ} (drop p (replicate n x)) (replicate (n - p) x)
+pub drop-run : (p n x : ℕ) → _≡_ {A = List ℕ} (drop p (replicate n x)) (replicate (n - p) x)
 drop-run zero zero x = refl
 drop-run zero (suc n) x = simp unary-clauses refl
 drop-run (suc p) zero x = let z : 0 - suc p ≡ 0 = omega arith in rw z
 drop-run (suc p) (suc n) x = simp unary-clauses (drop-run p n x)
 
-drop-both : (p : ℕ) (xs ys : List ℕ) → drop p (xs ++ ys) ≡ drop p xs ++ drop (p - length xs) ys
+pub drop-both : (p : ℕ) (xs ys : List ℕ) → drop p (xs ++ ys) ≡ drop p xs ++ drop (p - length xs) ys
 drop-both zero [] ys = refl
 drop-both zero (x ∷ xs) ys = let z : 0 - suc (length xs) ≡ 0 = omega arith in rw z
 drop-both (suc p) [] ys = simp unary-clauses refl

@@ -16,28 +16,11 @@ use Rattle.frame.specs.Poll.{pollLine, writePollFault}
 use Rattle.drawing.specs.declared.Done.{Done}
 use Rattle.drawing.specs.Pulses.{badPulse, drawing}
 use Rattle.drawing.specs.Calls.{drawFault, done, portion, Draws}
+use Rattle.drawing.proofs.Idle.{take-both}
+use Rattle.drawing.proofs.Rest.{drop-run, drop-both}
 use Rattle.polling.specs.declared.Pace.{Pace}
 use Rattle.polling.specs.Meant.{pollDrawn, tryDrawn}
 use Rattle.polling.specs.inside.Puts.{Puts}
-
--- the first of two parts, and what they leave of the second
-take-both : (n : ℕ) (xs ys : List ℕ) → take n (xs ++ ys) ≡ take n xs ++ take (n - length xs) ys
-take-both zero [] ys = refl
-take-both zero (x ∷ xs) ys = let z : 0 - suc (length xs) ≡ 0 = omega arith in rw z
-take-both (suc n) [] ys = simp unary-clauses refl
-take-both (suc n) (x ∷ xs) ys = simp unary-clauses (ap (λ (l : List ℕ). x ∷ l) (take-both n xs ys))
-
-drop-both : (n : ℕ) (xs ys : List ℕ) → drop n (xs ++ ys) ≡ drop n xs ++ drop (n - length xs) ys
-drop-both zero [] ys = refl
-drop-both zero (x ∷ xs) ys = let z : 0 - suc (length xs) ≡ 0 = omega arith in rw z
-drop-both (suc n) [] ys = simp unary-clauses refl
-drop-both (suc n) (x ∷ xs) ys = simp unary-clauses (drop-both n xs ys)
-
-drop-run : (n m x : ℕ) → _≡_ {A = List ℕ} (drop n (replicate m x)) (replicate (m - n) x)
-drop-run zero zero x = refl
-drop-run zero (suc m) x = simp unary-clauses refl
-drop-run (suc n) zero x = let z : 0 - suc n ≡ 0 = omega arith in rw z
-drop-run (suc n) (suc m) x = simp unary-clauses (drop-run n m x)
 
 pub take-run : (n m x k : ℕ) → k ≡ min m n → _≡_ {A = List ℕ} (take n (replicate m x)) (replicate k x)
 take-run zero m x k e = let z : k ≡ 0 = omega arith in rw z
