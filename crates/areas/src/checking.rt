@@ -4,7 +4,7 @@ ghost use Rattle.areas.specs.Site.{feet, tenths, total, is_area};
 ghost use Rattle.areas.specs.Check.{keeps};
 
 // What an area's limits are asked of: the feet and the tenths of an ohm of all its transmitters.
-#[derive(Drop)]
+#[derive(Clone, Copy)]
 struct Sums {
     feet: u32,
     tenths: u32,

@@ -1,5 +1,7 @@
 // Which transmitters share an area (document 02, request 14): a planner, and a checker that shares no code with it. Both calls are exported as
 // they stand.
+#![tactic(auto)]
+
 mod checking;
 mod planning;
 
@@ -8,7 +10,7 @@ ghost use Rattle.areas.specs.Plan.{PlansAreas};
 
 // A proposed plan: the number of transmitters of each area, 0 after the last; beside a refusal all else is 0.
 #[repr(C)]
-#[derive(Drop)]
+#[derive(Clone, Copy)]
 pub struct Plan {
     pub sizes: [u8; 8],
     pub areas: u8,

@@ -1,4 +1,6 @@
 // Runs the bench checks of document 01 that are not proved as one table, through the public calls, and prints what each call answered.
+#![tactic(auto)]
+
 mod lines;
 mod shown;
 mod slots;

@@ -1,12 +1,14 @@
 // The board of last good readings by value: a row and what becomes of it, the rows that count as an array of thirty, one search of it, and what each
 // call decides of what was found. The calls themselves, over rows that the host lends, stand in `lending`.
+#![tactic(auto)]
+
 mod gauge;
 pub mod rows;
 pub mod value;
 
 // A row as the host lends it: 24 bytes with no hole, integers alone, so that every bit pattern is a row. All zeros is a free row.
 #[repr(C)]
-#[derive(Drop)]
+#[derive(Clone, Copy)]
 pub struct Row {
     pub minute: u32,
     pub address: u16,
@@ -33,7 +35,7 @@ pub struct Row {
 
 // What hearing answers: the number, 0 for a good reply, and beside 7 the place of the first digit in no chart; beside any other, place 0.
 #[repr(C)]
-#[derive(Drop)]
+#[derive(Clone, Copy)]
 pub struct Heard {
     pub number: u8,
     pub place: u8,
@@ -42,7 +44,7 @@ pub struct Heard {
 // What looking answers: the refusal's number alone, or number 0 and what the row holds. It is laid out as a row is; its kind is at
 // most 4, its alarms are 0 or 1, and its gauge is the profile, 0 to 2, and 4 more with the mark.
 #[repr(C)]
-#[derive(Drop)]
+#[derive(Clone, Copy)]
 pub struct Looked {
     pub minute: u32,
     pub address: u16,

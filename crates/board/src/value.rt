@@ -10,7 +10,7 @@ use frame::{Reading, Reply, Written};
 // A row is carried over a run of `count` places: each takes the row that comes, the first `row`, and hands on the one that stood in it. The
 // places go on from `at`, where `up` is 1 and `down` 0, or back from the one before it, where `up` is 0 and `down` 1. And the number that the
 // call answers, with the place of the unreadable digit beside 7.
-#[derive(Drop)]
+#[derive(Clone, Copy)]
 pub struct Change {
     pub at: usize,
     pub count: usize,
@@ -23,7 +23,7 @@ pub struct Change {
 
 // What a pass over the rows has seen so far: how many are free, and how many of those in use have a smaller address than the one asked
 // for; the least address that may follow, which is above them all once a free row was passed; and whether the rows are so kept.
-#[derive(Drop)]
+#[derive(Clone, Copy)]
 pub(crate) struct Search {
     pub vacant: usize,
     pub below: usize,
@@ -34,7 +34,7 @@ pub(crate) struct Search {
 // What a search for an address finds: the number n of rows that count, and whether they are kept in order. Where they are: the place of
 // the address's row, or n where it has none, the row there, which means nothing where the place is n, the place of the first free row, and
 // the place where the address stands or is to stand.
-#[derive(Drop)]
+#[derive(Clone, Copy)]
 pub struct Found {
     pub at: usize,
     pub n: usize,

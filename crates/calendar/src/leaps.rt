@@ -5,7 +5,7 @@ ghost use Rattle.calendar.specs.Days.{year_days, first_of_month, days_after, day
 use crate::counting::{Day, days_in, february, from_first, next_month, year_after};
 
 // A month, and how many days are left to count from its first day.
-#[derive(Drop)]
+#[derive(Clone, Copy)]
 pub(crate) struct Rest {
     pub(crate) year: u32,
     pub(crate) month: u32,

@@ -1,4 +1,6 @@
 // The calendar: the day that comes so many days after another, and a day read from text.
+#![tactic(auto)]
+
 mod counting;
 mod leaps;
 mod reading;

@@ -8,7 +8,7 @@ use sheet::{Found, Head, look};
 
 // How many slots a sheet has, how many of them read as what, and the lowest and the highest minute of its records; where there is no record, the
 // lowest is 0xffffffff and the highest 0.
-#[derive(Drop)]
+#[derive(Clone, Copy)]
 pub struct Tally {
     pub slots: usize,
     pub records: usize,

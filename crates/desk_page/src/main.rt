@@ -2,6 +2,8 @@
 // page; with none it reads one card from standard input. First it says of each card what its slots hold, then it prints the table. A program has no
 // exit status here, so its last line tells it: "status 0" after a page, "status" and the number that refuses the join where the cards cannot be joined,
 // "status 1" where a card gives no page. Standard error has said why then, and what stands before that line is no page.
+#![tactic(auto)]
+
 mod about;
 mod columns;
 mod levels;

@@ -5,7 +5,7 @@ use summary::{Made, Summary};
 
 // A summary to print, and status 0. Where there is none to print, standard error has said why, and a blank one stands here: beside 1 a card gives
 // no page, beside 24 or 25 the cards cannot be joined.
-#[derive(Drop)]
+#[derive(Clone, Copy)]
 pub(crate) struct Page {
     pub(crate) summary: Summary,
     pub(crate) status: u8,

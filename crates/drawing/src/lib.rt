@@ -1,5 +1,7 @@
 // A message drawn on the two lines, sample by sample: the other half of hearing them. The call keeps no state: it is told from which sample on it draws,
 // so a host that keeps that one number draws in whatever batches its port takes. Its one public call is `sisal_draw`.
+#![tactic(auto)]
+
 mod pulses;
 
 ghost use Rattle.std.specs.Prelude.{◌≡◌};
@@ -9,7 +11,7 @@ ghost use Rattle.drawing.specs.Calls.{done, Draws};
 
 // What drawing answers: the samples drawn; beside a refusal 0.
 #[repr(C)]
-#[derive(Drop)]
+#[derive(Clone, Copy)]
 pub struct Done {
     pub count: usize,
     pub number: u8,

@@ -1,5 +1,7 @@
 // Item records of the 854 gauge on a CIU, read and written (document 02, request 13). Each call takes every input; a bad one is refused by its
 // number, and a refused write changes nothing. Both calls are exported as they stand.
+#![tactic(auto)]
+
 mod check;
 mod reading;
 mod text;
@@ -11,7 +13,7 @@ ghost use Rattle.enraf.specs.Writing.{WritesItem};
 
 // What reading a record answers: the data's characters from the first on and 0 after them; beside a refusal all else is 0.
 #[repr(C)]
-#[derive(Drop)]
+#[derive(Clone, Copy)]
 pub struct ItemTold {
     pub characters: [u8; 16],
     pub error: u16,
@@ -27,7 +29,7 @@ pub struct ItemTold {
 
 // What writing a record answers: the bytes written; beside a refusal 0.
 #[repr(C)]
-#[derive(Drop)]
+#[derive(Clone, Copy)]
 pub struct Done {
     pub count: usize,
     pub number: u8,

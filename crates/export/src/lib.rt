@@ -1,6 +1,8 @@
 // The recorder's calls for a host in C or Rust: each call of the crates below over integers and lent bytes alone. Every call takes
 // every input. An answer is the refusal's number, 0 for none, or a struct of integers with that number in it. The calls over the
 // board's rows are exported by `board` itself, those of the listing by `export_listing`.
+#![tactic(auto)]
+
 pub mod version;
 
 ghost use Rattle.export.specs.Calls.{SisalForm, SisalReadPoll, SisalWritePoll, SisalReadReply, SisalWriteReply, SisalSave, SisalSaveStores, SisalLook, SisalSlots};

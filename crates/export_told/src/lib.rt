@@ -1,4 +1,6 @@
 // What the calls below answer, told in integers.
+#![tactic(auto)]
+
 ghost use Rattle.std.specs.Prelude.{◌≡◌};
 ghost use Rattle.export_told.specs.Told.{poll_told, reading_told, refused_told, reply_told, written_told, saved_told, counted_told, bare_told, count_fits, slot_told};
 
@@ -8,7 +10,7 @@ use sheet::{Found, Looked, Saved};
 
 // What reading a poll answers: raise and reset are 0 or 1; beside a refusal all else is 0.
 #[repr(C)]
-#[derive(Drop)]
+#[derive(Clone, Copy)]
 pub struct PollTold {
     pub address: u16,
     pub raise: u8,
@@ -18,7 +20,7 @@ pub struct PollTold {
 
 // What reading a reply answers: alarms are 0 or 1; beside a refusal all else is 0, but for the place beside 7.
 #[repr(C)]
-#[derive(Drop)]
+#[derive(Clone, Copy)]
 pub struct ReplyTold {
     pub level: u16,
     pub tenths: i16,
@@ -33,7 +35,7 @@ pub struct ReplyTold {
 
 // What writing, saving and counting answer: the bytes written, the stores made or the slots there are; beside a refusal 0.
 #[repr(C)]
-#[derive(Drop)]
+#[derive(Clone, Copy)]
 pub struct Done {
     pub count: usize,
     pub number: u8,
@@ -41,7 +43,7 @@ pub struct Done {
 
 // What looking at a slot answers: of a record what it says, its reply bytes from the first on; all else is 0.
 #[repr(C)]
-#[derive(Drop)]
+#[derive(Clone, Copy)]
 pub struct SlotTold {
     pub reply: [u8; 8],
     pub minute: u32,

@@ -14,7 +14,7 @@ const LIMIT_1900: u64 = 7999;
 const LIMIT_1800: u64 = 1999;
 
 // What the temperature bits read as.
-#[derive(Drop)]
+#[derive(Clone, Copy)]
 pub(crate) enum Told {
     Is(Temperature),
     Bad,

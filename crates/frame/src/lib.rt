@@ -1,5 +1,7 @@
 // The frame: polls and replies of the Mark/Space line, read and written. Each call takes every input; a bad one is refused by its
 // number in document 01, and a refused write changes nothing.
+#![tactic(auto)]
+
 mod charts;
 mod heat;
 pub mod kinds;
@@ -21,7 +23,7 @@ pub use heat::{is_plus, magnitude};
 pub use line::{bytes_of, formed};
 
 // A temperature in tenths of a degree, above or below its range, or absent from the reply.
-#[derive(Drop)]
+#[derive(Clone, Copy)]
 pub enum Temperature {
     Degrees(i16),
     Above,
@@ -30,7 +32,7 @@ pub enum Temperature {
 }
 
 // What an accepted reply tells. The level is in the unit of its mode.
-#[derive(Drop)]
+#[derive(Clone, Copy)]
 pub struct Reading {
     pub level: u16,
     pub temperature: Temperature,
@@ -40,14 +42,14 @@ pub struct Reading {
 
 // What reading a reply answers: the reading; a refusal by its number; or fault 7, which alone names a place, that of the first digit
 // that is in no chart, counted from 0 at the top.
-#[derive(Drop)]
+#[derive(Clone, Copy)]
 pub enum Reply {
     Read(Reading),
     Refused(u8),
     Unreadable(u8),
 }
 
-#[derive(Drop)]
+#[derive(Clone, Copy)]
 pub struct Poll {
     pub address: u16,
     pub raise: bool,
@@ -55,14 +57,14 @@ pub struct Poll {
 }
 
 // What reading a poll answers.
-#[derive(Drop)]
+#[derive(Clone, Copy)]
 pub enum PollAnswer {
     Asked(Poll),
     Refused(u8),
 }
 
 // What writing answers: the bytes written, or the refusal.
-#[derive(Drop)]
+#[derive(Clone, Copy)]
 pub enum Written {
     Bytes(usize),
     Refused(u8),

@@ -9,7 +9,7 @@ use crate::{level, level_writing, pairs};
 // How many digits a mode has, the bit that they begin at (those from bit 16 up to it are fill), the fill bits after them (up to bit 37), its
 // largest level, the charts of its digits in a word (four bits a digit, the top digit lowest), and the starting state: whether a digit above
 // the first is odd. None stands there, and the first is always read straight.
-#[derive(Drop)]
+#[derive(Clone, Copy)]
 pub(crate) struct Constants {
     pub(crate) digits: u64,
     pub(crate) first: u64,
@@ -20,7 +20,7 @@ pub(crate) struct Constants {
 }
 
 // Feet, inches and sixteenths.
-#[derive(Drop)]
+#[derive(Clone, Copy)]
 struct Fractional;
 
 impl Fractional {
@@ -58,7 +58,7 @@ impl Fractional {
 }
 
 // Feet and hundredths.
-#[derive(Drop)]
+#[derive(Clone, Copy)]
 struct Decimal;
 
 impl Decimal {
@@ -94,7 +94,7 @@ impl Decimal {
 }
 
 // 20 m, in millimetres.
-#[derive(Drop)]
+#[derive(Clone, Copy)]
 struct Metres20;
 
 impl Metres20 {
@@ -123,7 +123,7 @@ impl Metres20 {
 }
 
 // 30 m, in millimetres.
-#[derive(Drop)]
+#[derive(Clone, Copy)]
 struct Metres30;
 
 impl Metres30 {

@@ -4,7 +4,7 @@ ghost use Rattle.std.specs.Prelude.{◌≡◌, ◌<◌};
 ghost use Rattle.frame.specs.Inside.PairWords.{entries_of};
 
 // The entries of one first code and eight second codes, a byte each, the lowest code lowest.
-#[derive(Drop)]
+#[derive(Clone, Copy)]
 pub(crate) struct Entries {
     pub(crate) straight: u64,
     pub(crate) turned: u64,

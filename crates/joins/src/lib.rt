@@ -1,5 +1,7 @@
 // Two desk summaries put together (document 02, request 08). What a join is stands with the summary's definitions; here is the call alone, exported under
 // the summary's prefix.
+#![tactic(auto)]
+
 mod joining;
 
 ghost use Rattle.std.specs.Prelude.{◌≡◌};

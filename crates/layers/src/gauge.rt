@@ -17,7 +17,7 @@ use sheet::{Found, Head, look};
 
 // The last level and its minute; temperatures as they are drawn; and a count for each kind of reply: 0 good, 1 to 9 the fault's number, 11 to 15 the place
 // of an unreadable digit, 16 and 17 temperatures above and below the scale, 18 others.
-#[derive(Drop)]
+#[derive(Clone, Copy)]
 pub struct Gauged {
     pub last: u16,
     pub when: u32,

@@ -1,5 +1,7 @@
 // The layers of a pair's picture, put into an output from a place on: points, marks and words, one part for each record. It is for the crate that writes
 // the page, which asks for room itself.
+#![tactic(auto)]
+
 pub mod gauge;
 pub mod noting;
 mod parts;

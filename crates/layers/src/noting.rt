@@ -7,7 +7,7 @@ ghost use Rattle.summary.specs.Worked.{pair_in};
 ghost use Rattle.layers.specs.Inside.Noted.{Noted};
 
 // Some slots of a sheet, the first `count` here.
-#[derive(Drop)]
+#[derive(Clone, Copy)]
 pub struct Notes {
     pub slots: [u16; 2048],
     pub count: usize,

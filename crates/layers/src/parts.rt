@@ -12,14 +12,14 @@ use frame::{Reading, Reply, Temperature, is_plus, magnitude};
 use putting::put_word;
 
 // What a record has on a line, or nothing.
-#[derive(Drop)]
+#[derive(Clone, Copy)]
 pub(crate) struct Value {
     pub(crate) there: bool,
     pub(crate) y: u16,
 }
 
 // A part that was put: the place after it, and whether a line goes on from it.
-#[derive(Drop)]
+#[derive(Clone, Copy)]
 pub(crate) struct Part {
     pub(crate) end: usize,
     pub(crate) joined: bool,

@@ -2,6 +2,8 @@
 // stand in strictly rising address order, and free ones behind them. The first 30 rows count,
 // or all where they are fewer; rows past the thirtieth are never read or written, and no answer names a row's place. The calls are
 // exported, so their names bear a prefix: C has a `remove` of its own.
+#![tactic(auto)]
+
 pub mod lent;
 
 ghost use Rattle.board.specs.Calls.{Enrols, Hears, Removes, LooksUp, PollsRow};

@@ -1,5 +1,7 @@
 // The two lines of a transmitter heard sample by sample. A host samples the mark line and the space line, hands over the samples in whatever batches
 // it has, and is handed back each message as bits, or its spoiling as a number. Its one public call is `sisal_hear_lines`.
+#![tactic(auto)]
+
 mod runs;
 pub mod state;
 mod step;
@@ -13,7 +15,7 @@ ghost use Rattle.lines.specs.Inside.Safe.{Safe};
 
 // What was heard so far, between two calls. All zeros is the beginning.
 #[repr(C)]
-#[derive(Drop)]
+#[derive(Clone, Copy)]
 pub struct SoFar {
     // The bits of the message so far, bit 1 highest, 0 after the count.
     pub bits: u64,
@@ -29,7 +31,7 @@ pub struct SoFar {
 
 // What a call tells: a message has 1 to 64 bits, bit 1 the highest of the first byte; else the count is 0 and the bytes are 0.
 #[repr(C)]
-#[derive(Drop)]
+#[derive(Clone, Copy)]
 pub struct LinesTold {
     pub so_far: SoFar,
     pub taken: usize,

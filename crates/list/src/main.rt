@@ -1,5 +1,7 @@
 // The program "list": a sheet on standard input, its listing on standard output. The library makes all that is printed there. Standard error has a word
 // where the input is no card to go by, and nothing otherwise.
+#![tactic(auto)]
+
 use frame::Written;
 use libc::{STDIN_FILENO, STDOUT_FILENO};
 

@@ -1,4 +1,6 @@
 // A sheet as text, line by line, into an output that the caller lends.
+#![tactic(auto)]
+
 mod lines;
 pub mod text;
 mod whole;

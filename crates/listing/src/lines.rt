@@ -15,7 +15,7 @@ use putting::{put_byte, put_word};
 use sheet::{Found, Head, look};
 
 // A line that was put: the place after it, and how many records it shows.
-#[derive(Drop)]
+#[derive(Clone, Copy)]
 pub(crate) struct Line {
     pub(crate) end: usize,
     pub(crate) records: usize,

@@ -1,5 +1,7 @@
 // Makes a month's card: 30 transmitters of a depot polled twice a day for 31 days, their replies saved by the real `save` on a blank sheet, with
 // silent and damaged replies and power cuts among them. The card goes to standard output.
+#![tactic(auto)]
+
 mod replies;
 mod tanks;
 

@@ -11,7 +11,7 @@ use putting::put_word;
 
 // The day of minute 0; its first minute and its width in minutes; how many days it has, how many of them lie from tick to tick, the days of the ticks, and how many of the five
 // are shown.
-#[derive(Drop)]
+#[derive(Clone, Copy)]
 pub(crate) struct Axis {
     pub(crate) begin: Day,
     pub(crate) from: u32,

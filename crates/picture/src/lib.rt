@@ -1,4 +1,6 @@
 // The page of a card, to look at: one file of HTML with its pictures in it, into an output that the caller lends.
+#![tactic(auto)]
+
 mod axis;
 mod figures;
 mod section;

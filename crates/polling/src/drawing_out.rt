@@ -13,7 +13,7 @@ use frame::Written;
 use lines::SoFar;
 
 // What becomes of a turn that was drawn, and what the call tells of it.
-#[derive(Drop)]
+#[derive(Clone, Copy)]
 pub(crate) struct Driven {
     pub lines: SoFar,
     pub passed: u32,

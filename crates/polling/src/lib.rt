@@ -1,6 +1,8 @@
 // The recorder runs its round: it begins from the board, says what is to be driven on the lines, is told what was sensed after it, and has the round of
 // replies in the end. The state is lent, and most of it is replies that a call neither reads nor writes: each call takes out the one turn, works on that by
 // value, where the checker covers all, and puts it back. The calls are exported, so their names bear a prefix.
+#![tactic(auto)]
+
 mod beginning;
 mod drawing_out;
 mod listening;
@@ -19,7 +21,7 @@ use round::Round;
 
 // A round on its way: 752 bytes with no hole, integers alone, and every pattern of them means something. All zeros is a round that is over.
 #[repr(C)]
-#[derive(Drop)]
+#[derive(Clone, Copy)]
 pub struct Polling {
     // The replies; those below `at` are answered.
     pub round: Round,
@@ -37,7 +39,7 @@ pub struct Polling {
 
 // The timing numbers of a round, in samples, all wide, so that a wrong value arrives.
 #[repr(C)]
-#[derive(Drop)]
+#[derive(Clone, Copy)]
 pub struct Pace {
     pub low: u32,
     pub still: u32,
@@ -55,7 +57,7 @@ pub struct Pace {
 }
 
 #[repr(C)]
-#[derive(Drop)]
+#[derive(Clone, Copy)]
 pub struct Begun {
     pub polling: Polling,
     pub number: u8,
@@ -63,7 +65,7 @@ pub struct Begun {
 
 // What drawing answers: the samples drawn, and 1 where the round is over.
 #[repr(C)]
-#[derive(Drop)]
+#[derive(Clone, Copy)]
 pub struct Drew {
     pub count: usize,
     pub over: u8,
@@ -72,7 +74,7 @@ pub struct Drew {
 
 // What hearing answers: the samples taken. Where they settled a try: which reply it was, whether it now stands, and by what number; and 1 where the round is over.
 #[repr(C)]
-#[derive(Drop)]
+#[derive(Clone, Copy)]
 pub struct Settled {
     pub taken: usize,
     pub reply: u16,

@@ -10,7 +10,7 @@ use lines::{LinesTold, SoFar};
 
 // How a try stands: how many samples were taken, and what is left of the lines where it goes on; where it is settled, whether by a message, its bits, and
 // its number.
-#[derive(Drop)]
+#[derive(Clone, Copy)]
 pub(crate) struct Ear {
     pub so_far: SoFar,
     pub taken: usize,

@@ -12,7 +12,7 @@ use crate::{Pace, Settled, listening, ranges, turns};
 use round::Polled;
 
 // What becomes of a turn that was heard, and what the call tells of it.
-#[derive(Drop)]
+#[derive(Clone, Copy)]
 pub(crate) struct Outcome {
     pub turn: Turn,
     pub told: Settled,

@@ -10,7 +10,7 @@ use crate::Pace;
 use lines::SoFar;
 use round::Polled;
 
-#[derive(Drop)]
+#[derive(Clone, Copy)]
 pub(crate) struct Turn {
     // The reply whose turn it is.
     pub entry: Polled,

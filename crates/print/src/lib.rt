@@ -1,4 +1,6 @@
 // What the programs print with, on standard output: words, numbers, and bytes as numbers or in hexadecimal; and the part of an array that is printed.
+#![tactic(auto)]
+
 use libc::STDOUT_FILENO;
 
 pub fn words(text: &[u8]) {

@@ -1,1 +1,2 @@
 // What is drawn of a card: promises alone, no code.
+#![tactic(auto)]

@@ -1,5 +1,7 @@
 // Bytes put into an output from a place on, one after another. Each call answers the place after what it put. The calls are for other crates, which see to
 // the room themselves; none is handed to a host.
+#![tactic(auto)]
+
 ghost use Rattle.std.specs.Prelude.{[], ◌∷◌, ◌+◌, ◌≤◌, ◌<◌, length};
 ghost use Rattle.putting.specs.Puts.{Puts};
 

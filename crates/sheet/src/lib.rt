@@ -1,5 +1,7 @@
 // The month sheet: records of polls kept in slots of 32 bytes, on a sheet that the caller lends. Its public calls are `save` and
 // `look`.
+#![tactic(auto)]
+
 mod bytes;
 pub mod into;
 mod next;
@@ -22,7 +24,7 @@ pub use stores::before_reply;
 pub use view::look;
 
 // What a record says beside its reply bytes.
-#[derive(Drop)]
+#[derive(Clone, Copy)]
 pub struct Head {
     pub settings: u8,
     pub minute: u32,
@@ -31,7 +33,7 @@ pub struct Head {
 }
 
 // What a slot reads as, or the number of the refusal.
-#[derive(Drop)]
+#[derive(Clone, Copy)]
 pub enum Found {
     Blank,
     Spoiled,
@@ -41,14 +43,14 @@ pub enum Found {
 }
 
 // The answer of a look: a record's reply bytes stand beside it, from the first on, and 0 after them.
-#[derive(Drop)]
+#[derive(Clone, Copy)]
 pub struct Looked {
     pub found: Found,
     pub reply: [u8; 8],
 }
 
 // The answer of a save: the stores made, or the number of the refusal.
-#[derive(Drop)]
+#[derive(Clone, Copy)]
 pub enum Saved {
     Stores(usize),
     Refused(u8),

@@ -8,21 +8,21 @@ ghost use Rattle.sheet.specs.Inside.Span.{span_of};
 use crate::slot::read_slot;
 use crate::{Looked, size_allowed};
 
-#[derive(Drop)]
+#[derive(Clone, Copy)]
 pub struct Sheet<'a> {
     pub bytes: &'a [u8],
     pub slots: usize,
 }
 
 // How many slots a sheet has, or the number of the refusal.
-#[derive(Drop)]
+#[derive(Clone, Copy)]
 pub enum Counted {
     Slots(usize),
     Refused(u8),
 }
 
 // The bytes from one place of a sheet to another.
-#[derive(Drop)]
+#[derive(Clone, Copy)]
 struct Span {
     from: usize,
     to: usize,

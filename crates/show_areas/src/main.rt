@@ -1,5 +1,7 @@
 // Areas as a fitter would see them: a site, the plan that is proposed for it, and what the checker says of that plan and of plans drawn by hand.
 // `stdout` holds what each call has to answer.
+#![tactic(auto)]
+
 mod plans;
 mod sites;
 

@@ -2,6 +2,8 @@
 // then times stand as dates, else as minutes. A line for each record goes to standard output, with commas between its fields. A program has no exit
 // status here, so its last line tells it: "status 0" after the records, "status 1" where the input is no card, "status 2" where the argument is no
 // day. Standard error has said why then.
+#![tactic(auto)]
+
 mod dates;
 mod rows;
 

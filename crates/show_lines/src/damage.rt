@@ -2,7 +2,7 @@
 use crate::{draw, words};
 use lines::SoFar;
 
-#[derive(Drop)]
+#[derive(Clone, Copy)]
 struct Heard {
     so_far: SoFar,
     from: usize,

@@ -1,5 +1,7 @@
 // Two noisy lines: each kind of damage as a picture of its samples, with what is said of it; a poll drawn and heard again; and then the checks of the
 // lines' rules, each with what was told, the samples taken and the state after.
+#![tactic(auto)]
+
 mod checks;
 mod damage;
 mod draw;

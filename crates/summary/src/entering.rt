@@ -13,7 +13,7 @@ use crate::{Line, Summary};
 
 // What is held of a summary beside its lines' words: how many lines are used, how many records are on none of them, and the number that refuses the summary, 0
 // where none does.
-#[derive(Drop)]
+#[derive(Clone, Copy)]
 pub struct Held {
     pub count: u32,
     pub others: u32,

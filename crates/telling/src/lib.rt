@@ -1,5 +1,7 @@
 // A save told as its stores: what `save` would do, and nothing is changed. For a host that makes the stores itself, on a card that cannot be lent. What is
 // told stands with the sheet's definitions.
+#![tactic(auto)]
+
 ghost use Rattle.std.specs.Prelude.{◌≡◌, ◌+◌, ◌≤◌, ◌<◌, length};
 ghost use Rattle.std.proofs.Math.Seq.{paste};
 ghost use Rattle.sheet.specs.Record.{entry_of};
