@@ -1,0 +1,19 @@
+-- `board::gauge::outside` meets its contract, case by case of the temperature. The degrees fit an i16, as every value of the type does.
+use mir.Syntax.{w16}
+use mir.Facts.{to_z-of_z}
+use borrow.Author.Rules.{rules}
+use Rattle.board.proofs.gauge.outside.Goals as goal
+
+pub returns-in-Degrees : goal.returns-in-Degrees
+returns-in-Degrees c =
+    let t = c.t-1 in
+    simp (t.given.1, c.beyond_profile.ensures, to_z-of_z {w = w16} {z = t.given.0.0} (record { sfits = c.in-Degrees.known_told-1-own.given.0.1 }))
+
+pub returns-in-Above : goal.returns-in-Above
+returns-in-Above c = simp c.in-Above.is
+
+pub returns-in-Below : goal.returns-in-Below
+returns-in-Below c = simp c.in-Below.is
+
+pub returns-in-Absent : goal.returns-in-Absent
+returns-in-Absent c = simp c.in-Absent.is

@@ -1,0 +1,16 @@
+-- `board::rows::tell` meets its contract: a row with no reading, and one whose reading is told by the temperature that its kind and tenths stand for.
+use mathlib.Core.Path.{sym}
+use Rattle.board.proofs.Told.{told_none, told-some}
+use mir.Syntax.{w16}
+use mir.Facts.{to_z-of_z}
+use borrow.Author.Rules.{rules}
+use Rattle.board.proofs.rows.tell.Goals as goal
+
+pub returns-then-row-eq0 : goal.returns-then-row-eq0
+returns-then-row-eq0 c =
+    simp (c.refused_look-answer.ensures, c.told.ensures, c.place_told.ensures, c.heard_told.ensures) (sym (told_none c.args.row c.if-row-eq0.true))
+
+pub returns : goal.returns
+returns c =
+    let row = c.args.row in
+    simp (c.refused_look-answer.ensures, c.told.ensures, c.place_told.ensures, c.heard_told.ensures, c.temperature_by-t.ensures, to_z-of_z {w = w16} {z = row.tenths} (record { sfits = c.struct_told-1.given.1.1.1.0.1 }), c.tenths_of.ensures, c.kind_of.ensures, c.marked.ensures, c.marked-2.ensures) (sym (told-some row c.if-row-eq0.false))

@@ -1,0 +1,6 @@
+-- `board::value::unkept` meets its contract: the row is the free one.
+use borrow.Author.Rules.{rules}
+use Rattle.board.proofs.value.unkept.Goals as goal
+
+pub returns : goal.returns
+returns c = simp c.free_row-row.ensures

@@ -1,0 +1,17 @@
+-- `calendar::counting::february` meets its contract, by its tests. Assumes nothing.
+use native.Mathlib.Omega.{arith}
+use borrow.Author.Rules.{rules}
+use borrow.Author.Tests.{eq-eqb, ne_eqb}
+use Rattle.calendar.proofs.counting.february.Goals as goal
+
+pub returns-then-year-ne0 : goal.returns-then-year-ne0
+returns-then-year-ne0 c = simp (ne_eqb _ _ c.if-year-ne0.true)
+
+pub returns-then-year-ne0-2 : goal.returns-then-year-ne0-2
+returns-then-year-ne0-2 c = simp (eq-eqb _ _ c.if-year-ne0.false, ne_eqb _ _ c.if-year-ne0-2.true)
+
+pub returns-then-year-eq0 : goal.returns-then-year-eq0
+returns-then-year-eq0 c = simp (eq-eqb _ _ c.if-year-ne0.false, eq-eqb _ _ c.if-year-ne0-2.false, eq-eqb _ _ c.if-year-eq0.true)
+
+pub returns-else-year-eq0 : goal.returns-else-year-eq0
+returns-else-year-eq0 c = simp (eq-eqb _ _ c.if-year-ne0.false, eq-eqb _ _ c.if-year-ne0-2.false, ne_eqb _ _ c.if-year-eq0.false)

@@ -1,0 +1,18 @@
+-- `cards::counting::count` meets its contract: after k turns the first k slots are counted, and each of them once at most. Assumes nothing.
+use mathlib.Core.Path.{◌≡◌, sym, ap, ◌∙◌}
+use mathlib.Core.List.{List}
+use Prim.Native.Nat.{ℕ, ◌+◌, ◌-◌, ◌<◌, ◌≤◌, ◌^◌}
+use native.Mathlib.Numerals.{add-one}
+use native.Mathlib.Omega.{arith}
+use Rattle.sheet.specs.Slots.{slots}
+use Rattle.sheet.specs.Look.{look_of}
+use Rattle.cards.specs.declared.counting.Tally.{Tally}
+use Rattle.cards.specs.Tally.{with_slot, tally_up_to}
+use Rattle.cards.proofs.FewCounted.{few-counted}
+use Rattle.cards.proofs.counting.count.Given as goal
+
+abbrev pub invariant-loop-k : goal.invariant-loop-k
+invariant-loop-k l = (l.k ≤ l.slots) × (l.t ≡ tally_up_to l.sheet l.k)
+
+abbrev pub decreases-loop-k : goal.decreases-loop-k
+decreases-loop-k l = l.slots - l.k

@@ -1,0 +1,27 @@
+-- `drawing::pulses::draw` meets its contract: at each turn, the rest of the drawing put from the place reached makes it whole, and up to its end the
+-- output is idle from there on. Assumes nothing.
+use mathlib.Core.Path.{◌≡◌, refl, sym, ap, ap₂, ◌∙◌}
+use mathlib.Core.List.{List}
+use Prim.Native.Nat.{ℕ, ◌+◌, ◌-◌, ◌*◌, ◌≤◌, ◌<◌, min}
+use native.Mathlib.Nat.{mod-lt, mul-le-mul, le_of_lt, le_of_eq, le_trans}
+use native.Mathlib.Omega.{arith}
+use borrow.Author.Rules.{rules}
+use lib.ListN.{length, get_or, take, drop, replicate, length-drop}
+use lib.Seq.{sets, length-sets}
+use Rattle.drawing.specs.Pulses.{drawing}
+use Rattle.drawing.proofs.Idle.{Idle, idle-first, filled, turn, still-idle}
+use Rattle.drawing.proofs.Rest.{rest_of, from-sample, samples-left, samples-of-bit, some-bit, drawing-long}
+use Rattle.drawing.proofs.pulses.draw.Given as goal
+
+abbrev pub invariant-loop-i : goal.invariant-loop-i
+invariant-loop-i l =
+    (length l.out ≡ length l.initial.out)
+    × (sets l.out l.i (take (l.end - l.i) (rest_of l.low l.still l.message l.bit (l.count - l.bit) l.passed)) ≡ sets l.initial.out 0 (take l.end (drop l.from (drawing l.low l.still l.count l.message))))
+    × Idle l.out l.i l.end
+    × (l.end ≤ l.i + length (rest_of l.low l.still l.message l.bit (l.count - l.bit) l.passed))
+    × (l.passed < l.low + l.still)
+    × (l.end ≤ length l.out)
+    × (l.end ≤ 704000)
+
+abbrev pub decreases-loop-i : goal.decreases-loop-i
+decreases-loop-i l = l.end - l.i

@@ -1,0 +1,15 @@
+-- `forms::form::bar_from` meets its contract: no bar stands before the place. Assumes nothing.
+use mathlib.Core.Path.{◌≡◌, refl, sym, ap, ◌∙◌}
+use Prim.Native.Nat.{ℕ, ◌+◌, ◌-◌, ◌≤◌}
+use native.Mathlib.Omega.{arith}
+use borrow.Author.Tests.{eq-eqb, ne_eqb}
+use lib.ListN.{length, drop}
+use Rattle.forms.specs.Form.{first}
+use Rattle.forms.proofs.Forms.{first-here, first-later, first-end}
+use Rattle.forms.proofs.form.bar_from.Given as goal
+
+abbrev pub invariant-loop-i : goal.invariant-loop-i
+invariant-loop-i l = (l.i ≤ length l.forms) × (l.from + length (first (drop l.from l.forms)) ≡ l.i + length (first (drop l.i l.forms)))
+
+abbrev pub decreases-loop-i : goal.decreases-loop-i
+decreases-loop-i l = length l.forms - l.i

@@ -1,0 +1,31 @@
+-- `frame::charts::places` meets its contract: each word is what the definition computes from its chart. Assumes nothing.
+use Rattle.frame.specs.Charts.{one_bit, two_bits, feet_tens, decimal, inches, sixteenths, place_in}
+use Rattle.frame.specs.Inside.Packed.{chart_of, places_of}
+use Rattle.frame.proofs.Tables.{else-sixteenths}
+use Rattle.frame.proofs.charts.places.Goals as goal
+
+pub returns-in-0 : goal.returns-in-0
+unfolding chart_of one_bit places_of place_in
+returns-in-0 c = rw c.in-0.is
+
+pub returns-in-1 : goal.returns-in-1
+unfolding chart_of two_bits places_of place_in
+returns-in-1 c = rw c.in-1.is
+
+pub returns-in-2 : goal.returns-in-2
+unfolding chart_of feet_tens places_of place_in
+returns-in-2 c = rw c.in-2.is
+
+pub returns-in-3 : goal.returns-in-3
+unfolding chart_of decimal places_of place_in
+returns-in-3 c = rw c.in-3.is
+
+pub returns-in-4 : goal.returns-in-4
+unfolding chart_of inches places_of place_in
+returns-in-4 c = rw c.in-4.is
+
+pub returns-in_default : goal.returns-in_default
+unfolding sixteenths places_of place_in
+returns-in_default c =
+    let r = c.in_default.in_default-own.rest in
+    rw (else-sixteenths _ r.0.0.0.0.1 r.0.0.0.1 r.0.0.1 r.0.1 r.1)

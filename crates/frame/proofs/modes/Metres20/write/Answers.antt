@@ -1,0 +1,12 @@
+-- `frame::modes::Metres20::write` meets its contract: the codes are those of its constants. Assumes nothing.
+use mathlib.Core.Path.{ap, ◌∙◌}
+use Prim.Native.Nat.{ℕ}
+use Rattle.frame.specs.Inside.Constants.{metres20, placed_at}
+use borrow.Author.Rules.{rules}
+use Rattle.frame.proofs.modes.Metres20.write.Goals as goal
+
+pub returns : goal.returns
+returns c =
+    let v = c.args.v in
+    c.write_by.ensures
+    ∙ ap (λ (codes : ℕ). placed_at v codes metres20.first metres20.after metres20.largest) c.five_digits-codes.ensures.0

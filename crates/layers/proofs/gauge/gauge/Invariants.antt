@@ -1,0 +1,19 @@
+-- `layers::gauge::gauge` meets its contract: after i turns it is what the pair's records in the first i noted slots come to. Assumes nothing.
+use mathlib.Core.Path.{◌≡◌, refl, sym, ap, ◌∙◌}
+use mathlib.Core.List.{List, []}
+use Prim.Native.Nat.{ℕ, ◌+◌, ◌-◌, ◌≤◌}
+use native.Mathlib.Omega.{arith}
+use lib.ListN.{length, get_or}
+use Rattle.sheet.specs.Slots.{slots}
+use Rattle.layers.specs.declared.gauge.Gauged.{Gauged}
+use Rattle.layers.specs.Gauged.{gauged_with, not_gauged, gauged_of}
+use Rattle.layers.specs.Inside.Noted.{own_in, own_up_to}
+use Rattle.layers.proofs.MoreNoted.{own-none, own-more}
+use Rattle.layers.proofs.MoreGauged.{gauged-none, gauged-append}
+use Rattle.layers.proofs.gauge.gauge.Given as goal
+
+abbrev pub invariant-loop-i : goal.invariant-loop-i
+invariant-loop-i l = (l.i ≤ length l.own) × (l.g ≡ gauged_of (own_up_to l.sheet l.pair l.own l.i))
+
+abbrev pub decreases-loop-i : goal.decreases-loop-i
+decreases-loop-i l = length l.own - l.i

@@ -1,0 +1,19 @@
+-- `layers::gauge::with_record` meets its contract: what the reply reads as is added. Assumes nothing.
+use mathlib.Core.Path.{◌≡◌, sym, ap, ◌∙◌}
+use native.Mathlib.Omega.{arith}
+use lib.ListN.{length}
+use lib.Seq.{length-take-le}
+use Rattle.frame.specs.declared.Reply.{Reply}
+use Rattle.layers.specs.Gauged.{with_reply}
+use borrow.Author.Rules.{rules}
+use Rattle.layers.proofs.gauge.with_record.Goals as goal
+
+pub slice_bounds-read_reply-end : goal.slice_bounds-read_reply-end
+slice_bounds-read_reply-end c =
+    let long : length c.args.t3 ≡ 8 = c.well_formed.1.1.0.1.0.1 in
+    sym (length-take-le _ c.args.t3 (omega arith))
+
+pub returns : goal.returns
+returns c =
+    let a = c.args in
+    c.with_reply.ensures ∙ ap (λ (r : Reply). with_reply a.g a.head.minute r) c.read_reply-read.ensures.answers

@@ -1,0 +1,15 @@
+-- `layers::noting::note_slots` meets its contract: after k turns the row has noted what can be the pair's of the first k slots. Assumes nothing.
+use mathlib.Core.Path.{◌≡◌, refl, ap, ◌∙◌}
+use Prim.Native.Nat.{ℕ, ◌-◌, ◌<◌, ◌≤◌}
+use native.Mathlib.Omega.{arith}
+use lib.ListN.{length, length-set}
+use Rattle.sheet.specs.Slots.{slots}
+use Rattle.sheet.proofs.Seen.{few-slots}
+use Rattle.layers.proofs.MoreNoted.{NotedTo, noted-none, noted-next, noted-all}
+use Rattle.layers.proofs.noting.note_slots.Given as goal
+
+abbrev pub invariant-loop-k : goal.invariant-loop-k
+invariant-loop-k l = (l.k ≤ l.many) × ((length l.slots ≡ 2048) × NotedTo l.sheet l.pair l.slots l.count l.k)
+
+abbrev pub decreases-loop-k : goal.decreases-loop-k
+decreases-loop-k l = l.many - l.k

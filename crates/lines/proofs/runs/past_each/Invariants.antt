@@ -1,0 +1,13 @@
+-- `lines::runs::past_each` meets its contract: at each turn the samples before i are alike. Assumes nothing.
+use Prim.Native.Nat.{◌+◌, ◌-◌}
+use native.Mathlib.Omega.{arith}
+use lib.ListN.{length}
+use Rattle.lines.specs.Inside.Runs.{RunTo}
+use Rattle.lines.proofs.Alike.{alike-one, run_none, run_join}
+use Rattle.lines.proofs.runs.past_each.Given as goal
+
+abbrev pub invariant-loop-i : goal.invariant-loop-i
+invariant-loop-i l = RunTo l.samples l.from l.i l.sample
+
+abbrev pub decreases-loop-i : goal.decreases-loop-i
+decreases-loop-i l = length l.samples - l.i

@@ -1,0 +1,6 @@
+-- `lines::state::untold` meets its contract: no bits are eight zeros. Assumes nothing.
+use borrow.Author.Rules.{rules}
+use Rattle.lines.proofs.state.untold.Goals as goal
+
+pub returns : goal.returns
+returns c = rw c.bytes_of.ensures

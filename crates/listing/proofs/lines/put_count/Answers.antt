@@ -1,0 +1,9 @@
+-- `listing::lines::put_count` meets its contract: the word, the number, the end of the line. Assumes nothing.
+use native.Mathlib.Omega.{arith}
+use Rattle.putting.proofs.Putting.{then, at_most}
+use borrow.Author.Rules.{rules}
+use Rattle.listing.proofs.lines.put_count.Goals as goal
+
+pub returns : goal.returns
+returns c =
+    at_most (omega arith) (then (then c.put_word-number.ensures c.put_short-end.ensures) c.put_byte.ensures)

@@ -1,0 +1,67 @@
+-- `listing::whole_listing` meets its contract: the whole listing is put straight into an output that is long enough whatever the slots hold; of a bad
+-- size "fault 12" is handed over. Assumes nothing.
+use mathlib.Core.Path.{◌≡◌, refl}
+use mathlib.Core.Bool.{true, false}
+use mathlib.Core.List.{List, ◌++◌}
+use Prim.Native.Nat.{ℕ, ◌+◌, ◌*◌, ◌≤◌}
+use native.Mathlib.Omega.{arith}
+use Rattle.sheet.specs.Slots.{size_allowed, slots}
+use Rattle.listing.specs.Text.{ascii}
+use Rattle.listing.specs.Lines.{head_line, lines_up_to, last_line, listing_of}
+use Rattle.listing.specs.Calls.{room_for}
+use Rattle.listing.proofs.Answers.{refused-15, written}
+use Rattle.sheet.proofs.Seen.{told-slots, told-refused, few-slots}
+use Rattle.putting.proofs.Putting.{text-is}
+use borrow.Author.Rules.{rules}
+use Rattle.listing.proofs.whole_listing.Goals.{In-Slots-2}
+use Rattle.listing.proofs.whole_listing.Goals as goal
+
+-- the listing and the room that it needs, of an allowed size and of another
+allowed : (s : List ℕ) (n : ℕ) → size_allowed s ≡ true → n ≡ slots s → (40 * (n + 2) ≡ room_for s) × (head_line s ++ lines_up_to s n ++ last_line s ≡ listing_of s)
+unfolding listing_of
+allowed s n size e = (simp (size, e), simp (size, e))
+
+not-allowed : (s : List ℕ) → size_allowed s ≡ false → (9 ≡ room_for s) × (ascii "fault 12\n" ≡ listing_of s)
+unfolding listing_of
+not-allowed s size = (simp size, simp size)
+
+-- the slots that were counted are the sheet's, which is of an allowed size
+told : (c : In-Slots-2) → (size_allowed c.args.sheet.now ≡ true) × (c.in-Slots.slots ≡ slots c.args.sheet.now)
+told c = told-slots c.args.sheet.now _ c.in-Slots.slots c.count_slots-counted.ensures c.in-Slots.is
+
+small : (c : In-Slots-2) → c.in-Slots.slots ≤ 2048
+small c =
+    let size = told c in
+    omega (arith, few-slots c.args.sheet.now size.0)
+
+pub overflow_add-slots : goal.overflow_add-slots
+overflow_add-slots c = omega (arith, small (goal.at.overflow_add-slots c).In-Slots-2)
+
+pub overflow_mul-slots : goal.overflow_mul-slots
+overflow_mul-slots c = omega (arith, small (goal.at.overflow_mul-slots c).In-Slots-2)
+
+pub returns-then-out-slots : goal.returns-then-out-slots
+returns-then-out-slots c =
+    let a = c.args in
+    let size = told (goal.at.returns-then-out-slots c).In-Slots-2 in
+    let whole = allowed a.sheet.now _ size.0 size.1 in
+    refused-15 _ _ a.out.now true refl (omega (arith, whole.0, c.if-out-slots.true))
+
+pub put_listing-requires : goal.put_listing-requires
+put_listing-requires c =
+    let size = told (goal.at.put_listing-requires c).In-Slots-2 in
+    record { sheet_value = size.0; many_value = size.1; many_in_bounds = c.if-out-slots.false }
+
+pub returns-else-out-slots : goal.returns-else-out-slots
+returns-else-out-slots c =
+    let a = c.args in
+    let size = told (goal.at.returns-else-out-slots c).In-Slots-2 in
+    let whole = allowed a.sheet.now _ size.0 size.1 in
+    let text = text-is whole.1 c.put_listing.ensures in
+    written _ _ _ a.out.now _ _ true refl (omega (arith, whole.0, c.if-out-slots.false)) (omega (arith, text.within, c.if-out-slots.false)) text
+
+pub returns-in-Refused : goal.returns-in-Refused
+returns-in-Refused c =
+    let size = told-refused c.args.sheet.now _ c.in-Refused.field-0 c.count_slots-counted.ensures c.in-Refused.is in
+    let text = not-allowed c.args.sheet.now size.0 in
+    rw (← text.0, ← text.1) c.hand_over.ensures

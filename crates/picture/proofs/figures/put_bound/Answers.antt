@@ -1,0 +1,27 @@
+-- `picture::figures::put_bound` meets its contract, by its test. Assumes nothing.
+use mathlib.Core.Path.{◌≡◌, refl, sym, ap, ◌∙◌}
+use mathlib.Core.List.{List, [], ◌∷◌, ◌++◌}
+use Prim.Native.Nat.{ℕ, suc, ◌+◌, ◌-◌, ◌*◌, ◌<◌, ◌≤◌}
+use native.Mathlib.Omega.{arith}
+use Rattle.putting.proofs.Putting.{then, text-is, at_most, nothing_put}
+use borrow.Author.Tests.{eq-eqb, ne_eqb, lt-ltb, le-ltb}
+use Rattle.listing.specs.Text.{ascii}
+use Rattle.summary.specs.Line.{no_level}
+use Rattle.forms.specs.Words.{level_text}
+use Rattle.picture.specs.Page.{bound_text}
+use borrow.Author.Rules.{rules}
+use Rattle.picture.proofs.figures.put_bound.Goals as goal
+
+no-level : (settings n : ℕ) → n ≡ no_level → ascii "none" ≡ bound_text settings n
+unfolding bound_text
+no-level settings n h = simp (eq-eqb n no_level h)
+
+a-level : (settings n : ℕ) → (n ≡ no_level → ⊥) → level_text settings n ≡ bound_text settings n
+unfolding bound_text
+a-level settings n h = simp (ne_eqb n no_level h)
+
+pub returns-then-n-eq65535 : goal.returns-then-n-eq65535
+returns-then-n-eq65535 c = at_most (omega arith) (text-is (no-level c.args.settings c.args.n c.if-n-eq65535.true) c.put_word.ensures)
+
+pub returns : goal.returns
+returns c = text-is (a-level c.args.settings c.args.n c.if-n-eq65535.false) c.put_level.ensures

@@ -1,0 +1,29 @@
+-- `picture::figures::put_kind` meets its contract, by its test. Assumes nothing.
+use mathlib.Core.Path.{◌≡◌, refl, sym, ap, ◌∙◌}
+use mathlib.Core.List.{List, [], ◌∷◌, ◌++◌}
+use Prim.Native.Nat.{ℕ, suc, ◌+◌, ◌-◌, ◌*◌, ◌<◌, ◌≤◌}
+use native.Mathlib.Omega.{arith}
+use Rattle.putting.proofs.Putting.{then, text-is, at_most, nothing_put}
+use borrow.Author.Tests.{eq-eqb, ne_eqb, lt-ltb, le-ltb}
+use Rattle.listing.specs.Text.{ascii}
+use lib.Dec.{ltb}
+use Rattle.frame.specs.Pick.{pick}
+use Rattle.forms.specs.Form.{fill}
+use Rattle.forms.specs.Words.{fault_text}
+use Rattle.picture.specs.Page.{kind_text}
+use borrow.Author.Rules.{rules}
+use Rattle.picture.proofs.figures.put_kind.Goals as goal
+
+no_kind : (n k : ℕ) → n ≡ 0 → [] ≡ kind_text n k
+unfolding kind_text
+no_kind n k h = simp (eq-eqb n 0 h)
+
+some-kind : (n k fault place : ℕ) → (n ≡ 0 → ⊥) → fault ≡ pick (ltb k 10) k 7 → place ≡ k - 10 → fill (ascii "; ~ ") (n ∷ []) ++ fault_text fault place ≡ kind_text n k
+unfolding kind_text
+some-kind n k fault place h f p = (λ i. fill (ascii "; ~ ") (n ∷ []) ++ fault_text (f i) (p i)) ∙ simp (ne_eqb n 0 h)
+
+pub returns-then-n-eq0 : goal.returns-then-n-eq0
+returns-then-n-eq0 c = nothing_put (no_kind c.args.n c.args.k c.if-n-eq0.true)
+
+pub returns : goal.returns
+returns c = at_most (omega arith) (text-is (some-kind c.args.n c.args.k _ _ c.if-n-eq0.false c.fault_of.ensures c.place_of.ensures) (then c.put_form-many.ensures c.put_fault.ensures))

@@ -1,0 +1,30 @@
+-- `picture::figures::put_last` meets its contract, by its test. Assumes nothing.
+use mathlib.Core.Path.{◌≡◌, refl, sym, ap, ◌∙◌}
+use mathlib.Core.List.{List, [], ◌∷◌, ◌++◌}
+use Prim.Native.Nat.{ℕ, suc, ◌+◌, ◌-◌, ◌*◌, ◌<◌, ◌≤◌}
+use native.Mathlib.Omega.{arith}
+use Rattle.putting.proofs.Putting.{then, text-is, at_most, nothing_put}
+use borrow.Author.Tests.{eq-eqb, ne_eqb, lt-ltb, le-ltb}
+use Rattle.listing.specs.Text.{ascii}
+use Rattle.layers.specs.declared.gauge.Gauged.{Gauged}
+use Rattle.summary.specs.Line.{no_level}
+use Rattle.calendar.specs.declared.counting.Day.{Day}
+use Rattle.forms.specs.Days.{moment_text}
+use Rattle.forms.specs.Words.{level_text}
+use Rattle.picture.specs.Page.{last_text}
+use borrow.Author.Rules.{rules}
+use Rattle.picture.proofs.figures.put_last.Goals as goal
+
+no-level : (begin : Day) (settings : ℕ) (g : Gauged) → g.last ≡ no_level → ascii "none" ≡ last_text begin settings g
+unfolding last_text
+no-level begin settings g h = simp (eq-eqb g.last no_level h)
+
+a-level : (begin : Day) (settings : ℕ) (g : Gauged) → (g.last ≡ no_level → ⊥) → level_text settings g.last ++ ascii ", " ++ moment_text begin g.when ≡ last_text begin settings g
+unfolding last_text
+a-level begin settings g h = simp (ne_eqb g.last no_level h)
+
+pub returns-then-g-eq65535 : goal.returns-then-g-eq65535
+returns-then-g-eq65535 c = at_most (omega arith) (text-is (no-level c.args.begin c.args.settings c.args.g c.if-g-eq65535.true) c.put_word.ensures)
+
+pub returns : goal.returns
+returns c = at_most (omega arith) (text-is (a-level c.args.begin c.args.settings c.args.g c.if-g-eq65535.false) (then (then c.put_level-level.ensures c.put_word-gap.ensures) c.put_moment.ensures))

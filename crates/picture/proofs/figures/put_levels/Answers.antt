@@ -1,0 +1,13 @@
+-- `picture::figures::put_levels` meets its contract: its parts are put one after another. Assumes nothing.
+use mathlib.Core.Path.{◌≡◌, refl, sym, ap, ◌∙◌}
+use mathlib.Core.List.{List, [], ◌∷◌, ◌++◌}
+use Prim.Native.Nat.{ℕ, suc, ◌+◌, ◌-◌, ◌*◌, ◌<◌, ◌≤◌}
+use native.Mathlib.Omega.{arith}
+use Rattle.putting.proofs.Putting.{then, text-is, at_most, nothing_put}
+use Rattle.picture.specs.Page.{levels_text}
+use borrow.Author.Rules.{rules}
+use Rattle.picture.proofs.figures.put_levels.Goals as goal
+
+pub returns : goal.returns
+unfolding levels_text
+returns c = at_most (omega arith) (then (then (then (then (then c.put_word-low.ensures c.put_bound-lowest.ensures) c.put_word-high.ensures) c.put_bound-highest.ensures) c.put_word-late.ensures) c.put_last.ensures)

@@ -1,0 +1,26 @@
+-- `picture::figures::put_off` meets its contract, by its test. Assumes nothing.
+use mathlib.Core.Path.{◌≡◌, refl, sym, ap, ◌∙◌}
+use mathlib.Core.List.{List, [], ◌∷◌, ◌++◌}
+use Prim.Native.Nat.{ℕ, suc, ◌+◌, ◌-◌, ◌*◌, ◌<◌, ◌≤◌}
+use native.Mathlib.Omega.{arith}
+use Rattle.putting.proofs.Putting.{then, text-is, at_most, nothing_put}
+use borrow.Author.Tests.{eq-eqb, ne_eqb, lt-ltb, le-ltb}
+use Rattle.listing.specs.Text.{ascii}
+use Rattle.forms.specs.Form.{fill, choice}
+use Rattle.picture.specs.Page.{off_text}
+use borrow.Author.Rules.{rules}
+use Rattle.picture.proofs.figures.put_off.Goals as goal
+
+none-off : (which n : ℕ) → n ≡ 0 → [] ≡ off_text which n
+unfolding off_text
+none-off which n h = simp (eq-eqb n 0 h)
+
+some-off : (which n : ℕ) → (n ≡ 0 → ⊥) → fill (choice which (ascii "; ~ above the scale|; ~ below the scale")) (n ∷ []) ≡ off_text which n
+unfolding off_text
+some-off which n h = simp (ne_eqb n 0 h)
+
+pub returns-then-n-eq0 : goal.returns-then-n-eq0
+returns-then-n-eq0 c = nothing_put (none-off c.args.which c.args.n c.if-n-eq0.true)
+
+pub returns : goal.returns
+returns c = at_most (omega arith) (text-is (some-off c.args.which c.args.n c.if-n-eq0.false) c.put_choice.ensures)

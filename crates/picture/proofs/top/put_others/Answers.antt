@@ -1,0 +1,26 @@
+-- `picture::top::put_others` meets its contract, by its test. Assumes nothing.
+use mathlib.Core.Path.{◌≡◌, refl, sym, ap, ◌∙◌}
+use mathlib.Core.List.{List, [], ◌∷◌, ◌++◌}
+use Prim.Native.Nat.{ℕ, suc, ◌+◌, ◌-◌, ◌*◌, ◌<◌, ◌≤◌}
+use native.Mathlib.Omega.{arith}
+use Rattle.putting.proofs.Putting.{then, text-is, at_most, nothing_put}
+use borrow.Author.Tests.{eq-eqb, ne_eqb, lt-ltb, le-ltb}
+use Rattle.listing.specs.Text.{ascii}
+use Rattle.forms.specs.Form.{fill}
+use Rattle.picture.specs.Page.{others_text}
+use borrow.Author.Rules.{rules}
+use Rattle.picture.proofs.top.put_others.Goals as goal
+
+no-others : (n : ℕ) → n ≡ 0 → [] ≡ others_text n
+unfolding others_text
+no-others n h = simp (eq-eqb n 0 h)
+
+some-others : (n : ℕ) → (n ≡ 0 → ⊥) → fill (ascii "<p>~ records are of further addresses and settings: the first 30 have a picture, and these have none.</p>\n") (n ∷ []) ≡ others_text n
+unfolding others_text
+some-others n h = simp (ne_eqb n 0 h)
+
+pub returns-then-n-eq0 : goal.returns-then-n-eq0
+returns-then-n-eq0 c = nothing_put (no-others c.args.n c.if-n-eq0.true)
+
+pub returns : goal.returns
+returns c = at_most (omega arith) (text-is (some-others c.args.n c.if-n-eq0.false) c.put_form.ensures)

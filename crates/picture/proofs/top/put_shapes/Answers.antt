@@ -1,0 +1,11 @@
+-- `picture::top::put_shapes` meets its contract: its parts are put one after another. Assumes nothing.
+use mathlib.Core.Path.{◌≡◌, refl, sym, ap, ◌∙◌}
+use mathlib.Core.List.{List, [], ◌∷◌, ◌++◌}
+use Prim.Native.Nat.{ℕ, suc, ◌+◌, ◌-◌, ◌*◌, ◌<◌, ◌≤◌}
+use native.Mathlib.Omega.{arith}
+use Rattle.putting.proofs.Putting.{then, text-is, at_most, nothing_put}
+use borrow.Author.Rules.{rules}
+use Rattle.picture.proofs.top.put_shapes.Goals as goal
+
+pub returns : goal.returns
+returns c = at_most (omega arith) (then (then (then c.put_word-a.ensures c.put_word-b.ensures) c.put_word-c.ensures) c.put_word.ensures)

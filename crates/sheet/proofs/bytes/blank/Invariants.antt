@@ -1,0 +1,18 @@
+-- `sheet::bytes::blank` meets its contract: after i turns the common bits are FF exactly where the first i bytes are blank. Assumes nothing.
+use mathlib.Core.Path.{◌≡◌, refl, sym, ap, ◌∙◌}
+use mathlib.Core.Bool.{Bool, ◌&&◌}
+use Prim.Native.Nat.{◌≤◌, ◌<◌, ◌-◌}
+use native.Mathlib.Omega.{arith}
+use lib.Bits.{and_le_l}
+use lib.Dec.{eqb}
+use lib.ListN.{length, take, get_or}
+use lib.Seq.{take_all}
+use Rattle.sheet.specs.Bytes.{FF, all_blank}
+use Rattle.sheet.proofs.Blank.{blank-more, common-full}
+use Rattle.sheet.proofs.bytes.blank.Given as goal
+
+abbrev pub invariant-loop-i : goal.invariant-loop-i
+invariant-loop-i l = (l.i ≤ length l.part) × (l.common < 256) × (eqb l.common FF ≡ all_blank (take l.i l.part))
+
+abbrev pub decreases-loop-i : goal.decreases-loop-i
+decreases-loop-i l = length l.part - l.i

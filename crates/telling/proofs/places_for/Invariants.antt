@@ -1,0 +1,18 @@
+-- `telling::places_for` meets its contract: after i turns the first i places stand in the row, and zeros behind them. Assumes nothing.
+use mathlib.Core.Path.{◌≡◌, refl, sym, ap, ◌∙◌}
+use mathlib.Core.List.{List, [], ◌∷◌, ◌++◌}
+use Prim.Native.Nat.{ℕ, suc, ◌+◌, ◌-◌, ◌<◌, ◌≤◌}
+use native.Mathlib.Numerals.{add-one}
+use native.Mathlib.Omega.{arith}
+use lib.ListN.{length, set, length-set, length-append, length-replicate}
+use Rattle.sheet.specs.StoresTold.{zeros_behind}
+use Rattle.sheet.specs.Inside.Rows.{up_from, places_row}
+use Rattle.sheet.proofs.Rows.{one_more, two-more, up-length, up_more}
+use borrow.Author.Rules.{rules}
+use Rattle.telling.proofs.places_for.Given as goal
+
+abbrev pub invariant-loop-i : goal.invariant-loop-i
+invariant-loop-i l = (l.i ≤ l.size) × (l.places ≡ zeros_behind (up_from 2 l.i))
+
+abbrev pub decreases-loop-i : goal.decreases-loop-i
+decreases-loop-i l = l.size - l.i
