@@ -2,7 +2,7 @@
 -- fill bits, the same digit bits, the same charts, the first digit read straight), reading and writing by the one is reading and writing by
 -- the other. The top digit may be read in four bits because no bit stands above it. That each of the four modes fits is computed. Assumes
 -- nothing.
-use mathlib.Core.Path.{◌≡◌, refl, ap, ◌∙◌}
+use mathlib.Core.Path.{◌≡◌, refl, ◌∙◌}
 use mathlib.Core.Bool.{Bool, true, false, ◌&&◌}
 use mathlib.Core.List.{List, [], ◌∷◌}
 use Prim.Native.Nat.{ℕ, ◌+◌, ◌-◌, ◌*◌, ◌/◌, ◌%◌, ◌^◌, ◌<◌, ◌≤◌}
@@ -15,7 +15,7 @@ use lib.Pow.{pow_pos}
 use Rattle.frame.specs.Charts.{Chart, one_bit, two_bits, feet_tens, decimal, inches, sixteenths}
 use Rattle.frame.specs.Pick.{pick}
 use Rattle.frame.specs.Level.{Mode, mode_of, width_of, values_of, read_row, write_row, fill_clear, last_bit_of, put_level, fractional_mode, decimal_mode, twenty_metre_mode, thirty_metre_mode}
-use Rattle.frame.specs.Inside.Packed.{chart_of, digit_row, level_code, write_up}
+use Rattle.frame.specs.Inside.Packed.{chart_of, digit_row, level_code}
 use Rattle.frame.specs.Inside.Constants.{Constants, fractional, decimal_feet, metres20, metres30, constants_by, fill_at, digit_bits, read_by, write_by}
 use Rattle.frame.proofs.Both.{and-true}
 use Rattle.frame.proofs.Tables.{pick-case}

@@ -1,19 +1,18 @@
 -- The reader of pairs, one pair at a time: what the definition gives for the top pair, marked or not, and how large the level so far can
 -- grow. Assumes nothing.
-use mathlib.Core.Path.{◌≡◌, refl, ap, ◌∙◌}
-use mathlib.Core.Bool.{Bool, true, false}
+use mathlib.Core.Path.{◌≡◌, ap, ◌∙◌}
+use mathlib.Core.Bool.{Bool}
 use Prim.Native.Nat.{ℕ, zero, suc, ◌+◌, ◌-◌, ◌*◌, ◌/◌, ◌%◌, ◌^◌, ◌<◌, ◌≤◌}
 use native.Mathlib.Decide.{ℕ_discrete}
 use native.Mathlib.Nat.{pow-suc, mul-le-mul_right, le_trans, le_of_eq, mul_assoc, mul_comm, le-mul_of_pos_right, one-le-pow, mod-lt}
 use native.Mathlib.Omega.{arith}
 use borrow.Author.Tests.{eq-eqb, ne_eqb}
-use lib.Dec.{eqb, eqb→eq, ltb, lit<, lit≤}
+use lib.Dec.{eqb, lit<, lit≤}
 use Rattle.frame.specs.Pick.{pick}
-use Rattle.frame.specs.Charts.{is_odd, decimal, place_in, turned}
-use Rattle.frame.specs.Level.{Level, known, lost}
-use Rattle.frame.specs.Pairs.{no_pair, pair_number, table_entry, index_of, read_pairs, uncounted}
-use Rattle.frame.specs.Inside.Packed.{chart_of, digit_of, read_code, Below}
-use Rattle.frame.proofs.Tables.{at-below}
+use Rattle.frame.specs.Charts.{is_odd}
+use Rattle.frame.specs.Level.{lost}
+use Rattle.frame.specs.Pairs.{no_pair, table_entry, index_of, read_pairs}
+use Rattle.frame.specs.Inside.Packed.{Below}
 use Rattle.frame.proofs.Digits.{down, below_more}
 use Rattle.frame.proofs.PairsAreDigits.{entry-is, pair_lt}
 

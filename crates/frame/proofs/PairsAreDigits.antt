@@ -6,17 +6,17 @@ use mathlib.Core.Bool.{Bool, true, false, ◌&&◌}
 use mathlib.Core.List.{List, [], ◌∷◌}
 use mathlib.Core.Logic.{◌⊎◌, ⊎_elim}
 use Prim.Native.Nat.{ℕ, zero, suc, ◌+◌, ◌-◌, ◌*◌, ◌/◌, ◌%◌, ◌^◌, ◌<◌, ◌≤◌}
-use native.Mathlib.Nat.{add_comm, mod-lt, mod-eq_of_lt, zero-mul, zero-add, div-lt_iff_lt-mul, div-eq_of_lt}
+use native.Mathlib.Nat.{add_comm, mod-lt, mod-eq_of_lt, zero-mul, div-lt_iff_lt-mul, div-eq_of_lt}
 use native.Mathlib.Omega.{arith}
 use borrow.Author.Tests.{ltb-true, lt-ltb, ne_eqb}
-use lib.Dec.{T, eqb, eqb→eq, ltb, ltb→lt, lit<, lit≤}
+use lib.Dec.{T, eqb, eqb→eq, ltb, ltb→lt, lit<}
 use lib.ListN.{length}
 use lib.Pow.{pow_pos, pow-add}
 use Rattle.frame.specs.Pick.{pick}
-use Rattle.frame.specs.Line.{field, mark}
-use Rattle.frame.specs.Charts.{Chart, size_of, is_odd, turned, place_in, decimal, one_bit, two_bits, feet_tens}
-use Rattle.frame.specs.Level.{Level, known, lost, Mode, width_of, read_row, last_bit_of, level_of, mode_of, decimal_mode, twenty_metre_mode, thirty_metre_mode}
-use Rattle.frame.specs.Pairs.{no_pair, pair_number, table_entry, index_of, decimals, read_pairs, uncounted, level_by_pairs, second_level}
+use Rattle.frame.specs.Line.{field}
+use Rattle.frame.specs.Charts.{Chart, size_of, is_odd, turned, place_in, decimal}
+use Rattle.frame.specs.Level.{Level, known, lost, Mode, width_of, read_row, last_bit_of, level_of}
+use Rattle.frame.specs.Pairs.{no_pair, pair_number, table_entry, index_of, decimals, read_pairs, uncounted, level_by_pairs}
 use Rattle.frame.proofs.Both.{and_left, and_right}
 use Rattle.frame.proofs.Tables.{all_below, at-below}
 use Rattle.frame.proofs.Digits.{turned_lt}

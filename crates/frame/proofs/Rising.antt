@@ -8,7 +8,7 @@ use native.Mathlib.Omega.{arith}
 use borrow.Author.Tests.{eq-eqb, ne_eqb, eqb-true, eqb-false, ltb-true, ltb-false}
 use lib.Dec.{eqb, ltb}
 use Rattle.frame.specs.Pick.{pick}
-use Rattle.frame.specs.Rising.{Above, above_none, above_more, Rises, rises_none, rises_more, held_at}
+use Rattle.frame.specs.Rising.{Above, above_none, above_more, Rises, rises_more, held_at}
 
 module _ {A : Type 0} (key : A → ℕ) where
   pub above_lower : {m n : ℕ} {xs : List A} → m ≤ n → Above key n xs → Above key m xs

@@ -3,9 +3,8 @@
 use mathlib.Core.Path.{◌≡◌, refl, sym, ap, ◌∙◌}
 use mathlib.Core.Bool.{Bool, true, false}
 use mathlib.Core.List.{List}
-use mathlib.Core.Logic.{◌⊎◌, inl, inr}
-use Prim.Native.Nat.{ℕ, zero, suc, ◌+◌, ◌-◌, ◌*◌, ◌/◌, ◌%◌, ◌^◌, ◌<◌, ◌≤◌}
-use native.Mathlib.Omega.{arith}
+use mathlib.Core.Logic.{inl, inr}
+use Prim.Native.Nat.{ℕ, ◌*◌, ◌%◌, ◌^◌}
 use borrow.Author.Tests.{ne_eqb}
 use lib.Dec.{eqb, lit≤}
 use Rattle.frame.specs.declared.Reply.TheVariants.{Read}
@@ -19,7 +18,7 @@ use Rattle.frame.specs.Pairs.{decimals, level_by_pairs, second_level, second_rep
 use Rattle.frame.specs.Inside.Packed.{level_number, level_code, second_code}
 use Rattle.frame.specs.Inside.Constants.{Constants, constants_by, read_pairs_by}
 use Rattle.frame.proofs.Constants.{Fits, constants-fit}
-use Rattle.frame.proofs.PairsAreDigits.{Front, Paired, front_right, same-level}
+use Rattle.frame.proofs.PairsAreDigits.{Paired, front_right, same-level}
 use Rattle.frame.proofs.Tables.{pick-case}
 
 -- the three modes that pairs can read

@@ -3,11 +3,11 @@ use mathlib.Core.Path.{◌≡◌, refl}
 use mathlib.Core.Bool.{Bool, true, false}
 use Prim.Native.Nat.{ℕ}
 use native.Mathlib.Omega.{arith}
-use lib.IntN.{ℤ, pos, negsuc}
+use lib.IntN.{pos, negsuc}
 use Rattle.frame.specs.declared.Temperature.{Temperature}
 use Rattle.frame.specs.declared.Temperature.TheVariants.{Degrees, Above, Below, Absent}
 use Rattle.frame.specs.Kinds.{tenths_of}
-use Rattle.frame.specs.Temperature.{is_above, is_below, is_absent, put_heat, put_heat_1800, put_heat_1900, put_degrees_1800, put_degrees_1900}
+use Rattle.frame.specs.Temperature.{is_above, is_below, is_absent, put_heat, put_heat_1800, put_heat_1900, put_degrees_1800}
 use Rattle.frame.specs.Inside.Written.{tenths_for, put_tenths}
 
 pub above-is : (t : Temperature) → is_above t ≡ true → tenths_for t ≡ pos 32767

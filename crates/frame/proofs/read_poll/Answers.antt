@@ -13,7 +13,6 @@ use Rattle.frame.specs.Poll.{poll_fault, poll_of, poll_at}
 use Rattle.frame.specs.Inside.Packed.{three_by}
 use Rattle.frame.proofs.Three.{was-bad, was-good, number-le}
 use Rattle.frame.proofs.Shifts.{start-clear}
-use borrow.Author.Rules.{rules}
 use Rattle.frame.proofs.read_poll.Goals.{After-three-address, After-two, Else-address-eq1000, Else-n-eq0}
 use Rattle.frame.proofs.read_poll.Goals as goal
 

@@ -1,5 +1,4 @@
 -- `frame::read_reply` meets its contract: it is the plain reader's answer. Assumes nothing.
-use borrow.Author.Rules.{rules}
 use Rattle.frame.proofs.read_reply.Goals as goal
 
 pub returns : goal.returns

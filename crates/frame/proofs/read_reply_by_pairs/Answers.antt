@@ -1,7 +1,6 @@
 -- `frame::read_reply_by_pairs` meets its contract: both readers give one answer. Assumes nothing.
 use mathlib.Core.Path.{sym, ◌∙◌}
 use Rattle.frame.proofs.SecondReader.{same-reply}
-use borrow.Author.Rules.{rules}
 use Rattle.frame.proofs.read_reply_by_pairs.Goals as goal
 
 pub returns : goal.returns

@@ -8,7 +8,6 @@ use lib.ListN.{drop}
 use Rattle.frame.specs.Line.{field, first_bytes}
 use Rattle.frame.specs.Poll.{poll_line, write_poll_fault}
 use Rattle.frame.proofs.Fronts.{front}
-use borrow.Author.Rules.{rules}
 use Rattle.frame.proofs.write_poll.Goals as goal
 
 -- the two bytes of a word that stands at the top of a line

@@ -12,7 +12,6 @@ use Rattle.frame.specs.declared.Written.TheVariants.{Bytes, Refused}
 use Rattle.frame.specs.Pick.{pick}
 use Rattle.frame.specs.Line.{first_bytes}
 use Rattle.frame.specs.Reply.{WritesReply, write_reply_fault, reply_line, size_for}
-use borrow.Author.Rules.{rules}
 use Rattle.frame.proofs.write_reply.Goals.{After-size_for-size}
 use Rattle.frame.proofs.write_reply.Goals as goal
 
@@ -63,8 +62,8 @@ returns c =
     let size = size_is (goal.at.returns c).After-size_for-size in
     let none = enough a.settings a.address a.reading a.out.now (le-ltb _ _ c.if-settings-gt15.false) (le-ltb _ _ c.if-address-gt999.false) (le-ltb (length a.out.now) (size_for a.reading) (rw (← size) c.if-out-size.false)) in
     let n = c.whole_line in
-    let is : c.store.new.1.1.0 ≡ first_bytes (size_for a.reading) (reply_line a.settings a.address a.reading) ++ drop (size_for a.reading) a.out.now =
+    let is : c.store.new.out ≡ first_bytes (size_for a.reading) (reply_line a.settings a.address a.reading) ++ drop (size_for a.reading) a.out.now =
     c.store.ensures
     ∙ ap (λ (t : Bool). first_bytes (pick t 5 7) n.result ++ drop (pick t 5 7) a.out.now) c.is_absent-short.ensures
     ∙ ap (λ (w : ℕ). first_bytes (size_for a.reading) w ++ drop (size_for a.reading) a.out.now) n.ensures in
-    rw size (written a.settings a.address a.reading a.out.now c.store.new.1.1.0 none is)
+    rw size (written a.settings a.address a.reading a.out.now c.store.new.out none is)

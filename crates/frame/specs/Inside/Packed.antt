@@ -1,6 +1,6 @@
 -- How the code keeps charts, rows and answers in words. A reader of document 01 need not believe this file: it says what the tables of
 -- `src/charts.rt` hold, each worked out from the charts themselves, and what the inner functions answer.
-use Rattle.std.specs.Prelude.{Bool, false, not, ◌&&◌, List, [], ◌∷◌, map, ℕ, zero, suc, ◌+◌, ◌-◌, ◌*◌, ◌/◌, ◌%◌, ◌^◌, ◌<◌, eqb, ltb, leb, drop}
+use Rattle.std.specs.Prelude.{Bool, not, ◌&&◌, List, [], ◌∷◌, map, ℕ, zero, suc, ◌+◌, ◌*◌, ◌/◌, ◌%◌, ◌^◌, ◌<◌, eqb, ltb, leb, drop}
 use Rattle.frame.specs.declared.heat.Told.{Told}
 use Rattle.frame.specs.declared.heat.Told.TheVariants.{Is, Bad}
 use Rattle.frame.specs.declared.Reply.{Reply}
@@ -12,7 +12,7 @@ use Rattle.frame.specs.Reply.{mode_in, parity_right, reply_tests, heat_in, readi
 use Rattle.frame.specs.Charts.{Chart, one_bit, two_bits, feet_tens, decimal, inches, sixteenths, place_in, size_of, is_odd, turned, code_of}
 use Rattle.frame.specs.declared.Temperature.TheVariants as temperature
 use Rattle.frame.specs.Temperature.{Heat, told, bad, signed, is_bad, temperature_of}
-use Rattle.frame.specs.Level.{Level, known, lost, Mode, mode_of, level_of, fill_clear, read_row}
+use Rattle.frame.specs.Level.{Level, known, lost, Mode, mode_of, level_of, fill_clear}
 use Rattle.frame.specs.Pairs.{second_level}
 
 -- The chart of a number: 0 one bit, 1 two bits, 2 feet tens, 3 decimal, 4 inches, any other sixteenths.

@@ -1,5 +1,5 @@
 -- What the inner functions of the writer answer. A reader of document 01 need not believe this file.
-use Rattle.std.specs.Prelude.{Bool, true, false, ℕ, zero, suc, ◌+◌, ◌/◌, ◌%◌, min, ℤ, pos, negsuc}
+use Rattle.std.specs.Prelude.{Bool, false, ℕ, zero, suc, ◌+◌, ◌/◌, ◌%◌, min, ℤ, pos, negsuc}
 use Rattle.std.specs.Int.Count.{ones}
 use Rattle.frame.specs.declared.Reading.{Reading}
 use Rattle.frame.specs.declared.Temperature.{Temperature}

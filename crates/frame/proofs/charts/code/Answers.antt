@@ -1,7 +1,6 @@
 -- `frame::charts::code` meets its contract: straight or turned, the place is below the chart's size. Assumes nothing.
 use native.Mathlib.Omega.{arith}
 use Rattle.frame.specs.Charts.{turned}
-use borrow.Author.Rules.{rules}
 use Rattle.frame.proofs.charts.code.Goals as goal
 
 pub code_at-requires : goal.code_at-requires

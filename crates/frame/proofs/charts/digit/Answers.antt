@@ -3,7 +3,6 @@ use mathlib.Core.Path.{sym}
 use borrow.Author.Tests.{lt-ltb, le-ltb}
 use Rattle.frame.specs.Charts.{turned}
 use Rattle.frame.specs.Inside.Packed.{digit_of}
-use borrow.Author.Rules.{rules}
 use Rattle.frame.proofs.charts.digit.Goals as goal
 
 pub returns-then-values-at : goal.returns-then-values-at

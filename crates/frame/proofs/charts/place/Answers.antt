@@ -2,7 +2,6 @@
 use mathlib.Core.Path.{◌∙◌, ap}
 use Prim.Native.Nat.{ℕ, ◌*◌, ◌/◌, ◌%◌, ◌^◌}
 use Rattle.frame.proofs.Tables.{places-rule}
-use borrow.Author.Rules.{rules}
 use Rattle.frame.proofs.charts.place.Goals as goal
 
 pub returns : goal.returns

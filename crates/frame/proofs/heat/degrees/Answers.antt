@@ -3,7 +3,6 @@ use native.Mathlib.Omega.{arith}
 use mir.Syntax.{w16}
 use mir.Facts.{to_z-of_z, to_z_pos}
 use Rattle.frame.proofs.Signs.{minus_is, minus-small}
-use borrow.Author.Rules.{rules}
 use Rattle.frame.proofs.heat.degrees.Goals as goal
 
 pub returns-then-plus : goal.returns-then-plus

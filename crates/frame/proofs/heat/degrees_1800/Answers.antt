@@ -1,12 +1,10 @@
 -- `frame::heat::degrees_1800` meets its contract: each return rewrites the definition with the tests that led there. Within the range there
 -- is at most one hundred, which fits above sign and digits. Assumes nothing.
-use mathlib.Core.Path.{◌≡◌}
-use Prim.Native.Nat.{◌+◌, ◌*◌, ◌^◌, ◌<◌}
+use Prim.Native.Nat.{◌+◌, ◌^◌, ◌<◌}
 use native.Mathlib.Omega.{arith}
 use borrow.Author.Tests.{le-leb, lt-leb}
 use Rattle.frame.specs.Temperature.{put_degrees_1800}
 use Rattle.frame.proofs.Sums.{degrees-small}
-use borrow.Author.Rules.{rules}
 use Rattle.frame.proofs.heat.degrees_1800.Goals as goal
 
 pub overflow_add-result : goal.overflow_add-result

@@ -3,7 +3,6 @@ use Prim.Native.Nat.{◌/◌, ◌^◌, ◌<◌, ◌+◌}
 use native.Mathlib.Omega.{arith}
 use Rattle.frame.specs.Temperature.{put_degrees_1900}
 use Rattle.frame.proofs.Sums.{degrees-small, hundreds-small}
-use borrow.Author.Rules.{rules}
 use Rattle.frame.proofs.heat.degrees_1900.Goals as goal
 
 pub overflow_add-result : goal.overflow_add-result

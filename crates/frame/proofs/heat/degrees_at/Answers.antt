@@ -11,7 +11,6 @@ use Rattle.frame.specs.Temperature.{told, signed}
 use Rattle.frame.specs.Line.{field, three_decimal, three_digits}
 use Rattle.frame.specs.Inside.Packed.{three_by, heat_by}
 use Rattle.frame.proofs.Three.{was-bad, was-good, number-le}
-use borrow.Author.Rules.{rules}
 use Rattle.frame.proofs.heat.degrees_at.Goals.{Else-m-eq1000}
 use Rattle.frame.proofs.heat.degrees_at.Goals as goal
 

@@ -1,5 +1,4 @@
 -- `frame::heat::errors` meets its contract: each return is the definition by its test. Assumes nothing.
-use borrow.Author.Rules.{rules}
 use Rattle.frame.proofs.heat.errors.Goals as goal
 
 pub returns-then-is_1800 : goal.returns-then-is_1800

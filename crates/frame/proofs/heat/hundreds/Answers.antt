@@ -1,6 +1,5 @@
 -- `frame::heat::hundreds` meets its contract: each return is the definition by its test. Assumes nothing.
 use native.Mathlib.Omega.{arith}
-use borrow.Author.Rules.{rules}
 use Rattle.frame.proofs.heat.hundreds.Goals as goal
 
 pub returns-then-is_1800 : goal.returns-then-is_1800

@@ -1,6 +1,5 @@
 -- `frame::heat::hundreds_1900` meets its contract, number by number; the last arm is that of 7. Assumes nothing.
 use Rattle.frame.proofs.Keys.{last-key}
-use borrow.Author.Rules.{rules}
 use Rattle.frame.proofs.heat.hundreds_1900.Goals as goal
 
 pub returns-in-0 : goal.returns-in-0

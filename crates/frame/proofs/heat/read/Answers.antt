@@ -8,7 +8,6 @@ use borrow.Author.Tests.{ne_eqb}
 use Rattle.frame.specs.Pick.{pick}
 use Rattle.frame.specs.Line.{bit}
 use Rattle.frame.specs.Temperature.{degrees_at, hundreds1900, heat1800, heat1900, heat_of}
-use borrow.Author.Rules.{rules}
 use Rattle.frame.proofs.heat.read.Goals as goal
 
 abbrev errors_of : Bool → ℕ → ℕ

@@ -3,7 +3,6 @@ use mathlib.Core.Path.{sym, ◌∙◌}
 use mir.Syntax.{w16}
 use mir.Facts.{to_z-of_z}
 use Rattle.frame.proofs.Tenths.{above-is, below-is, neither-is}
-use borrow.Author.Rules.{rules}
 use Rattle.frame.proofs.heat.tenths.Goals as goal
 
 pub returns-then-is_above : goal.returns-then-is_above

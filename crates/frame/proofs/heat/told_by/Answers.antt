@@ -1,10 +1,7 @@
 -- `frame::heat::told_by` meets its contract: each return is the definition at its number. Assumes nothing.
-use mathlib.Core.Path.{◌≡◌}
-use native.Mathlib.Omega.{arith}
 use mir.Syntax.{w16}
 use mir.Facts.{to_z-of_z}
 use borrow.Author.Tests.{lt-ltb, le-ltb, ne_eqb}
-use borrow.Author.Rules.{rules}
 use Rattle.frame.proofs.heat.told_by.Goals as goal
 
 pub returns-then-heat-lt-ABOVE : goal.returns-then-heat-lt-ABOVE

@@ -1,7 +1,6 @@
 -- `frame::kinds::tenths_of` meets its contract, case by case of the temperature. The degrees fit an i16, as every value of the type does.
 use mir.Syntax.{w16}
 use mir.Facts.{to_z-of_z}
-use borrow.Author.Rules.{rules}
 use Rattle.frame.proofs.kinds.tenths_of.Goals as goal
 
 pub returns-in-Degrees : goal.returns-in-Degrees

@@ -1,6 +1,6 @@
 -- `frame::level::read_digits` meets its contract. Each return is one step of the definition: none left, the top digit in no chart, or the rest
 -- read on from the top digit.
-use Rattle.std.proofs.Common.{◌≡◌, sym, ◌∙◌, ℕ, ◌+◌, ◌-◌, ◌*◌, ◌/◌, ◌%◌, ◌^◌, ◌<◌, arith, add-one}
+use Rattle.std.proofs.Common.{◌≡◌, sym, ◌∙◌, ◌-◌, ◌*◌, ◌/◌, ◌%◌, ◌^◌, ◌<◌, arith, add-one}
 use Rattle.frame.specs.Charts.{size_of}
 use Rattle.frame.specs.Level.{read_row}
 use Rattle.frame.specs.Inside.Packed.{chart_of, digit_of, digit_row}

@@ -1,15 +1,14 @@
 -- `frame::level::fill_clear` meets its contract: a one shifted is the power of two that the definition has, bit 16 counts where the first bit stands
 -- after it, and a sum is 0 exactly if both parts are. Assumes nothing.
-use mathlib.Core.Path.{◌≡◌, ap, ◌∙◌}
+use mathlib.Core.Path.{ap, ◌∙◌}
 use mathlib.Core.Bool.{◌&&◌}
-use Prim.Native.Nat.{ℕ, ◌+◌, ◌-◌, ◌*◌, ◌/◌, ◌%◌, ◌^◌, ◌<◌, ◌≤◌}
+use Prim.Native.Nat.{ℕ, ◌-◌, ◌*◌, ◌/◌, ◌%◌, ◌^◌, ◌<◌, ◌≤◌}
 use native.Mathlib.Nat.{mod-lt}
 use native.Mathlib.Omega.{arith}
 use lib.Dec.{eqb}
 use lib.Pow.{pow_pos, pow_mono}
 use Rattle.frame.proofs.Shifts.{one_shl}
 use Rattle.frame.proofs.Cut.{both-clear, head-is, head_small}
-use borrow.Author.Rules.{rules}
 use Rattle.frame.proofs.level.fill_clear.Goals as goal
 
 -- the fill after the digits is few bits

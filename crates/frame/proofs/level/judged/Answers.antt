@@ -1,7 +1,6 @@
 -- `frame::level::judged` meets its contract: what the reader gave is told apart by its size, since every level that it reads is below 2 ^ 32.
 -- Assumes nothing.
 use Rattle.frame.proofs.Digits.{number-lost, number-above, number-known}
-use borrow.Author.Rules.{rules}
 use Rattle.frame.proofs.level.judged.Goals as goal
 
 pub returns-then-v-ge-LOST : goal.returns-then-v-ge-LOST

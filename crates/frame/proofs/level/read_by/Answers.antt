@@ -4,14 +4,12 @@ use mathlib.Core.Path.{◌≡◌, sym, ap, ◌∙◌}
 use mathlib.Core.Bool.{true, false}
 use Prim.Native.Nat.{ℕ, ◌+◌, ◌*◌, ◌/◌, ◌%◌, ◌^◌, ◌≤◌}
 use native.Mathlib.Omega.{arith}
-use borrow.Author.Tests.{not-true, not-false}
 use Rattle.frame.specs.Level.{Level, read_row}
 use Rattle.frame.specs.Inside.Packed.{digit_row, read_code, Below}
 use Rattle.frame.specs.Inside.Constants.{fill_at, digit_bits}
 use Rattle.frame.proofs.Cut.{clear-cut}
 use Rattle.frame.proofs.Digits.{below_more, row_below}
 use Rattle.frame.proofs.Upward.{sixteen-le}
-use borrow.Author.Rules.{rules}
 use Rattle.frame.proofs.level.read_by.Goals as goal
 
 -- what four bits a digit leave room for is below 2 ^ 32

@@ -4,7 +4,6 @@ use Prim.Native.Nat.{ℕ, ◌+◌, ◌*◌, ◌%◌, ◌≤◌}
 use native.Mathlib.Nat.{mul-le-mul_left}
 use native.Mathlib.Omega.{arith}
 use Rattle.frame.proofs.Tables.{size-high}
-use borrow.Author.Rules.{rules}
 use Rattle.frame.proofs.level.with_digit.Goals as goal
 
 pub overflow_mul-result : goal.overflow_mul-result

@@ -7,7 +7,6 @@ use Rattle.frame.specs.Charts.{size_of, code_of}
 use Rattle.frame.specs.Inside.Packed.{chart_of}
 use Rattle.frame.proofs.Tables.{size_low}
 use Rattle.frame.proofs.Upward.{code_lt}
-use borrow.Author.Rules.{rules}
 use Rattle.frame.proofs.level_writing.digit_code.Goals as goal
 
 -- a number is its quotient's multiple and its remainder

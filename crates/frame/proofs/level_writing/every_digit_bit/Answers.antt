@@ -5,7 +5,6 @@ use native.Mathlib.Omega.{arith}
 use lib.Pow.{pow_pos, shl_exact, ones_lt}
 use Rattle.frame.specs.Inside.Constants.{digit_bits}
 use Rattle.frame.proofs.Shifts.{one_shl}
-use borrow.Author.Rules.{rules}
 use Rattle.frame.proofs.level_writing.every_digit_bit.Goals as goal
 
 pub overflow_sub-result-3 : goal.overflow_sub-result-3

@@ -3,7 +3,6 @@ use mathlib.Core.Path.{sym}
 use native.Mathlib.Omega.{arith}
 use Rattle.frame.specs.Inside.Packed.{chart_of}
 use Rattle.frame.proofs.Straight.{five-up, above_more}
-use borrow.Author.Rules.{rules}
 use Rattle.frame.proofs.level_writing.five_digits.Goals as goal
 
 pub ones_code-requires : goal.ones_code-requires

@@ -3,7 +3,6 @@ use mathlib.Core.Path.{ap, ◌∙◌}
 use Prim.Native.Nat.{ℕ, ◌%◌}
 use Rattle.frame.specs.Charts.{size_of, is_odd, code_of}
 use Rattle.frame.specs.Inside.Packed.{chart_of}
-use borrow.Author.Rules.{rules}
 use Rattle.frame.proofs.level_writing.ones_code.Goals as goal
 
 pub returns : goal.returns

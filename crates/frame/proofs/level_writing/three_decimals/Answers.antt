@@ -2,7 +2,6 @@
 use native.Mathlib.Omega.{arith}
 use Rattle.frame.specs.Inside.Packed.{chart_of}
 use Rattle.frame.proofs.Straight.{above-10, above_more}
-use borrow.Author.Rules.{rules}
 use Rattle.frame.proofs.level_writing.three_decimals.Goals as goal
 
 pub ones_code-requires : goal.ones_code-requires

@@ -3,7 +3,6 @@ use Prim.Native.Nat.{◌+◌}
 use native.Mathlib.Omega.{arith}
 use borrow.Author.Tests.{le-leb, lt-leb}
 use lib.Pow.{shl_exact}
-use borrow.Author.Rules.{rules}
 use Rattle.frame.proofs.level_writing.write_by.Goals as goal
 
 pub returns-then-k-v : goal.returns-then-k-v

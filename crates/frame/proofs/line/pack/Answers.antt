@@ -1,6 +1,5 @@
 -- `frame::line::pack` meets its contract: the bytes that were read make the word, and where a byte is not there the definition reads 0.
 -- Assumes nothing.
-use borrow.Author.Rules.{rules}
 use native.Mathlib.Omega.{arith}
 use lib.ListN.{get_or-eq_default}
 use Rattle.frame.specs.Line.{line}

@@ -1,7 +1,6 @@
 -- `frame::line::three` meets its contract: each return rewrites the definition with the tests that led there. Assumes nothing.
 use borrow.Author.Tests.{le-leb, lt-leb}
 use Rattle.frame.specs.Inside.Packed.{three_by}
-use borrow.Author.Rules.{rules}
 use Rattle.frame.proofs.line.three.Goals as goal
 
 pub returns-then-hundreds-gt9 : goal.returns-then-hundreds-gt9

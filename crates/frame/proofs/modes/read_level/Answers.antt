@@ -7,7 +7,6 @@ use Rattle.frame.specs.Level.{mode_of}
 use Rattle.frame.specs.Inside.Packed.{level_code}
 use Rattle.frame.specs.Inside.Constants.{Constants, constants_by, read_by}
 use Rattle.frame.proofs.Constants.{read_is, constants-fit, fractional-by, decimal-by, metres20-by, metres30-by}
-use borrow.Author.Rules.{rules}
 use Rattle.frame.proofs.modes.read_level.Goals as goal
 
 -- a level read by the constants of a number

@@ -6,7 +6,6 @@ use native.Mathlib.Omega.{arith}
 use Rattle.frame.specs.Level.{mode_of, put_level}
 use Rattle.frame.specs.Inside.Constants.{Constants, constants_by, write_by}
 use Rattle.frame.proofs.Constants.{write-is, constants-fit, fractional-by, decimal-by, metres20-by, metres30-by}
-use borrow.Author.Rules.{rules}
 use Rattle.frame.proofs.modes.write_level.Goals as goal
 
 -- a level written by the constants of a number

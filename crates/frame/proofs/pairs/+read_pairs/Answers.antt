@@ -1,6 +1,6 @@
 -- `frame::pairs::read_pairs` meets its contract. Each return is one step of the definition: none left, the top pair marked, or the rest read on
 -- from the top pair.
-use Rattle.std.proofs.Common.{◌≡◌, sym, ◌∙◌, ℕ, suc, ◌+◌, ◌-◌, ◌*◌, ◌^◌, ◌<◌, ◌≤◌, arith}
+use Rattle.std.proofs.Common.{◌≡◌, sym, ◌∙◌, ℕ, suc, ◌+◌, ◌-◌, ◌^◌, ◌<◌, arith}
 use Rattle.frame.specs.Pairs.{read_pairs}
 use Rattle.frame.proofs.PairSteps.{top_pair, top_lt, left-marked, left-number, pair-room, pair-room-now}
 use Rattle.frame.proofs.pairs.+read_pairs.Goals as goal

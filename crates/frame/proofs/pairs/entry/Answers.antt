@@ -1,7 +1,6 @@
 -- `frame::pairs::entry` meets its contract: the byte that it takes out of a word is the table's entry, by the rule over all entries. Assumes
 -- nothing.
 use Rattle.frame.proofs.PairTable.{words-rule}
-use borrow.Author.Rules.{rules}
 use Rattle.frame.proofs.pairs.entry.Goals as goal
 
 pub returns : goal.returns

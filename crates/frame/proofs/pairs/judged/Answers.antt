@@ -5,7 +5,6 @@ use native.Mathlib.Omega.{arith}
 use Rattle.frame.specs.Level.{Level, known, lost}
 use Rattle.frame.specs.Pairs.{uncounted}
 use Rattle.frame.specs.Inside.Packed.{read_code, Below, level_number}
-use borrow.Author.Rules.{rules}
 use Rattle.frame.proofs.pairs.judged.Goals as goal
 
 was-lost : (largest zeros v : ℕ) → 2 ^ 32 ≤ v → (l : Level) → Below (2 ^ 32) l → v ≡ read_code l → 7 * 65536 + (v - 2 ^ 32 - zeros) ≡ level_number largest (uncounted zeros l)

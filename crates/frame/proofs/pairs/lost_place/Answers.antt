@@ -6,7 +6,6 @@ use native.Mathlib.Omega.{arith}
 use borrow.Author.Tests.{eq-eqb, ne_eqb}
 use Rattle.frame.specs.Pairs.{table_entry, index_of}
 use Rattle.frame.proofs.PairTable.{index-0}
-use borrow.Author.Rules.{rules}
 use Rattle.frame.proofs.pairs.lost_place.Goals.{After-entry}
 use Rattle.frame.proofs.pairs.lost_place.Goals as goal
 

@@ -4,7 +4,6 @@ use mathlib.Core.Path.{◌≡◌, sym, ap, ◌∙◌}
 use mathlib.Core.Bool.{true, false}
 use Prim.Native.Nat.{ℕ, ◌+◌, ◌*◌, ◌/◌, ◌%◌, ◌^◌, ◌≤◌}
 use native.Mathlib.Omega.{arith}
-use borrow.Author.Tests.{not-true, not-false}
 use Rattle.frame.specs.Level.{Level}
 use Rattle.frame.specs.Pairs.{read_pairs}
 use Rattle.frame.specs.Inside.Packed.{read_code, Below}
@@ -12,7 +11,6 @@ use Rattle.frame.specs.Inside.Constants.{fill_at, digit_bits}
 use Rattle.frame.proofs.Cut.{clear-cut}
 use Rattle.frame.proofs.Digits.{below_more}
 use Rattle.frame.proofs.PairSteps.{hundred-le, pairs_below}
-use borrow.Author.Rules.{rules}
 use Rattle.frame.proofs.pairs.read_by.Goals as goal
 
 -- what so few pairs leave room for is below 2 ^ 32

@@ -3,7 +3,6 @@ use mathlib.Core.Path.{ap, ◌∙◌}
 use Prim.Native.Nat.{◌-◌, ◌*◌}
 use Rattle.frame.specs.Pairs.{table_entry}
 use Rattle.frame.proofs.PairTable.{index_is}
-use borrow.Author.Rules.{rules}
 use Rattle.frame.proofs.pairs.top_pair.Goals as goal
 
 pub returns : goal.returns

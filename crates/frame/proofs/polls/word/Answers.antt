@@ -1,6 +1,5 @@
 -- `frame::polls::word` meets its contract: the marks and the digits stand where the definition puts them. Assumes nothing.
 use native.Mathlib.Omega.{arith}
-use borrow.Author.Rules.{rules}
 use Rattle.frame.proofs.polls.word.Goals as goal
 
 pub returns : goal.returns

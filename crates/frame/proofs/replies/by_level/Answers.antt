@@ -1,6 +1,5 @@
 -- `frame::replies::by_level` meets its contract, by whether the fault is 7.
 use borrow.Author.Tests.{eq-eqb, ne_eqb}
-use borrow.Author.Rules.{rules}
 use Rattle.frame.proofs.replies.by_level.Goals as goal
 
 pub returns-then-fault-eq7 : goal.returns-then-fault-eq7

@@ -4,7 +4,6 @@ use native.Mathlib.Omega.{arith}
 use lib.Count.{ones-le}
 use lib.ListN.{get_or}
 use Rattle.frame.proofs.Marks.{five-bytes, seven-bytes}
-use borrow.Author.Rules.{rules}
 use Rattle.frame.proofs.replies.marks.Goals as goal
 
 pub overflow_add-five : goal.overflow_add-five
@@ -49,4 +48,4 @@ returns-then-reply-eq7 c =
 
 pub returns : goal.returns
 returns c =
-    five-bytes c.args.reply.now (omega (arith, (c.requires.in_bounds, (c.requires.reply_len_bound, c.requires.reply_nonzero)), c.if-reply-eq7.false))
+    five-bytes c.args.reply.now (omega (arith, c.requires.in_bounds, c.requires.reply_len_bound, c.requires.reply_nonzero, c.if-reply-eq7.false))

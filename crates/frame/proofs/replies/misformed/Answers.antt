@@ -11,7 +11,6 @@ use Rattle.frame.specs.Pick.{pick}
 use Rattle.frame.specs.Line.{formed}
 use Rattle.frame.specs.Inside.Packed.{form_fault}
 use Rattle.frame.proofs.Refusals.{filled}
-use borrow.Author.Rules.{rules}
 use Rattle.frame.proofs.replies.misformed.Goals as goal
 
 flip : (b : Bool) → ◌≡◌ {A = ℕ} (pick b 0 14) (pick (not b) 14 0)

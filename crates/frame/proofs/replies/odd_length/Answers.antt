@@ -1,7 +1,6 @@
 -- `frame::replies::odd_length` meets its contract: each return rewrites with its tests. Assumes nothing.
 use mathlib.Core.Path.{sym, ◌∙◌}
-use borrow.Author.Tests.{eq-eqb, ne_eqb, not-true, not-false}
-use borrow.Author.Rules.{rules}
+use borrow.Author.Tests.{eq-eqb, ne_eqb}
 use Rattle.frame.proofs.replies.odd_length.Goals as goal
 
 pub returns-then-not-formed : goal.returns-then-not-formed

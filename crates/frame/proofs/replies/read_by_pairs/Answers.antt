@@ -8,7 +8,6 @@ use Rattle.frame.specs.Inside.Packed.{level_code, unread_fault}
 use Rattle.frame.proofs.Refusals.{unread-form}
 use Rattle.frame.proofs.SecondReader.{second_is}
 use Rattle.frame.proofs.Walks.{Fit, early-small, early-answer, unfit-under, unfit-answer, level-bounds, level-answer, heat-answer}
-use borrow.Author.Rules.{rules}
 use Rattle.frame.proofs.replies.read_by_pairs.Goals.{After-read_level_by_pairs-level, Else-early-ne0, Else-fault-ne0}
 use Rattle.frame.proofs.replies.read_by_pairs.Goals as goal
 

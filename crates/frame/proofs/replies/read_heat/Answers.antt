@@ -1,7 +1,6 @@
 -- `frame::replies::read_heat` meets its contract: each return rewrites the definition with the tests that led there, and the type with what was asked of
 -- the settings. Assumes nothing.
 use borrow.Author.Tests.{eq-eqb, ne_eqb}
-use borrow.Author.Rules.{rules}
 use Rattle.frame.proofs.replies.read_heat.Goals as goal
 
 pub returns-then-count-eq40 : goal.returns-then-count-eq40

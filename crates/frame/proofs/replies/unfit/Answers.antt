@@ -1,17 +1,16 @@
 -- `frame::replies::unfit` meets its contract: each return rewrites with its tests; the digits of an address are compared as one number of 12
 -- bits. Assumes nothing.
-use mathlib.Core.Path.{◌≡◌, sym, ap, ◌∙◌}
+use mathlib.Core.Path.{◌≡◌, sym, ◌∙◌}
 use mathlib.Core.Bool.{true, false, ◌&&◌}
 use Prim.Native.Nat.{ℕ, ◌+◌, ◌*◌, ◌/◌, ◌%◌, ◌^◌, ◌<◌, ◌≤◌}
 use native.Mathlib.Nat.{mod-lt}
 use native.Mathlib.Omega.{arith}
-use borrow.Author.Tests.{eq-eqb, ne_eqb, not-true, not-false}
+use borrow.Author.Tests.{eq-eqb, ne_eqb}
 use lib.Dec.{eqb, lit<}
 use lib.Pow.{shr-shr}
 use Rattle.frame.specs.Line.{bit, field, three_decimal, three_digits}
 use Rattle.frame.specs.Inside.Packed.{three_of}
 use Rattle.frame.proofs.Three.{in-twelve, matches, differs}
-use borrow.Author.Rules.{rules}
 use Rattle.frame.proofs.replies.unfit.Goals.{Else-n-lt-BIT_1, Else-n-three_of}
 use Rattle.frame.proofs.replies.unfit.Goals as goal
 

@@ -1,7 +1,5 @@
 -- `frame::replies::unread` meets its contract: each return rewrites with its tests. Assumes nothing.
-use mathlib.Core.Path.{◌∙◌}
 use borrow.Author.Tests.{lt-ltb, le-ltb}
-use borrow.Author.Rules.{rules}
 use Rattle.frame.proofs.replies.unread.Goals as goal
 
 pub returns-then-settings-gt15 : goal.returns-then-settings-gt15

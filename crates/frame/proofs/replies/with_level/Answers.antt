@@ -3,7 +3,6 @@ use mathlib.Core.Path.{◌≡◌, sym, ap, ◌∙◌}
 use Rattle.frame.specs.Temperature.{told, bad}
 use Rattle.frame.specs.Reply.{heat_in}
 use Rattle.frame.specs.Inside.Packed.{heat_for, heat_reply}
-use borrow.Author.Rules.{rules}
 use Rattle.frame.proofs.replies.with_level.Goals as goal
 
 pub returns-in-Is : goal.returns-in-Is

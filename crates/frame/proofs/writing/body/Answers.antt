@@ -11,7 +11,6 @@ use Rattle.frame.specs.Reply.{is1800, body_of}
 use Rattle.frame.specs.Inside.Written.{front_of}
 use Rattle.frame.proofs.Sums.{heat-low, no-heat, front-small}
 use Rattle.frame.proofs.Tenths.{heat-is}
-use borrow.Author.Rules.{rules}
 use Rattle.frame.proofs.writing.body.Goals.{After-write}
 use Rattle.frame.proofs.writing.body.Goals as goal
 

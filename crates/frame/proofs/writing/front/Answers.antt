@@ -2,7 +2,6 @@
 use Prim.Native.Nat.{◌%◌, ◌^◌, ◌<◌}
 use native.Mathlib.Omega.{arith}
 use Rattle.frame.proofs.Sums.{level-small, three-lt}
-use borrow.Author.Rules.{rules}
 use Rattle.frame.proofs.writing.front.Goals.{After-three_of, After-write_level-level}
 use Rattle.frame.proofs.writing.front.Goals as goal
 

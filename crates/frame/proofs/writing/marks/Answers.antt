@@ -2,7 +2,6 @@
 use mathlib.Core.Path.{◌∙◌}
 use native.Mathlib.Omega.{arith}
 use Rattle.frame.proofs.Counted.{up-5, up-7}
-use borrow.Author.Rules.{rules}
 use Rattle.frame.proofs.writing.marks.Goals as goal
 
 pub returns-then-short : goal.returns-then-short

@@ -4,12 +4,10 @@ use mathlib.Core.Bool.{Bool, true, false}
 use mathlib.Core.List.{[], ◌∷◌}
 use Prim.Native.Nat.{ℕ, ◌≤◌}
 use native.Mathlib.Omega.{arith}
-use borrow.Author.Tests.{not-true, not-false}
 use lib.ListN.{length, length-set}
 use Rattle.frame.specs.Pick.{pick}
 use Rattle.frame.specs.Line.{first_bytes}
 use Rattle.frame.proofs.Fronts.{front}
-use borrow.Author.Rules.{rules}
 use Rattle.frame.proofs.writing.store.Goals as goal
 
 -- a reply has at least 5 bytes, and 7 where it is not short

@@ -9,7 +9,6 @@ use Rattle.frame.specs.Pick.{pick}
 use Rattle.frame.specs.Line.{put, first_bytes}
 use Rattle.frame.specs.Reply.{body_of, parity_for, reply_line, size_for, count_for}
 use Rattle.frame.proofs.Sums.{body-small}
-use borrow.Author.Rules.{rules}
 use Rattle.frame.proofs.writing.whole_line.Goals.{After-body-n, After-last_bit}
 use Rattle.frame.proofs.writing.whole_line.Goals as goal
 

@@ -3,7 +3,6 @@ use mathlib.Core.Path.{sym}
 use native.Mathlib.Omega.{arith}
 use Rattle.frame.specs.Inside.Packed.{chart_of}
 use Rattle.frame.proofs.Straight.{decimal-up}
-use borrow.Author.Rules.{rules}
 use Rattle.frame.proofs.modes.Decimal.codes.Goals as goal
 
 pub returns : goal.returns

@@ -2,7 +2,6 @@
 use mathlib.Core.Path.{ap, ◌∙◌}
 use Prim.Native.Nat.{ℕ}
 use Rattle.frame.specs.Inside.Constants.{decimal_feet, placed_at}
-use borrow.Author.Rules.{rules}
 use Rattle.frame.proofs.modes.Decimal.write.Goals as goal
 
 pub returns : goal.returns

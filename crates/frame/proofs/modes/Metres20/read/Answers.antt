@@ -1,5 +1,4 @@
 -- `frame::modes::Metres20::read` meets its contract: the constants that it hands over are those of its record. Assumes nothing.
-use borrow.Author.Rules.{rules}
 use Rattle.frame.proofs.modes.Metres20.read.Goals as goal
 
 pub returns : goal.returns
