@@ -1,6 +1,2 @@
--- The laws that the walks cite.
+-- The laws that the calls cite.
 pub mod Settled
-pub mod LendShared
-pub mod Thin
-pub mod Loading
-pub mod Callees
