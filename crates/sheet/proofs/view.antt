@@ -1,3 +1,2 @@
 -- The laws that the view's proofs cite.
-pub mod Part
 pub mod Spans

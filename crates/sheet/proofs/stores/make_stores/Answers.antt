@@ -56,10 +56,10 @@ returns c =
     let size : 9 + length a.reply.now ≡ length_of e = omega arith in
     record {
       answers = c.smaller-3.ensures ∙ ap (λ (n : ℕ). min a.allowance (n + 2)) size;
-      leaves = whole a.sheet.now c.store_row.last.0 c.store_row-2.last.0 c.store_length.last.0
+      leaves = whole a.sheet.now c.store_row.new.sheet c.store_row-2.new.sheet c.store_length.new.sheet
           a.at a.allowance a.head a.reply.now c.before_reply-bytes.result c.smaller.result
-          c.left_After.result c.smaller-2.result c.left_after.result c.requires.reply_len_bound
-          c.before_reply-bytes.ensures c.smaller.ensures c.left_After.ensures
+          c.left_after-of_reply.result c.smaller-2.result c.left_after.result c.requires.reply_len_bound
+          c.before_reply-bytes.ensures c.smaller.ensures c.left_after-of_reply.ensures
           c.smaller-2.ensures c.left_after.ensures c.store_row.ensures
           c.store_row-2.ensures c.store_length.ensures;
     }

@@ -1,6 +1,5 @@
 -- `sheet::stores::store_row` meets its contract: after i turns the sheet is the one after the first i stores of the row, or after all that are wanted. Assumes nothing.
 use mathlib.Core.Path.{◌≡◌, refl, sym, ap, ◌∙◌}
-use mathlib.Core.Logic.{⊎_elim}
 use mathlib.Core.List.{List}
 use Prim.Native.Nat.{ℕ, ◌+◌, ◌-◌, ◌<◌, ◌≤◌, min}
 use native.Mathlib.Omega.{arith}
@@ -8,6 +7,7 @@ use lib.ListN.{length, take, get_or, set}
 use Rattle.sheet.specs.Stores.{Store, ◌puts◌, made, ascending}
 use Rattle.sheet.proofs.Storing.{made-length, made_more, ascending-length, ascending-at}
 use Rattle.sheet.proofs.stores.store_row.Goals as goal
+use Rattle.sheet.proofs.stores.store_row.Goals.{then-i-many, else-i-many}
 
 -- a turn that stores
 stored : (s₀ s t : List ℕ) (at i many : ℕ) (row : List ℕ) → i < many → many ≤ length row → s ≡ made s₀ (take (min i many) (ascending at row))
@@ -57,12 +57,14 @@ loop-i-preserved c =
     let l = c.loop-i in
     let a = c.args in (
       omega arith,
-      ⊎_elim
-          (λ w. stored a.sheet.now l.sheet c.if-i-many.sheet a.at l.i a.many a.row.now w.0.taken (omega arith) l.invariant.1
-          (w.6 ∙ w.3.ensures))
-          (λ w. w.1
-          ∙ enough a.sheet.now l.sheet l.i (l.i + 1) a.many (ascending a.at a.row.now) w.0.left (omega (arith, w.0.left)) l.invariant.1)
-          c.if-i-many.branch,
+      elim c.if-i-many.branch [
+        then-i-many w ↦
+            stored a.sheet.now l.sheet c.if-i-many.sheet a.at l.i a.many a.row.now w.if-i-many.true (omega arith) l.invariant.1
+            (w.sheet-is ∙ w.store.ensures)
+      | else-i-many w ↦
+            w.sheet-is
+            ∙ enough a.sheet.now l.sheet l.i (l.i + 1) a.many (ascending a.at a.row.now) w.if-i-many.false (omega arith) l.invariant.1
+      ],
     )
 
 pub shape_of-sheet : goal.shape_of-sheet
