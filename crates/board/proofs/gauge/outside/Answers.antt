@@ -4,11 +4,6 @@ use mir.Facts.{to_z-of_z}
 use borrow.Author.Rules.{rules}
 use Rattle.board.proofs.gauge.outside.Goals as goal
 
-pub returns-in-Degrees : goal.returns-in-Degrees
-returns-in-Degrees c =
-    let t = c.t-1 in
-    simp (t.given.1, c.beyond_profile.ensures, to_z-of_z {w = w16} {z = t.given.0.0} (record { sfits = c.in-Degrees.known_told-1-own.given.0.1 }))
-
 pub returns-in-Above : goal.returns-in-Above
 returns-in-Above c = simp c.in-Above.is
 

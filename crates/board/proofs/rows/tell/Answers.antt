@@ -12,5 +12,6 @@ returns-then-row-eq0 c =
 
 pub returns : goal.returns
 returns c =
-    let row = c.args.row in
-    simp (c.refused_look-answer.ensures, c.told.ensures, c.place_told.ensures, c.heard_told.ensures, c.temperature_by-t.ensures, to_z-of_z {w = w16} {z = row.tenths} (record { sfits = c.struct_told-1.given.1.1.1.0.1 }), c.tenths_of.ensures, c.kind_of.ensures, c.marked.ensures, c.marked-2.ensures) (sym (told-some row c.if-row-eq0.false))
+    simp
+    (c.refused_look-answer.ensures, c.told.ensures, c.place_told.ensures, c.heard_told.ensures, to_z-of_z {w = w16} {z = c.tenths_of.result} (record { sfits = c.tenths_of.type_inv }), c.tenths_of.ensures, c.kind_of.ensures, c.temperature_by-t.ensures, c.marked.ensures, c.marked-2.ensures)
+    (sym (told-some c.args.row c.if-row-eq0.false))

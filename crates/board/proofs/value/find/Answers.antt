@@ -22,13 +22,13 @@ use Rattle.board.proofs.value.find.Goals.{After-on_board-spot, After-pass-s, Aft
 use Rattle.board.proofs.value.find.Goals as goal
 
 -- the array has 30 rows
-thirty : (s : Start) → length s.args.t1 ≡ 30
+thirty : (s : Start) → length s.args.held ≡ 30
 thirty s = s.well_formed.0.1.0.1
 
-thirty-at-2 : (s : After-pass-s-in-loop-i) → length s.args.t1 ≡ 30
+thirty-at-2 : (s : After-pass-s-in-loop-i) → length s.args.held ≡ 30
 thirty-at-2 s = s.well_formed.0.1.0.1
 
-thirty-at-3 : (s : After-pass-s) → length s.args.t1 ≡ 30
+thirty-at-3 : (s : After-pass-s) → length s.args.held ≡ 30
 thirty-at-3 s = s.well_formed.0.1.0.1
 
 fails : (t : Bool) → not t ≡ true → t ≡ false
@@ -46,13 +46,13 @@ pub pass-s-requires : goal.pass-s-requires
 pass-s-requires c = let inv = c.loop-i.invariant in (omega (arith, inv.1.1.1.0), omega (arith, inv.1.1.1.0))
 
 -- one row passed in a turn, and the other
-one : (c : After-pass-s) → Passing c.args.address c.args.t1 c.pass-s.result (c.loop-i.i + 1)
+one : (c : After-pass-s) → Passing c.args.address c.args.held c.pass-s.result (c.loop-i.i + 1)
 one c =
-    passes_on c.args.address c.args.t1 c.loop-i.s c.pass-s.result c.loop-i.i (omega (arith, thirty-at-3 c)) c.pass-s.ensures c.loop-i.invariant.1.1.1
+    passes_on c.args.address c.args.held c.loop-i.s c.pass-s.result c.loop-i.i (omega (arith, thirty-at-3 c)) c.pass-s.ensures c.loop-i.invariant.1.1.1
 
-one-at-2 : (c : After-pass-s-in-loop-i) → Passing c.args.address c.args.t1 c.pass-s.result (c.loop-i.i + 1)
+one-at-2 : (c : After-pass-s-in-loop-i) → Passing c.args.address c.args.held c.pass-s.result (c.loop-i.i + 1)
 one-at-2 c =
-    passes_on c.args.address c.args.t1 c.loop-i.s c.pass-s.result c.loop-i.i (omega (arith, thirty-at-2 c)) c.pass-s.ensures c.loop-i.invariant.1.1.1
+    passes_on c.args.address c.args.held c.loop-i.s c.pass-s.result c.loop-i.i (omega (arith, thirty-at-2 c)) c.pass-s.ensures c.loop-i.invariant.1.1.1
 
 -- a row out of order ends the search
 low : (a len n : ℕ) (held : List Row) (s : Search) (i : ℕ) (f : Found) → n ≡ rows_that_count len → f ≡ not_in_order n → s.kept ≡ false → Passing a held s i → FindsOn held len a f
@@ -63,7 +63,7 @@ low a len n held s i f count is k so = record {
 
 pub returns-then-not-s : goal.returns-then-not-s
 returns-then-not-s c =
-    low c.args.address c.args.len c.counted-n.result c.args.t1 c.pass-s.result (c.loop-i.i + 1) c.unkept.result c.counted-n.ensures c.unkept.ensures
+    low c.args.address c.args.len c.counted-n.result c.args.held c.pass-s.result (c.loop-i.i + 1) c.unkept.result c.counted-n.ensures c.unkept.ensures
     (fails c.pass-s.result.kept c.if-not-s.true) (one (goal.at.returns-then-not-s c).After-pass-s)
 
 pub bounds-held-i-in-loop-i : goal.bounds-held-i-in-loop-i
@@ -75,15 +75,15 @@ pass-s-requires-in-loop-i c =
     (omega (arith, (one (goal.at.pass-s-requires-in-loop-i c).After-pass-s).0), omega (arith, (one (goal.at.pass-s-requires-in-loop-i c).After-pass-s).0))
 
 two : (c : After-pass-s-in-loop-i)
-    → Passing c.args.address c.args.t1 c.pass-s-in-loop-i.result (c.loop-i.i + 2)
+    → Passing c.args.address c.args.held c.pass-s-in-loop-i.result (c.loop-i.i + 2)
 two c =
     let on : c.loop-i.i + 1 + 1 ≡ c.loop-i.i + 2 = omega arith in
-    subst (Passing c.args.address c.args.t1 c.pass-s-in-loop-i.result) on
-    (passes_on c.args.address c.args.t1 c.pass-s.result c.pass-s-in-loop-i.result (c.loop-i.i + 1) (omega (arith, thirty-at-2 c, c.loop-i.invariant.1.0)) c.pass-s-in-loop-i.ensures (one-at-2 c))
+    subst (Passing c.args.address c.args.held c.pass-s-in-loop-i.result) on
+    (passes_on c.args.address c.args.held c.pass-s.result c.pass-s-in-loop-i.result (c.loop-i.i + 1) (omega (arith, thirty-at-2 c, c.loop-i.invariant.1.0)) c.pass-s-in-loop-i.ensures (one-at-2 c))
 
 pub returns-then-not-s-2 : goal.returns-then-not-s-2
 returns-then-not-s-2 c =
-    low c.args.address c.args.len c.counted-n.result c.args.t1 c.pass-s-in-loop-i.result (c.loop-i.i + 2) c.unkept-then-not-s-2.result c.counted-n.ensures c.unkept-then-not-s-2.ensures
+    low c.args.address c.args.len c.counted-n.result c.args.held c.pass-s-in-loop-i.result (c.loop-i.i + 2) c.unkept-then-not-s-2.result c.counted-n.ensures c.unkept-then-not-s-2.ensures
     (fails c.pass-s-in-loop-i.result.kept c.if-not-s-2.true) (two (goal.at.returns-then-not-s-2 c).After-pass-s-in-loop-i)
 
 pub loop-i-preserved : goal.loop-i-preserved
@@ -115,7 +115,7 @@ returns c =
     let args = c.args in
     let z = c.loop-i.s in
     let n = c.counted-n.result in
-    let held = args.t1 in
+    let held = args.held in
     let all : z ≡ searched args.address unsearched held
     = sym (search-end args.address z held c.loop-i.i (omega (arith, thirty (goal.at.returns c).Start))) ∙ c.loop-i.invariant.1.1.1.1.1 in
     record {

@@ -20,19 +20,19 @@ abbrev by : List Row → ℕ → ℕ → Looked
 by board address n = pick (eqb n 0) (row_told (row_of address board)) (refused_look n)
 
 pub returns-then-not-f : goal.returns-then-not-f
-returns-then-not-f c = record { on = λ board finds. not-answered board _ _ _ (sym finds.order ∙ c.if-not-f.true) c.refused_look.ensures }
+returns-then-not-f c = record { on = λ board finds. not-answered board _ _ _ (sym finds.order ∙ (not-true _ c.if-not-f.true)) c.refused_look.ensures }
 
 pub returns-then-address-gt999 : goal.returns-then-address-gt999
 unfolding looked_at
 returns-then-address-gt999 c =
-    record { on = λ board finds. answered board _ _ _ (sym finds.order ∙ c.if-not-f.false) (c.refused_look-then-address-gt999.ensures ∙ sym (ap (by board c.args.address) (find-11 board _ c.if-address-gt999.true))) }
+    record { on = λ board finds. answered board _ _ _ (sym finds.order ∙ (not-false _ c.if-not-f.false)) (c.refused_look-then-address-gt999.ensures ∙ sym (ap (by board c.args.address) (find-11 board _ c.if-address-gt999.true))) }
 
 pub returns-then-f : goal.returns-then-f
 unfolding looked_at
 returns-then-f c =
     record {
       on = λ board finds.
-          let is = sym finds.order ∙ c.if-not-f.false in
+          let is = sym finds.order ∙ (not-false _ c.if-not-f.false) in
           answered board _ _ _ is (c.refused_look-then-f.ensures ∙ sym (ap (by board c.args.address) (find-17 board _ c.if-address-gt999.false (omega (arith, finds.count, finds.place is, c.if-f.true)))));
     }
 
@@ -41,7 +41,7 @@ unfolding looked_at
 returns c =
     record {
       on = λ board finds.
-          let is = sym finds.order ∙ c.if-not-f.false in
+          let is = sym finds.order ∙ (not-false _ c.if-not-f.false) in
           answered board _ _ _ is
           (c.tell.ensures ∙ ap row_told (finds.there is c.if-f.false)
           ∙ sym (ap (by board c.args.address) (find-0 board _ c.if-address-gt999.false (omega (arith, finds.count, finds.place is, c.if-f.false)))));

@@ -20,16 +20,16 @@ asked : (board : List Row) (f : Found) (address raise reset : ℕ) (t b : Bool) 
 asked board f address raise reset t b finds k l e is = sym (ap (λ (y : Row). unmarked y.gauge raise reset) (finds.there k l)) ∙ sym e ∙ is
 
 pub returns-then-not-f : goal.returns-then-not-f
-returns-then-not-f c = record { on = λ board finds. not-answered board _ _ _ (sym finds.order ∙ c.if-not-f.true) refl }
+returns-then-not-f c = record { on = λ board finds. not-answered board _ _ _ (sym finds.order ∙ (not-true _ c.if-not-f.true)) refl }
 
 pub returns-then-address-gt999 : goal.returns-then-address-gt999
-returns-then-address-gt999 c = record { on = λ board finds. answered board _ _ _ (sym finds.order ∙ c.if-not-f.false) (sym (may-11 board _ _ _ c.if-address-gt999.true)) }
+returns-then-address-gt999 c = record { on = λ board finds. answered board _ _ _ (sym finds.order ∙ (not-false _ c.if-not-f.false)) (sym (may-11 board _ _ _ c.if-address-gt999.true)) }
 
 pub returns-then-f : goal.returns-then-f
 returns-then-f c =
     record {
       on = λ board finds.
-          let is = sym finds.order ∙ c.if-not-f.false in
+          let is = sym finds.order ∙ (not-false _ c.if-not-f.false) in
           answered board _ _ _ is (sym (may-17 board _ _ _ c.if-address-gt999.false (omega (arith, finds.count, finds.place is, c.if-f.true))));
     }
 
@@ -38,7 +38,7 @@ returns-then-unmarked c =
     let s = c.args in
     record {
       on = λ board finds.
-          let is = sym finds.order ∙ c.if-not-f.false in
+          let is = sym finds.order ∙ (not-false _ c.if-not-f.false) in
           answered board _ _ _ is
           (sym (may-28 board _ _ _ c.if-address-gt999.false (omega (arith, finds.count, finds.place is, c.if-f.false)) (asked board s.f _ s.raise s.reset _ _ finds is c.if-f.false c.unmarked.ensures c.if-unmarked.true)));
     }
@@ -48,7 +48,7 @@ returns-then-at_once c =
     let s = c.args in
     record {
       on = λ board finds.
-          let is = sym finds.order ∙ c.if-not-f.false in
+          let is = sym finds.order ∙ (not-false _ c.if-not-f.false) in
           answered board _ _ _ is
           (sym (may-both board _ _ _ c.if-address-gt999.false (omega (arith, finds.count, finds.place is, c.if-f.false)) (asked board s.f _ s.raise s.reset _ _ finds is c.if-f.false c.unmarked.ensures c.if-unmarked.false) (sym c.at_once.ensures ∙ c.if-at_once.true)));
     }
@@ -58,7 +58,7 @@ returns c =
     let s = c.args in
     record {
       on = λ board finds.
-          let is = sym finds.order ∙ c.if-not-f.false in
+          let is = sym finds.order ∙ (not-false _ c.if-not-f.false) in
           answered board _ _ _ is
           (sym (may-0 board _ _ _ c.if-address-gt999.false (omega (arith, finds.count, finds.place is, c.if-f.false)) (asked board s.f _ s.raise s.reset _ _ finds is c.if-f.false c.unmarked.ensures c.if-unmarked.false) (sym c.at_once.ensures ∙ c.if-at_once.false)));
     }
