@@ -92,7 +92,7 @@ together-changed-requires c =
     let there : c.line_by-there.result ≡ line_at (s (goal.at.together-changed-requires c).After-stands_at) (at (goal.at.together-changed-requires c).After-stands_at) = c.line_by-there.ensures ∙ sym (line-there (fs (goal.at.together-changed-requires c).After-stands_at) (bs (goal.at.together-changed-requires c).After-stands_at) (h (goal.at.together-changed-requires c).After-stands_at) (thirty (goal.at.together-changed-requires c).After-stands_at) (small (goal.at.together-changed-requires c).After-stands_at) (x (goal.at.together-changed-requires c).After-stands_at) (k (goal.at.together-changed-requires c).After-stands_at) (at (goal.at.together-changed-requires c).After-stands_at) (is (goal.at.together-changed-requires c).After-stands_at) (places (goal.at.together-changed-requires c).After-stands_at) (at (goal.at.together-changed-requires c).After-stands_at)) in
     let good : c.line_by-there.result.good ≡ (line_at (s (goal.at.together-changed-requires c).After-stands_at) (at (goal.at.together-changed-requires c).After-stands_at)).good = ap (λ (l : Line). l.good) there in
     let faulty : c.line_by-there.result.faulty ≡ (line_at (s (goal.at.together-changed-requires c).After-stands_at) (at (goal.at.together-changed-requires c).After-stands_at)).faulty = ap (λ (l : Line). l.faulty) there in
-    record { good_bound = omega (arith, good, (small (goal.at.together-changed-requires c).After-stands_at).well-formed (at (goal.at.together-changed-requires c).After-stands_at) near, (one (goal.at.together-changed-requires c).After-stands_at).well-formed); faulty_bound = omega (arith, faulty, (small (goal.at.together-changed-requires c).After-stands_at).faulty (at (goal.at.together-changed-requires c).After-stands_at) near, (one (goal.at.together-changed-requires c).After-stands_at).faulty) }
+    record { good_bound = omega (arith, good, (small (goal.at.together-changed-requires c).After-stands_at).good (at (goal.at.together-changed-requires c).After-stands_at) near, (one (goal.at.together-changed-requires c).After-stands_at).good); faulty_bound = omega (arith, faulty, (small (goal.at.together-changed-requires c).After-stands_at).faulty (at (goal.at.together-changed-requires c).After-stands_at) near, (one (goal.at.together-changed-requires c).After-stands_at).faulty) }
 
 pub bounds-fronts-at-then-stands_at : goal.bounds-fronts-at-then-stands_at
 bounds-fronts-at-then-stands_at c = inside (goal.at.bounds-fronts-at-then-stands_at c).After-stands_at c.if-stands_at.true

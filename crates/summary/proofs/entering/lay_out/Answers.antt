@@ -74,7 +74,7 @@ loop-i-preserved c =
         length-set fs i c.front.result ∙ long,
         (
           length-set bs i c.back.result ∙ long-b,
-          stored fs bs c.args.t1 i c.front.result c.back.result (omega (arith, long)) (omega (arith, long-b))
+          stored fs bs c.args.lines i c.front.result c.back.result (omega (arith, long)) (omega (arith, long-b))
               (told_line _ _ _ c.front.ensures c.back.ensures) c.loop-i.invariant.1.1.1,
         ),
       ),
@@ -85,5 +85,5 @@ returns c =
     let fs = c.loop-i.fronts in
     let bs = c.loop-i.backs in
     let same : length fs ≡ length bs = c.loop-i.invariant.1.0 ∙ sym c.loop-i.invariant.1.1.0 in
-    let long : length c.args.t1 ≡ 30 = c.well_formed.0.1.0.1 in
-    let many = by_length fs bs same ∙ c.loop-i.invariant.1.0 in record { backs_after = ext_get_or blank_line (lines_by fs bs) c.args.t1 (many ∙ sym long) (λ k h. by-at fs bs same k ∙ c.loop-i.invariant.1.1.1 k (omega (arith, many))); thirty = record { fronts = c.loop-i.invariant.1.0; backs = c.loop-i.invariant.1.1.0 } }
+    let long : length c.args.lines ≡ 30 = c.well_formed.0.1.0.1 in
+    let many = by_length fs bs same ∙ c.loop-i.invariant.1.0 in record { backs_after = ext_get_or blank_line (lines_by fs bs) c.args.lines (many ∙ sym long) (λ k h. by-at fs bs same k ∙ c.loop-i.invariant.1.1.1 k (omega (arith, many))); thirty = record { fronts = c.loop-i.invariant.1.0; backs = c.loop-i.invariant.1.1.0 } }

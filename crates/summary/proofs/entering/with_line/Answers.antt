@@ -21,7 +21,7 @@ module _ (l : After-lay_out) where
   abbrev s : Summary
   s = l.args.s
 
-  same : held_as l.lay_out.last.1.0 l.lay_out.last.1.1.0 (record { count = s.count; others = s.others; fault = 0 }) ≡ s
+  same : held_as l.lay_out.new.fronts l.lay_out.new.backs (record { count = s.count; others = s.others; fault = 0 }) ≡ s
   same = ap (λ (ls : List Line). record { count = s.count; others = s.others; lines = ls }) l.lay_out.ensures.backs_after
 
 pub enter-then-requires : goal.enter-then-requires
