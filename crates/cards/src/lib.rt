@@ -1,5 +1,5 @@
-// What the programs of the desk read a card with: its bytes from a descriptor, a count of what its slots hold, and words on standard error where it is
-// no card to go by.
+// What the programs of the desk read a card with: its bytes from a file or from standard input, a count of what its slots hold, and words on standard error
+// where it is no card to go by.
 #![tactic(auto)]
 
 mod counting;

@@ -1,7 +1,9 @@
-// The bytes of a card, read from a descriptor.
-ghost use Rattle.std.specs.Prelude.{◌-◌, ◌≤◌, length};
+// The bytes of a card, read from a file or from standard input.
+ghost use Rattle.std.specs.Prelude.{◌-◌, ◌≤◌, length, IfOk};
 ghost use Rattle.io.specs.Counts.{IsPrefixLen};
-ghost use Rattle.libc.specs.Io.{Moved};
+
+use std::io;
+use std::io::Read;
 
 // How many bytes were read, and whether a read failed.
 #[derive(Clone, Copy)]
@@ -11,27 +13,24 @@ pub struct Input {
 }
 
 // One read into the buffer after its first bytes.
-fn read_more(fd: i32, bytes: &mut [u8], size: usize) -> isize
+fn read_more<R: Read>(reader: &mut R, bytes: &mut [u8], size: usize) -> io::Result<usize>
     requires { size ≤ length bytes.old }
-    ensures { Moved (length bytes.old - size) result }
+    ensures { IfOk result (λ n. n ≤ length bytes.old - size) }
 {
-    libc::read(fd, &mut bytes[size..])
+    reader.read(&mut bytes[size..])
 }
 
 // Reads until the input ends, a read fails or the buffer is full. A buffer of one byte more than the largest sheet tells a larger input.
-pub fn read_card(fd: i32, bytes: &mut [u8]) -> Input
+pub fn read_card<R: Read>(reader: &mut R, bytes: &mut [u8]) -> Input
     ensures { IsPrefixLen result.size bytes.new }
 {
     let mut size = 0;
     while size < bytes.len() {
-        let got = read_more(fd, bytes, size);
-        if got <= 0 {
-            return Input {
-                size,
-                failed: got < 0,
-            };
+        match read_more(reader, bytes, size) {
+            Ok(0) => break,
+            Ok(got) => size += got,
+            Err(_) => return Input { size, failed: true },
         }
-        size += io::count(got, bytes);
     }
     Input {
         size,

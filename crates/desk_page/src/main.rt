@@ -10,13 +10,14 @@ mod levels;
 mod pages;
 mod table;
 
-fn main() {
-    let page = pages::read_all();
+use std::io;
+
+fn main(rt: HostRuntime) -> io::Result<()> {
+    let page = pages::read_all(&rt, &rt.stderr())?;
     if page.status == 0 {
-        let summary = page.summary;
-        table::print(summary);
+        table::print(&rt, page.summary)?;
     }
-    print::words(b"status ");
-    print::number(page.status as u64);
-    print::words(b"\n");
+    print::words(&rt, b"status ")?;
+    print::number(&rt, page.status as u64)?;
+    print::words(&rt, b"\n")
 }

@@ -2,63 +2,67 @@
 use crate::columns::column;
 use crate::levels::level;
 use print::{number, words};
+use std::io;
 use summary::{Line, Summary};
 
 // The mode, all equally long.
-fn mode(settings: u16) {
+fn mode(rt: &impl Print, settings: u16) -> io::Result<()> {
     match settings % 4 {
-        0 => words(b"  fractional"),
-        1 => words(b"  decimal   "),
-        2 => words(b"  20 m      "),
-        _ => words(b"  30 m      "),
+        0 => words(rt, b"  fractional"),
+        1 => words(rt, b"  decimal   "),
+        2 => words(rt, b"  20 m      "),
+        _ => words(rt, b"  30 m      "),
     }
 }
 
 // The type of the transmitter and its parity.
-fn kind(settings: u16) {
+fn kind(rt: &impl Print, settings: u16) -> io::Result<()> {
     match (settings / 4) % 4 {
-        0 => words(b"  1900 even"),
-        1 => words(b"  1800 even"),
-        2 => words(b"  1900 odd "),
-        _ => words(b"  1800 odd "),
+        0 => words(rt, b"  1900 even"),
+        1 => words(rt, b"  1800 even"),
+        2 => words(rt, b"  1900 odd "),
+        _ => words(rt, b"  1800 odd "),
     }
 }
 
-fn row(line: Line) {
-    column(line.address as u32, 7);
-    mode(line.settings);
-    kind(line.settings);
-    level(line.lowest, line.settings);
-    level(line.highest, line.settings);
-    column(line.good, 8);
-    column(line.faulty, 8);
-    words(b"\n");
+fn row(rt: &impl Print, line: Line) -> io::Result<()> {
+    column(rt, line.address as u32, 7)?;
+    mode(rt, line.settings)?;
+    kind(rt, line.settings)?;
+    level(rt, line.lowest, line.settings)?;
+    level(rt, line.highest, line.settings)?;
+    column(rt, line.good, 8)?;
+    column(rt, line.faulty, 8)?;
+    words(rt, b"\n")
 }
 
 // A row for each line that is used.
-fn rows(page: Summary) {
+fn rows(rt: &impl Print, page: Summary) -> io::Result<()> {
     let lines = page.lines;
     let n = page.count as usize;
-    let mut i: usize = 0;
-    while i < 30 {
+    for i in 0..30 {
         if i < n {
-            row(lines[i]);
+            row(rt, lines[i])?;
         }
-        i += 1;
     }
+    Ok(())
 }
 
 // Records that have no row, and why.
-fn others(n: u32) {
-    words(b"\nothers ");
-    number(n as u64);
-    words(b": records on no row, whose address and settings came when all 30 rows were taken\n");
+fn others(rt: &impl Print, n: u32) -> io::Result<()> {
+    words(rt, b"\nothers ")?;
+    number(rt, n as u64)?;
+    words(
+        rt,
+        b": records on no row, whose address and settings came when all 30 rows were taken\n",
+    )
 }
 
-pub(crate) fn print(page: Summary) {
+pub(crate) fn print(rt: &impl Print, page: Summary) -> io::Result<()> {
     words(
+        rt,
         b"\naddress  mode        type                  lowest            highest    good  faulty\n",
-    );
-    rows(page);
-    others(page.others);
+    )?;
+    rows(rt, page)?;
+    others(rt, page.others)
 }

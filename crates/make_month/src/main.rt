@@ -6,6 +6,7 @@ mod replies;
 mod tanks;
 
 use frame::Written;
+use std::io;
 
 // The stores that the power holds for at this poll: more than any save needs, but for a few cuts.
 fn allowance(n: u16) -> usize {
@@ -74,15 +75,13 @@ fn poll(sheet: &mut [u8], n: u16) {
 }
 
 fn month(sheet: &mut [u8]) {
-    let mut n: u16 = 0;
-    while n < 1860 {
+    for n in 0..1860 {
         poll(sheet, n);
-        n += 1;
     }
 }
 
-fn main() {
+fn main(rt: HostRuntime) -> io::Result<()> {
     let mut card = [0xffu8; 65536];
     month(&mut card);
-    io::write_all(1, &card);
+    rt.write_all(&card)
 }

@@ -62,10 +62,8 @@ fn at_first(i: u16) -> u16 {
 // What tank i holds at a round, counted on from the first.
 pub(crate) fn held(i: u16, round: u16) -> u16 {
     let mut held = at_first(i);
-    let mut r: u16 = 0;
-    while r < round {
+    for r in 0..round {
         held = next(i, r, held);
-        r += 1;
     }
     held
 }

@@ -1,10 +1,10 @@
 // What the programs print with, on standard output: words, numbers, and bytes as numbers or in hexadecimal; and the part of an array that is printed.
 #![tactic(auto)]
 
-use libc::STDOUT_FILENO;
+use std::io;
 
-pub fn words(text: &[u8]) {
-    io::write_all(STDOUT_FILENO, text);
+pub fn words(rt: &impl Print, text: &[u8]) -> io::Result<()> {
+    rt.write_all(text)
 }
 
 // The first k bytes, or all where there are fewer.
@@ -15,34 +15,32 @@ pub fn first(s: &[u8], k: usize) -> &[u8] {
     s
 }
 
-pub fn number(n: u64) {
-    io::print_decimal(STDOUT_FILENO, n);
+pub fn number(rt: &impl Print, n: u64) -> io::Result<()> {
+    rt.print(n)
 }
 
-fn one(b: u8, decimal: bool) {
-    words(b" ");
+fn one(rt: &impl Print, b: u8, decimal: bool) -> io::Result<()> {
     if decimal {
-        number(b as u64);
+        print!(rt; " {b}")
     } else {
-        io::print_hex(STDOUT_FILENO, b as u64, 2);
+        print!(rt; " {b:02x}")
     }
 }
 
 // Each byte after a space.
-fn each(s: &[u8], decimal: bool) {
-    let mut i = 0;
-    while i < s.len() {
-        one(s[i], decimal);
-        i += 1;
+fn each(rt: &impl Print, s: &[u8], decimal: bool) -> io::Result<()> {
+    for b in s {
+        one(rt, *b, decimal)?;
     }
+    Ok(())
 }
 
 // Bytes in hexadecimal.
-pub fn bytes(s: &[u8]) {
-    each(s, false);
+pub fn bytes(rt: &impl Print, s: &[u8]) -> io::Result<()> {
+    each(rt, s, false)
 }
 
 // Bytes as numbers.
-pub fn numbers(s: &[u8]) {
-    each(s, true);
+pub fn numbers(rt: &impl Print, s: &[u8]) -> io::Result<()> {
+    each(rt, s, true)
 }

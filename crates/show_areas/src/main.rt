@@ -5,10 +5,12 @@
 mod plans;
 mod sites;
 
-fn main() {
-    print::words(b"proposed plans\n");
-    sites::small();
-    sites::alike();
-    print::words(b"a fitter's plans for 5000/0 5000/0 1/0\n");
-    sites::drawn();
+use std::io;
+
+fn main(rt: HostRuntime) -> io::Result<()> {
+    print::words(&rt, b"proposed plans\n")?;
+    sites::small(&rt)?;
+    sites::alike(&rt)?;
+    print::words(&rt, b"a fitter's plans for 5000/0 5000/0 1/0\n")?;
+    sites::drawn(&rt)
 }

@@ -8,43 +8,47 @@ mod dates;
 mod rows;
 
 use calendar::Day;
-use libc::{STDERR_FILENO, STDIN_FILENO};
+use std::env::FillError;
+use std::io;
+use std::rt::Env;
 
 // Prints the records of the card on standard input, and answers the status.
-fn show(dated: bool, begin: Day) -> u8 {
+fn show(rt: &(impl Input + Print), err: &impl Print, dated: bool, begin: Day) -> io::Result<u8> {
     let mut bytes = [0u8; 65537];
-    let input = cards::read_card(STDIN_FILENO, &mut bytes);
+    let input = cards::read_card(&mut rt.reader(), &mut bytes);
     let size = input.size;
     let tally = cards::count(&bytes[..size]);
-    if !cards::is_card(b"standard input", input, tally) {
-        return 1;
+    if !cards::is_card(err, b"standard input", input, tally)? {
+        return Ok(1);
     }
-    rows::heading(dated);
-    rows::all(&bytes[..size], dated, begin);
-    0
+    rows::heading(rt, dated)?;
+    rows::all(rt, &bytes[..size], dated, begin)?;
+    Ok(0)
 }
 
-// The same by the argument, where there is one.
-fn by_argument() -> u8 {
-    if os::arg_count() < 2 {
-        return show(false, calendar::no_day());
-    }
-    let mut text = [0u8; 16];
-    let size = os::arg(1, &mut text);
-    let begin = calendar::day_in(&text[..size]);
+// The same with dates, where the text of an argument is a day.
+fn show_dated(rt: &(impl Input + Print), err: &impl Print, text: &[u8]) -> io::Result<u8> {
+    let begin = calendar::day_in(text);
     if begin.day == 0 {
-        io::write_all(
-            STDERR_FILENO,
-            b"that is no day of the calendar; one is written 2026-11-01\n",
-        );
-        return 2;
+        err.write_all(b"that is no day of the calendar; one is written 2026-11-01\n")?;
+        return Ok(2);
     }
-    show(true, begin)
+    show(rt, err, true, begin)
 }
 
-fn main() {
-    let status = by_argument();
-    print::words(b"status ");
-    print::number(status as u64);
-    print::words(b"\n");
+// The same by the argument, where there is one. One that is longer than a day is none.
+fn by_argument(rt: &(impl Env + Input + Print), err: &impl Print) -> io::Result<u8> {
+    let mut text = [0u8; 16];
+    match rt.arg(1, &mut text) {
+        Ok(size) => show_dated(rt, err, &text[..size]),
+        Err(FillError::TooLong) => show_dated(rt, err, b""),
+        Err(FillError::NotPresent) => show(rt, err, false, calendar::no_day()),
+    }
+}
+
+fn main(rt: HostRuntime) -> io::Result<()> {
+    let status = by_argument(&rt, &rt.stderr())?;
+    print::words(&rt, b"status ")?;
+    print::number(&rt, status as u64)?;
+    print::words(&rt, b"\n")
 }

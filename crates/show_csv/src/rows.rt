@@ -6,134 +6,138 @@ use calendar::Day;
 use frame::{Reading, Reply, Temperature, is_plus, magnitude};
 use print::{number, words};
 use sheet::{Found, Head, look};
+use std::io;
 
-pub(crate) fn heading(dated: bool) {
-    words(b"slot,");
+pub(crate) fn heading(rt: &impl Print, dated: bool) -> io::Result<()> {
+    words(rt, b"slot,")?;
     if dated {
-        words(b"time");
+        words(rt, b"time")?;
     } else {
-        words(b"minute");
+        words(rt, b"minute")?;
     }
-    words(b",address,mode,type,parity,level,unit,temperature,alarm 1,alarm 0,fault\n");
+    words(
+        rt,
+        b",address,mode,type,parity,level,unit,temperature,alarm 1,alarm 0,fault\n",
+    )
 }
 
 // Mode, type and parity.
-fn settings(byte: u8) {
+fn settings(rt: &impl Print, byte: u8) -> io::Result<()> {
     match byte % 4 {
-        0 => words(b"fractional,"),
-        1 => words(b"decimal,"),
-        2 => words(b"20 m,"),
-        _ => words(b"30 m,"),
+        0 => words(rt, b"fractional,")?,
+        1 => words(rt, b"decimal,")?,
+        2 => words(rt, b"20 m,")?,
+        _ => words(rt, b"30 m,")?,
     }
     match (byte / 4) % 4 {
-        0 => words(b"1900,even,"),
-        1 => words(b"1800,even,"),
-        2 => words(b"1900,odd,"),
-        _ => words(b"1800,odd,"),
+        0 => words(rt, b"1900,even,"),
+        1 => words(rt, b"1800,even,"),
+        2 => words(rt, b"1900,odd,"),
+        _ => words(rt, b"1800,odd,"),
     }
 }
 
 // The digits behind a point: as many as are asked for, of the last four of a number.
-fn behind(n: u32, digits: u8) {
-    words(b".");
+fn behind(rt: &impl Print, n: u32, digits: u8) -> io::Result<()> {
+    words(rt, b".")?;
     if 3 < digits {
-        number((n / 1000 % 10) as u64);
+        number(rt, (n / 1000 % 10) as u64)?;
     }
     if 2 < digits {
-        number((n / 100 % 10) as u64);
+        number(rt, (n / 100 % 10) as u64)?;
     }
-    number((n / 10 % 10) as u64);
-    number((n % 10) as u64);
+    number(rt, (n / 10 % 10) as u64)?;
+    number(rt, (n % 10) as u64)
 }
 
 // A level and its unit: inches, whose sixteenths are 0.0625, feet or metres.
-fn level(n: u16, byte: u8) {
+fn level(rt: &impl Print, n: u16, byte: u8) -> io::Result<()> {
     let wide = n as u32;
     match byte % 4 {
         0 => {
-            number((wide / 16) as u64);
-            behind(wide % 16 * 625, 4);
-            words(b",in,");
+            number(rt, (wide / 16) as u64)?;
+            behind(rt, wide % 16 * 625, 4)?;
+            words(rt, b",in,")
         }
         1 => {
-            number((wide / 100) as u64);
-            behind(wide % 100, 2);
-            words(b",ft,");
+            number(rt, (wide / 100) as u64)?;
+            behind(rt, wide % 100, 2)?;
+            words(rt, b",ft,")
         }
         _ => {
-            number((wide / 1000) as u64);
-            behind(wide % 1000, 3);
-            words(b",m,");
+            number(rt, (wide / 1000) as u64)?;
+            behind(rt, wide % 1000, 3)?;
+            words(rt, b",m,")
         }
     }
 }
 
-fn degrees(tenths: i16) {
+fn degrees(rt: &impl Print, tenths: i16) -> io::Result<()> {
     if !is_plus(tenths) {
-        words(b"-");
+        words(rt, b"-")?;
     }
     let n = magnitude(tenths);
-    number(n / 10);
-    words(b".");
-    number(n % 10);
+    number(rt, n / 10)?;
+    words(rt, b".")?;
+    number(rt, n % 10)
 }
 
 // Nothing where the reply has no temperature.
-fn temperature(t: Temperature) {
+fn temperature(rt: &impl Print, t: Temperature) -> io::Result<()> {
     match t {
-        Temperature::Degrees(tenths) => degrees(tenths),
-        Temperature::Above => words(b"above"),
-        Temperature::Below => words(b"below"),
-        Temperature::Absent => words(b""),
+        Temperature::Degrees(tenths) => degrees(rt, tenths),
+        Temperature::Above => words(rt, b"above"),
+        Temperature::Below => words(rt, b"below"),
+        Temperature::Absent => words(rt, b""),
     }
 }
 
-fn flag(on: bool) {
+fn flag(rt: &impl Print, on: bool) -> io::Result<()> {
     if on {
-        words(b",1");
+        words(rt, b",1")
     } else {
-        words(b",0");
+        words(rt, b",0")
     }
 }
 
-fn reading(r: Reading, byte: u8) {
+fn reading(rt: &impl Print, r: Reading, byte: u8) -> io::Result<()> {
     let t = r.temperature;
-    level(r.level, byte);
-    temperature(t);
-    flag(r.alarm1);
-    flag(r.alarm0);
-    words(b",\n");
+    level(rt, r.level, byte)?;
+    temperature(rt, t)?;
+    flag(rt, r.alarm1)?;
+    flag(rt, r.alarm0)?;
+    words(rt, b",\n")
 }
 
 // A fault in words; 7 is told with its digit.
-fn fault(n: u8) {
+fn fault(rt: &impl Print, n: u8) -> io::Result<()> {
     match n {
-        1 => words(b"no reply"),
-        2 => words(b"wrong length"),
-        3 => words(b"no start bit"),
-        4 => words(b"wrong address"),
-        5 => words(b"wrong parity"),
-        6 => words(b"fill bit set"),
-        8 => words(b"level out of range"),
-        9 => words(b"unreadable temperature"),
-        _ => words(b"unreadable digit"),
+        1 => words(rt, b"no reply"),
+        2 => words(rt, b"wrong length"),
+        3 => words(rt, b"no start bit"),
+        4 => words(rt, b"wrong address"),
+        5 => words(rt, b"wrong parity"),
+        6 => words(rt, b"fill bit set"),
+        8 => words(rt, b"level out of range"),
+        9 => words(rt, b"unreadable temperature"),
+        _ => words(rt, b"unreadable digit"),
     }
 }
 
 // What a reply reads as. A faulty one has no level, temperature and alarms.
-fn reply(byte: u8, address: u16, count: usize, bytes: &[u8]) {
+fn reply(rt: &impl Print, byte: u8, address: u16, count: usize, bytes: &[u8]) -> io::Result<()> {
     let read = frame::read_reply(byte, address, count, bytes);
     match read {
-        Reply::Read(r) => reading(r, byte),
+        Reply::Read(r) => reading(rt, r, byte),
         Reply::Refused(n) => {
-            words(b",,,,,");
-            fault(n);
-            words(b"\n");
+            words(rt, b",,,,,")?;
+            fault(rt, n)?;
+            words(rt, b"\n")
         }
         Reply::Unreadable(place) => {
-            words(b",,,,,unreadable digit ");
-            number(place as u64);
-            words(b"\n");
+            words(rt, b",,,,,unreadable digit ")?;
+            number(rt, place as u64)?;
+            words(rt, b"\n")
         }
     }
 }
@@ -149,41 +153,48 @@ fn size_of(count: usize) -> usize
 }
 
 // What the reply of a record reads as.
-fn reply_of(head: Head, bytes: [u8; 8]) {
+fn reply_of(rt: &impl Print, head: Head, bytes: [u8; 8]) -> io::Result<()> {
     let size = size_of(head.count);
-    reply(head.settings, head.address, head.count, &bytes[..size]);
+    reply(rt, head.settings, head.address, head.count, &bytes[..size])
 }
 
-fn row(k: usize, head: Head, bytes: [u8; 8], dated: bool, begin: Day) {
-    number(k as u64);
-    words(b",");
+fn row(
+    rt: &impl Print,
+    k: usize,
+    head: Head,
+    bytes: [u8; 8],
+    dated: bool,
+    begin: Day,
+) -> io::Result<()> {
+    number(rt, k as u64)?;
+    words(rt, b",")?;
     if dated {
-        dates::time(begin, head.minute);
+        dates::time(rt, begin, head.minute)?;
     } else {
-        number(head.minute as u64);
+        number(rt, head.minute as u64)?;
     }
-    words(b",");
-    number(head.address as u64);
-    words(b",");
-    settings(head.settings);
-    reply_of(head, bytes);
+    words(rt, b",")?;
+    number(rt, head.address as u64)?;
+    words(rt, b",")?;
+    settings(rt, head.settings)?;
+    reply_of(rt, head, bytes)
 }
 
 // The line of a slot, where it holds a record.
-fn slot(sheet: &[u8], k: usize, dated: bool, begin: Day) {
+fn slot(rt: &impl Print, sheet: &[u8], k: usize, dated: bool, begin: Day) -> io::Result<()> {
     let looked = look(sheet, k);
     let found = looked.found;
     let bytes = looked.reply;
     if let Found::Record(head) = found {
-        row(k, head, bytes, dated, begin);
+        row(rt, k, head, bytes, dated, begin)?;
     }
+    Ok(())
 }
 
-pub(crate) fn all(sheet: &[u8], dated: bool, begin: Day) {
+pub(crate) fn all(rt: &impl Print, sheet: &[u8], dated: bool, begin: Day) -> io::Result<()> {
     let slots = sheet.len() / 32;
-    let mut k: usize = 0;
-    while k < slots {
-        slot(sheet, k, dated, begin);
-        k += 1;
+    for k in 0..slots {
+        slot(rt, sheet, k, dated, begin)?;
     }
+    Ok(())
 }

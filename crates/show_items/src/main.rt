@@ -5,14 +5,16 @@
 mod show;
 mod vectors;
 
-fn main() {
-    print::words(b"asked and answered\n");
-    vectors::kinds();
-    print::words(b"the ends of each range\n");
-    vectors::ends();
-    print::words(b"refused when written\n");
-    vectors::unwritten();
-    print::words(b"refused when read\n");
-    vectors::unframed();
-    vectors::no_item();
+use std::io;
+
+fn main(rt: HostRuntime) -> io::Result<()> {
+    print::words(&rt, b"asked and answered\n")?;
+    vectors::kinds(&rt)?;
+    print::words(&rt, b"the ends of each range\n")?;
+    vectors::ends(&rt)?;
+    print::words(&rt, b"refused when written\n")?;
+    vectors::unwritten(&rt)?;
+    print::words(&rt, b"refused when read\n")?;
+    vectors::unframed(&rt)?;
+    vectors::no_item(&rt)
 }

@@ -1,95 +1,96 @@
 // An item record shown: the bytes that it is written as, and what they read as.
 use enraf::ItemTold;
+use std::io;
 
-fn fault(number: u8) {
-    print::words(b" fault ");
-    print::number(number as u64);
-    print::words(b"\n");
+fn fault(rt: &impl Print, number: u8) -> io::Result<()> {
+    print::words(rt, b" fault ")?;
+    print::number(rt, number as u64)?;
+    print::words(rt, b"\n")
 }
 
-fn kind(kind: u8) {
+fn kind(rt: &impl Print, kind: u8) -> io::Result<()> {
     match kind {
-        1 => print::words(b" alone"),
-        2 => print::words(b" setting"),
-        3 => print::words(b" taken"),
-        4 => print::words(b" setting taken"),
-        5 => print::words(b" value"),
-        6 => print::words(b" error"),
-        _ => print::words(b" ?"),
+        1 => print::words(rt, b" alone"),
+        2 => print::words(rt, b" setting"),
+        3 => print::words(rt, b" taken"),
+        4 => print::words(rt, b" setting taken"),
+        5 => print::words(rt, b" value"),
+        6 => print::words(rt, b" error"),
+        _ => print::words(rt, b" ?"),
     }
 }
 
 // The first k characters of an item's data.
-fn data(characters: [u8; 16], k: usize) {
-    print::words(print::first(&characters, k));
+fn data(rt: &impl Print, characters: [u8; 16], k: usize) -> io::Result<()> {
+    print::words(rt, print::first(&characters, k))
 }
 
 // What an accepted record tells, in words.
-fn told(t: ItemTold) {
+fn told(rt: &impl Print, t: ItemTold) -> io::Result<()> {
     let letters = [t.first, t.second];
     let characters = t.characters;
-    print::words(b" CIU ");
-    print::number(t.ciu as u64);
-    print::words(b" gauge ");
-    print::number(t.gauge as u64);
-    print::words(b" item ");
-    print::words(&letters);
-    kind(t.kind);
+    print::words(rt, b" CIU ")?;
+    print::number(rt, t.ciu as u64)?;
+    print::words(rt, b" gauge ")?;
+    print::number(rt, t.gauge as u64)?;
+    print::words(rt, b" item ")?;
+    print::words(rt, &letters)?;
+    kind(rt, t.kind)?;
     if t.length != 0 {
-        print::words(b" \"");
-        data(characters, t.length as usize);
-        print::words(b"\"");
+        print::words(rt, b" \"")?;
+        data(rt, characters, t.length as usize)?;
+        print::words(rt, b"\"")?;
     }
     if t.kind == 6 {
-        print::words(b" ");
-        print::number(t.error as u64);
+        print::words(rt, b" ")?;
+        print::number(rt, t.error as u64)?;
     }
-    print::words(b"\n");
+    print::words(rt, b"\n")
 }
 
-fn answer(t: ItemTold) {
+fn answer(rt: &impl Print, t: ItemTold) -> io::Result<()> {
     if t.number != 0 {
-        fault(t.number);
+        fault(rt, t.number)
     } else {
-        told(t);
+        told(rt, t)
     }
 }
 
 // Writes an item, prints the bytes, reads them back and prints what they tell.
 pub(crate) fn both_ways(
+    rt: &impl Print,
     ciu: u16,
     gauge: u16,
     letters: &[u8; 2],
     kind: u8,
     error: u16,
     data: &[u8],
-) {
+) -> io::Result<()> {
     let mut out = [0u8; 28];
     let done = enraf::sisal_write_item(
         ciu, gauge, letters[0], letters[1], kind, error, data, &mut out,
     );
     let count = done.count;
     if done.number != 0 {
-        print::words(b"write");
-        fault(done.number);
-        return;
+        print::words(rt, b"write")?;
+        return fault(rt, done.number);
     }
-    print::words(b"write");
-    print::bytes(print::first(&out, count));
-    print::words(b"\n read");
-    answer(enraf::sisal_read_item(print::first(&out, count)));
+    print::words(rt, b"write")?;
+    print::bytes(rt, print::first(&out, count))?;
+    print::words(rt, b"\n read")?;
+    answer(rt, enraf::sisal_read_item(print::first(&out, count)))
 }
 
 // An output of nine bytes is one too few for any record.
-pub(crate) fn no_room() {
+pub(crate) fn no_room(rt: &impl Print) -> io::Result<()> {
     let mut out = [0u8; 9];
     let done = enraf::sisal_write_item(5, 1, b'B', b'L', 1, 0, b"", &mut out);
-    print::words(b"write");
-    fault(done.number);
+    print::words(rt, b"write")?;
+    fault(rt, done.number)
 }
 
-pub(crate) fn read(name: &[u8], bytes: &[u8]) {
-    print::words(name);
-    print::words(b":");
-    answer(enraf::sisal_read_item(bytes));
+pub(crate) fn read(rt: &impl Print, name: &[u8], bytes: &[u8]) -> io::Result<()> {
+    print::words(rt, name)?;
+    print::words(rt, b":")?;
+    answer(rt, enraf::sisal_read_item(bytes))
 }

@@ -8,15 +8,20 @@ mod draw;
 mod spoken;
 mod words;
 
-fn main() {
+use std::io;
+
+fn main(rt: HostRuntime) -> io::Result<()> {
+    let rt = &rt;
     words::title(
+        rt,
         b"What is heard, least 2, most 3, gap 4. A dot is idle, M mark low, S space low, B both low, ? a byte above 3.\n",
-    );
-    damage::all();
-    words::title(b"\nA poll drawn, low 2, still 3, and heard again.\n");
-    spoken::all();
+    )?;
+    damage::all(rt)?;
+    words::title(rt, b"\nA poll drawn, low 2, still 3, and heard again.\n")?;
+    spoken::all(rt)?;
     words::title(
+        rt,
         b"\nThe checks: least, most, gap; what was told; samples taken; bits, run, count, line and fault of the state after.\n",
-    );
-    checks::all();
+    )?;
+    checks::all(rt)
 }

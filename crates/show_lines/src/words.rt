@@ -1,75 +1,73 @@
 // What the program says.
-use libc::STDOUT_FILENO;
 use lines::{LinesTold, SoFar};
+use std::io;
 
-pub(crate) fn title(text: &[u8]) {
-    print::words(text);
+pub(crate) fn title(rt: &impl Print, text: &[u8]) -> io::Result<()> {
+    print::words(rt, text)
 }
 
-fn after(text: &[u8], n: u64) {
-    print::words(text);
-    print::number(n);
+fn after(rt: &impl Print, text: &[u8], n: u64) -> io::Result<()> {
+    print::words(rt, text)?;
+    print::number(rt, n)
 }
 
 // The bytes of a message.
-fn message(told: LinesTold) {
+fn message(rt: &impl Print, told: LinesTold) -> io::Result<()> {
     let bytes = told.message;
-    print::bytes(print::first(&bytes, (told.count as usize + 7) / 8));
+    print::bytes(rt, print::first(&bytes, (told.count as usize + 7) / 8))
 }
 
 // A message, a report, or nothing.
-pub(crate) fn told(told: LinesTold) {
+pub(crate) fn told(rt: &impl Print, told: LinesTold) -> io::Result<()> {
     if told.number != 0 {
-        after(b"number ", told.number as u64);
-        return;
+        return after(rt, b"number ", told.number as u64);
     }
     if told.count == 0 {
-        print::words(b"nothing");
-        return;
+        return print::words(rt, b"nothing");
     }
-    after(b"", told.count as u64);
+    after(rt, b"", told.count as u64)?;
     if told.count == 1 {
-        print::words(b" bit:");
+        print::words(rt, b" bit:")?;
     } else {
-        print::words(b" bits:");
+        print::words(rt, b" bits:")?;
     }
-    message(told);
+    message(rt, told)
 }
 
-pub(crate) fn state(s: SoFar) {
-    print::words(b"; ");
-    io::print_hex(STDOUT_FILENO, s.bits, 16);
-    after(b" ", s.run as u64);
-    after(b" ", s.count as u64);
-    after(b" ", s.line as u64);
-    after(b" ", s.fault as u64);
-    print::words(b"\n");
+pub(crate) fn state(rt: &impl Print, s: SoFar) -> io::Result<()> {
+    let bits = s.bits;
+    print!(rt; "; {bits:016x}")?;
+    after(rt, b" ", s.run as u64)?;
+    after(rt, b" ", s.count as u64)?;
+    after(rt, b" ", s.line as u64)?;
+    after(rt, b" ", s.fault as u64)?;
+    print::words(rt, b"\n")
 }
 
-pub(crate) fn taken(n: usize) {
-    after(b", after ", n as u64);
-    print::words(b" samples\n");
+pub(crate) fn taken(rt: &impl Print, n: usize) -> io::Result<()> {
+    after(rt, b", after ", n as u64)?;
+    print::words(rt, b" samples\n")
 }
 
 // What a poll that was heard asks for.
-pub(crate) fn poll(address: u16) {
-    after(b", a poll of address ", address as u64);
-    print::words(b"\n");
+pub(crate) fn poll(rt: &impl Print, address: u16) -> io::Result<()> {
+    after(rt, b", a poll of address ", address as u64)?;
+    print::words(rt, b"\n")
 }
 
-pub(crate) fn refused(number: u8) {
-    after(b", number ", number as u64);
-    print::words(b"\n");
+pub(crate) fn refused(rt: &impl Print, number: u8) -> io::Result<()> {
+    after(rt, b", number ", number as u64)?;
+    print::words(rt, b"\n")
 }
 
-pub(crate) fn taken_of(n: usize, all: usize) {
-    after(b"; ", n as u64);
-    after(b" of ", all as u64);
+pub(crate) fn taken_of(rt: &impl Print, n: usize, all: usize) -> io::Result<()> {
+    after(rt, b"; ", n as u64)?;
+    after(rt, b" of ", all as u64)
 }
 
-pub(crate) fn numbers(least: usize, most: usize, gap: usize) {
-    after(b"", least as u64);
-    after(b" ", most as u64);
-    after(b" ", gap as u64);
-    print::words(b": ");
+pub(crate) fn numbers(rt: &impl Print, least: usize, most: usize, gap: usize) -> io::Result<()> {
+    after(rt, b"", least as u64)?;
+    after(rt, b" ", most as u64)?;
+    after(rt, b" ", gap as u64)?;
+    print::words(rt, b": ")
 }

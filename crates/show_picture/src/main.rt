@@ -10,7 +10,9 @@ ghost use Rattle.std.specs.Prelude.{◌≤◌, length};
 
 use calendar::Day;
 use frame::Written;
-use libc::{STDERR_FILENO, STDIN_FILENO, STDOUT_FILENO};
+use std::env::FillError;
+use std::io;
+use std::rt::Env;
 
 // Puts the page of a sheet into an output, and answers how many bytes it has; none where the page is refused.
 fn put_page(sheet: &[u8], name: &[u8], begin: Day, out: &mut [u8]) -> usize
@@ -24,69 +26,73 @@ fn put_page(sheet: &[u8], name: &[u8], begin: Day, out: &mut [u8]) -> usize
 }
 
 // The output is long enough for the page of the largest sheet with the longest name, so nothing is refused, and it is written at once.
-fn print_page(sheet: &[u8], name: &[u8], begin: Day) {
+fn print_page(rt: &impl Print, sheet: &[u8], name: &[u8], begin: Day) -> io::Result<()> {
     let mut out = [0u8; 1_432_000];
     let size = put_page(sheet, name, begin, &mut out);
-    io::write_all(STDOUT_FILENO, &out[..size]);
+    rt.write_all(&out[..size])
 }
 
 // Prints the page of the card on standard input, and answers the status.
-fn show(name: &[u8], begin: Day) -> u8 {
+fn show(rt: &(impl Input + Print), err: &impl Print, name: &[u8], begin: Day) -> io::Result<u8> {
     let mut bytes = [0u8; 65537];
-    let input = cards::read_card(STDIN_FILENO, &mut bytes);
+    let input = cards::read_card(&mut rt.reader(), &mut bytes);
     let size = input.size;
     let tally = cards::count(&bytes[..size]);
-    if !cards::is_card(b"standard input", input, tally) {
-        return 1;
+    if !cards::is_card(err, b"standard input", input, tally)? {
+        return Ok(1);
     }
-    print_page(&bytes[..size], name, begin);
-    0
+    print_page(rt, &bytes[..size], name, begin)?;
+    Ok(0)
 }
 
 // The same with dates, where the text of an argument is a day.
-fn show_dated(name: &[u8], text: &[u8]) -> u8 {
+fn show_dated(
+    rt: &(impl Input + Print),
+    err: &impl Print,
+    name: &[u8],
+    text: &[u8],
+) -> io::Result<u8> {
     let begin = calendar::day_in(text);
     if begin.day == 0 {
-        io::write_all(
-            STDERR_FILENO,
-            b"that is no day of the calendar; one is written 2026-11-01\n",
-        );
-        return 2;
+        err.write_all(b"that is no day of the calendar; one is written 2026-11-01\n")?;
+        return Ok(2);
     }
-    show(name, begin)
+    show(rt, err, name, begin)
 }
 
-// The same with the day of the second argument, where there is one.
-fn show_by_day(name: &[u8]) -> u8 {
-    if os::arg_count() < 3 {
-        return show(name, calendar::no_day());
-    }
+// The same with the day of the second argument, where there is one. An argument that is longer than a day is none.
+fn show_by_day(rt: &(impl Env + Input + Print), err: &impl Print, name: &[u8]) -> io::Result<u8> {
     let mut text = [0u8; 16];
-    let long = os::arg(2, &mut text);
-    show_dated(name, &text[..long])
+    match rt.arg(2, &mut text) {
+        Ok(long) => show_dated(rt, err, name, &text[..long]),
+        Err(FillError::TooLong) => show_dated(rt, err, name, b""),
+        Err(FillError::NotPresent) => show(rt, err, name, calendar::no_day()),
+    }
 }
 
 // The same of a card of this name.
-fn show_named(name: &[u8]) -> u8 {
+fn show_named(rt: &(impl Env + Input + Print), err: &impl Print, name: &[u8]) -> io::Result<u8> {
     let mut escaped = [0u8; 4096];
     let size = names::escape(name, &mut escaped);
-    show_by_day(&escaped[..size])
+    show_by_day(rt, err, &escaped[..size])
 }
 
-// The same by the arguments.
-fn by_arguments() -> u8 {
-    if os::arg_count() < 2 {
-        io::write_all(STDERR_FILENO, b"no name is given for the card\n");
-        return 2;
-    }
+// The same by the arguments. A name of more than 512 bytes is left out.
+fn by_arguments(rt: &(impl Env + Input + Print), err: &impl Print) -> io::Result<u8> {
     let mut name = [0u8; 512];
-    let named = os::arg(1, &mut name);
-    show_named(&name[..named])
+    match rt.arg(1, &mut name) {
+        Ok(named) => show_named(rt, err, &name[..named]),
+        Err(FillError::TooLong) => show_named(rt, err, b""),
+        Err(FillError::NotPresent) => {
+            err.write_all(b"no name is given for the card\n")?;
+            Ok(2)
+        }
+    }
 }
 
-fn main() {
-    let status = by_arguments();
-    print::words(b"status ");
-    print::number(status as u64);
-    print::words(b"\n");
+fn main(rt: HostRuntime) -> io::Result<()> {
+    let status = by_arguments(&rt, &rt.stderr())?;
+    print::words(&rt, b"status ")?;
+    print::number(&rt, status as u64)?;
+    print::words(&rt, b"\n")
 }

@@ -43,10 +43,8 @@ pub(crate) fn escape(name: &[u8], out: &mut [u8]) -> usize
     ensures { result ≤ length out.new }
 {
     let mut at: usize = 0;
-    let mut i: usize = 0;
-    while i < name.len() {
-        at = put_letter(name[i], out, at);
-        i += 1;
+    for byte in name {
+        at = put_letter(*byte, out, at);
     }
     at
 }
