@@ -1,6 +1,5 @@
 // The bytes of a card, read from a file or from standard input.
-ghost use Rattle.std.specs.Prelude.{◌-◌, ◌≤◌, length, IfOk};
-ghost use Rattle.io.specs.Counts.{IsPrefixLen};
+ghost use Rattle.std.specs.Prelude.{◌≡◌, ◌-◌, ◌≤◌, length, take, IfOk};
 
 use std::io;
 use std::io::Read;
@@ -22,7 +21,8 @@ fn read_more<R: Read>(reader: &mut R, bytes: &mut [u8], size: usize) -> io::Resu
 
 // Reads until the input ends, a read fails or the buffer is full. A buffer of one byte more than the largest sheet tells a larger input.
 pub fn read_card<R: Read>(reader: &mut R, bytes: &mut [u8]) -> Input
-    ensures { IsPrefixLen result.size bytes.new }
+    ensures in_bounds { result.size ≤ length bytes.new }
+    ensures front { result.size ≡ length (take result.size bytes.new) }
 {
     let mut size = 0;
     while size < bytes.len() {
