@@ -1,4 +1,4 @@
--- No more is read than there is room for, and the buffer stays as long as it was.
+-- No more is read than the buffer has room for, and a read that goes on leaves less room.
 use Rattle.std.proofs.Common.{length, ◌-◌, ◌≤◌}
 use Rattle.cards.proofs.reading.read_card.Given as goal
 
