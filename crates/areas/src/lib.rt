@@ -18,8 +18,7 @@ pub struct Plan {
 }
 
 // Proposes areas for a site, each transmitter as feet times 65,536 and tenths of an ohm. Refuses 34, 35.
-#[unsafe(no_mangle)]
-pub extern "C" fn sisal_plan_areas(site: &[u32]) -> Plan
+pub fn sisal_plan_areas(site: &[u32]) -> Plan
     ensures { PlansAreas site.now result }
 {
     if 120 < site.len() {
@@ -29,8 +28,7 @@ pub extern "C" fn sisal_plan_areas(site: &[u32]) -> Plan
 }
 
 // Whether a plan is accepted, made here or drawn by a fitter: 0; or 34, 36.
-#[unsafe(no_mangle)]
-pub extern "C" fn sisal_check_areas(site: &[u32], plan: &[u8]) -> u8
+pub fn sisal_check_areas(site: &[u32], plan: &[u8]) -> u8
     ensures { ChecksAreas site.now plan.now result }
 {
     if 120 < site.len() {

@@ -39,8 +39,7 @@ fn refusal(number: u8) -> Done
 }
 
 // Draws the bits of a message from a sample on, as many samples as there are or fit. Refuses 20, 14.
-#[unsafe(no_mangle)]
-pub extern "C" fn sisal_draw(
+pub fn sisal_draw(
     low: usize,
     still: usize,
     count: usize,

@@ -36,8 +36,7 @@ pub struct Done {
 }
 
 // Reads a record. Refuses 29, 30, 31, 32.
-#[unsafe(no_mangle)]
-pub extern "C" fn sisal_read_item(bytes: &[u8]) -> ItemTold
+pub fn sisal_read_item(bytes: &[u8]) -> ItemTold
     ensures { ReadsItem bytes.now result }
 {
     let number = reading::fault(bytes);
@@ -48,8 +47,7 @@ pub extern "C" fn sisal_read_item(bytes: &[u8]) -> ItemTold
 }
 
 // Writes a record. The addresses are wide, so that a wildcard, which document 002 numbers from 100 on, arrives as it was meant. Refuses 31, 32, 33.
-#[unsafe(no_mangle)]
-pub extern "C" fn sisal_write_item(
+pub fn sisal_write_item(
     ciu: u16,
     gauge: u16,
     first: u8,

@@ -12,37 +12,28 @@ use frame::Reading;
 use sheet::tell::SaveStores;
 
 // Whether a reply is lent in the right form: 0; or 14.
-#[unsafe(no_mangle)]
-pub extern "C" fn sisal_form(count: usize, reply: &[u8]) -> u8
+pub fn sisal_form(count: usize, reply: &[u8]) -> u8
     ensures { SisalForm count reply.now result }
 {
     if frame::formed(count, reply) { 0 } else { 14 }
 }
 
 // Reads a poll. Refuses 16.
-#[unsafe(no_mangle)]
-pub extern "C" fn sisal_read_poll(poll: &[u8]) -> PollTold
+pub fn sisal_read_poll(poll: &[u8]) -> PollTold
     ensures { SisalReadPoll poll.now result }
 {
     export_told::poll(frame::read_poll(poll))
 }
 
 // Writes a poll into the first 2 bytes; raise and reset are set by any number but 0. Refuses 11, 15.
-#[unsafe(no_mangle)]
-pub extern "C" fn sisal_write_poll(address: u16, raise: u8, reset: u8, out: &mut [u8]) -> Done
+pub fn sisal_write_poll(address: u16, raise: u8, reset: u8, out: &mut [u8]) -> Done
     ensures { SisalWritePoll address raise reset out.old result out.new }
 {
     export_told::written(frame::write_poll(address, raise != 0, reset != 0, out))
 }
 
 // Reads a reply to a poll of this address. Refuses 10, 11, 14, then 1 to 9.
-#[unsafe(no_mangle)]
-pub extern "C" fn sisal_read_reply(
-    settings: u8,
-    address: u16,
-    count: usize,
-    reply: &[u8],
-) -> ReplyTold
+pub fn sisal_read_reply(settings: u8, address: u16, count: usize, reply: &[u8]) -> ReplyTold
     ensures { SisalReadReply settings address count reply.now result }
 {
     export_told::reply(frame::read_reply(settings, address, count, reply))
@@ -50,8 +41,7 @@ pub extern "C" fn sisal_read_reply(
 
 // The same answer by the second reader, which reads a level in the decimal or a metric mode two digits at a time, from a table. Refuses 10,
 // 11, 14, then 1 to 9.
-#[unsafe(no_mangle)]
-pub extern "C" fn sisal_read_reply_by_pairs(
+pub fn sisal_read_reply_by_pairs(
     settings: u8,
     address: u16,
     count: usize,
@@ -64,8 +54,7 @@ pub extern "C" fn sisal_read_reply_by_pairs(
 
 // Writes a reply: into the first 5 bytes where its temperature is absent, else into the first 7. The temperature's kind is 1 degrees,
 // 2 above, 3 below; any other is absent, and only degrees have tenths. An alarm is set by any number but 0. Refuses 10, 11, 15.
-#[unsafe(no_mangle)]
-pub extern "C" fn sisal_write_reply(
+pub fn sisal_write_reply(
     settings: u8,
     address: u16,
     level: u16,
@@ -88,8 +77,7 @@ pub extern "C" fn sisal_write_reply(
 }
 
 // Saves a reply into the slot after the last used one, with at most so many stores. Refuses 12, 10, 11, 14, 13.
-#[unsafe(no_mangle)]
-pub extern "C" fn sisal_save(
+pub fn sisal_save(
     sheet: &mut [u8],
     settings: u8,
     minute: u32,
@@ -104,8 +92,7 @@ pub extern "C" fn sisal_save(
 }
 
 // Tells the stores that `sisal_save` would make, all of them, in order, and changes nothing. Refuses 12, 10, 11, 14, 13.
-#[unsafe(no_mangle)]
-pub extern "C" fn sisal_save_stores(
+pub fn sisal_save_stores(
     sheet: &[u8],
     settings: u8,
     minute: u32,
@@ -119,16 +106,14 @@ pub extern "C" fn sisal_save_stores(
 }
 
 // Looks at a slot. Refuses 12.
-#[unsafe(no_mangle)]
-pub extern "C" fn sisal_look(sheet: &[u8], slot: usize) -> SlotTold
+pub fn sisal_look(sheet: &[u8], slot: usize) -> SlotTold
     ensures { SisalLook sheet.now slot result }
 {
     export_told::slot(sheet::look(sheet, slot))
 }
 
 // How many slots a sheet has. Refuses 12.
-#[unsafe(no_mangle)]
-pub extern "C" fn sisal_slots(sheet: &[u8]) -> Done
+pub fn sisal_slots(sheet: &[u8]) -> Done
     ensures { SisalSlots sheet.now result }
 {
     export_told::counted(sheet::view::count_slots(sheet))

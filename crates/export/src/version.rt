@@ -6,8 +6,7 @@ ghost use Rattle.export.specs.Version.{SisalVersion};
 const VERSION: u32 = 8;
 
 // Answers the version of the archive; refuses nothing.
-#[unsafe(no_mangle)]
-pub extern "C" fn sisal_version() -> u32
+pub fn sisal_version() -> u32
     ensures { SisalVersion result }
 {
     VERSION

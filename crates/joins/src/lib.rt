@@ -24,8 +24,7 @@ fn refused(number: u8) -> Made
 
 // Puts two summaries together: lowest of lowest, highest of highest and sums of counts, pair by pair. Refuses 37 in either, 25 more than 30 pairs or unkept
 // records in either, 24 a good or faulty count above 1,000,000 in either or in the join; with a blank summary.
-#[unsafe(no_mangle)]
-pub extern "C" fn sisal_summary_join(a: Summary, b: Summary) -> Made
+pub fn sisal_summary_join(a: Summary, b: Summary) -> Made
     ensures { JoinsSummaries a b result }
 {
     if misshapen(a) {

@@ -12,8 +12,7 @@ use board::{Heard, Looked, Row, value};
 
 // Enrols a transmitter, with its sensor profile and the mark of a 6500 in `gauge`, before the first greater address: 0; or 38 order,
 // 10 settings, 11 asked address, 27 profile on an 1800, 18 twice, 19 no row.
-#[unsafe(no_mangle)]
-pub extern "C" fn sisal_board_enrol(rows: &mut [Row], settings: u8, address: u16, gauge: u8) -> u8
+pub fn sisal_board_enrol(rows: &mut [Row], settings: u8, address: u16, gauge: u8) -> u8
     ensures { Enrols rows.old settings address gauge result rows.new }
 {
     let f = lent::find(rows, address);
@@ -24,8 +23,7 @@ pub extern "C" fn sisal_board_enrol(rows: &mut [Row], settings: u8, address: u16
 // Hears a reply: 0, reading, minute and fault 0 are set; 1 to 9, or 26 temperature outside the row's profile, the row's fault is set, 7 with
 // its place, and counted, and its reading stays; in both cases the row was last heard at this minute; or 38 order, 11 asked address, 14 form,
 // 17 unknown, 10 the row's own settings, and nothing changes.
-#[unsafe(no_mangle)]
-pub extern "C" fn sisal_board_hear<'r, 'b>(
+pub fn sisal_board_hear<'r, 'b>(
     rows: &'r mut [Row],
     minute: u32,
     address: u16,
@@ -41,8 +39,7 @@ pub extern "C" fn sisal_board_hear<'r, 'b>(
 }
 
 // Removes a transmitter, and the rows behind its row move up: 0; or 38 order, 11 asked address, 17 unknown.
-#[unsafe(no_mangle)]
-pub extern "C" fn sisal_board_remove(rows: &mut [Row], address: u16) -> u8
+pub fn sisal_board_remove(rows: &mut [Row], address: u16) -> u8
     ensures { Removes rows.old address result rows.new }
 {
     let f = lent::find(rows, address);
@@ -51,8 +48,7 @@ pub extern "C" fn sisal_board_remove(rows: &mut [Row], address: u16) -> u8
 }
 
 // Looks at a transmitter's row: what stands in it; or 38 order, 11 asked address, 17 unknown.
-#[unsafe(no_mangle)]
-pub extern "C" fn sisal_board_look_up(rows: &[Row], address: u16) -> Looked
+pub fn sisal_board_look_up(rows: &[Row], address: u16) -> Looked
     ensures { LooksUp rows.now address result }
 {
     let f = lent::find(rows, address);
@@ -61,8 +57,7 @@ pub extern "C" fn sisal_board_look_up(rows: &[Row], address: u16) -> Looked
 
 // Writes the poll of a transmitter's row into the first 2 bytes, with raise or with reset where they are not 0: 0; or 38 order, 11 asked address,
 // 17 unknown, 28 raise or reset to a row without the mark, or both at once, 15 output short, and nothing changes.
-#[unsafe(no_mangle)]
-pub extern "C" fn sisal_board_poll<'r, 'o>(
+pub fn sisal_board_poll<'r, 'o>(
     rows: &'r [Row],
     address: u16,
     raise: u8,

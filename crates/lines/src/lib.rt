@@ -81,8 +81,7 @@ pub fn hear(least: usize, most: usize, gap: usize, begun: SoFar, samples: &[u8])
 
 // Hears the lines. Refuses 20 where a timing number is bad: nothing is taken, and the state comes back as it was. 22 tells of a spoiled message in
 // which a byte above 3 came, 21 of any other, both with the samples taken.
-#[unsafe(no_mangle)]
-pub extern "C" fn sisal_hear_lines(
+pub fn sisal_hear_lines(
     so_far: SoFar,
     least: usize,
     most: usize,

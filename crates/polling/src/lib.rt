@@ -84,8 +84,7 @@ pub struct Settled {
 }
 
 // Begins a round of the rows in use. Refuses 38.
-#[unsafe(no_mangle)]
-pub extern "C" fn sisal_polling_begin(rows: &[Row], minute: u32) -> Begun
+pub fn sisal_polling_begin(rows: &[Row], minute: u32) -> Begun
     ensures { BeginsPolling rows.now minute result }
 {
     let held = lending::lent::load(rows);
@@ -93,8 +92,7 @@ pub extern "C" fn sisal_polling_begin(rows: &[Row], minute: u32) -> Begun
 }
 
 // Draws on, up to the end of the poll: then it is time to listen. Refuses 20.
-#[unsafe(no_mangle)]
-pub extern "C" fn sisal_polling_draw(polling: &mut Polling, pace: Pace, out: &mut [u8]) -> Drew
+pub fn sisal_polling_draw(polling: &mut Polling, pace: Pace, out: &mut [u8]) -> Drew
     ensures { DrawsPolling polling.old pace out.old (drew_with polling.new result) out.new }
 {
     let place = turns::place(polling.at);
@@ -115,13 +113,7 @@ pub extern "C" fn sisal_polling_draw(polling: &mut Polling, pace: Pace, out: &mu
 }
 
 // Hears the samples sensed since the poll, up to the one that settles the try. Refuses 20; 21 and 22 tell of a try that gave no message.
-#[unsafe(no_mangle)]
-pub extern "C" fn sisal_polling_hear(
-    polling: &mut Polling,
-    pace: Pace,
-    minute: u32,
-    samples: &[u8],
-) -> Settled
+pub fn sisal_polling_hear(polling: &mut Polling, pace: Pace, minute: u32, samples: &[u8]) -> Settled
     ensures { HearsPolling polling.old pace minute samples.now (settled_with polling.new result) }
 {
     let place = turns::place(polling.at);
