@@ -1,6 +1,6 @@
 // The recorder's calls for a host in C or Rust: each call of the crates below over integers and lent bytes alone. Every call takes
 // every input. An answer is the refusal's number, 0 for none, or a struct of integers with that number in it. The calls over the
-// board's rows are exported by `board` itself, those of the listing by `export_listing`.
+// board's rows stand in `lending`, those of the listing in `export_listing`; the archive, `sisalcove`, exports all.
 #![tactic(auto)]
 
 pub mod version;

@@ -1,6 +1,5 @@
-// The calls of the listing for a host in C or Rust, over lent bytes, told as `export` tells its own. They stand in a crate of their own because
-// each archive is compiled as a whole: beside the calls of `export` they would share the reply reader with them, and both would call it instead of
-// having it in place.
+// The calls of the listing for a host in C or Rust, over lent bytes, told as `export` tells its own. They stand in a crate of their own, so
+// that a wrong program of either costs a check of that one alone.
 #![tactic(auto)]
 
 ghost use Rattle.export_listing.specs.Calls.{SisalHeadLine, SisalSlotLine, SisalLastLine, SisalListing};
