@@ -47,8 +47,8 @@ read_pairs (suc left) bits odd sofar place =
 
 -- A row with an odd number of digits has a digit 0000 before them, which is not counted in the place of a digit in no chart.
 abbrev pub uncounted : ℕ → Level → Level
-uncounted zeros (known v) = known v
-uncounted zeros (lost k) = lost (k - zeros)
+uncounted ahead (known v) = known v
+uncounted ahead (lost k) = lost (k - ahead)
 
 -- What the level bits of a line read as, two digits at a time.
 abbrev pub level_by_pairs : Mode → ℕ → Level
