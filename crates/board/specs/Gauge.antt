@@ -40,10 +40,10 @@ beyond_profile platinum d = beyond_ends (neg_ℤ (pos 2340)) (pos 5020) d
 
 -- A reply with no temperature is not checked.
 abbrev pub outside : Profile → Temperature → Bool
-outside profile (Degrees d) = beyond_profile profile d
-outside profile Above = false
-outside profile Below = false
-outside profile Absent = false
+outside bulb (Degrees d) = beyond_profile bulb d
+outside bulb Above = false
+outside bulb Below = false
+outside bulb Absent = false
 
 -- The profile is for type 1900 only: an 1800 row is not checked.
 abbrev pub outside_by : (settings gauge : ℕ) → Temperature → Bool
