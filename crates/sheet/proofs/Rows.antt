@@ -2,7 +2,7 @@
 -- Assumes nothing.
 use mathlib.Core.Path.{◌≡◌, refl, sym, ap, ◌∙◌}
 use mathlib.Core.Bool.{Bool, true, false}
-use mathlib.Core.List.{List, [], ◌∷◌, ◌++◌, map, append_assoc}
+use mathlib.Core.List.{List, [], ◌∷◌, ◌++◌, map}
 use Prim.Native.Nat.{ℕ, zero, suc, ◌+◌, ◌-◌, ◌*◌, ◌/◌, ◌%◌, ◌<◌, ◌≤◌}
 use native.Mathlib.Nat.{div-one, mod-eq_of_lt, div-eq_of_lt}
 use native.Mathlib.Omega.{arith}
@@ -10,13 +10,12 @@ use lib.Dec.{eqb}
 use lib.ListN.{length, take, drop, replicate, set, length-append, length-replicate, replicate-append-replicate}
 use lib.Seq.{paste, take-append_seam, drop-append-add, take-length, drop_at, set-append_seam, append_snoc}
 use Rattle.frame.specs.Pick.{pick}
-use Rattle.sheet.specs.Record.{Entry, after_length, length_of, length_bytes}
+use Rattle.sheet.specs.Record.{Entry, after_length, length_of}
 use Rattle.sheet.specs.Slots.{next}
 use Rattle.sheet.specs.Stores.{Store, ◌puts◌, ascending, stores}
 use Rattle.sheet.specs.Save.{save_fault}
 use Rattle.sheet.specs.StoresTold.{zeros_behind, telling, refusing, save_told, laid, stores_told}
 use Rattle.sheet.specs.Inside.Rows.{up_from, places_row, bytes_row}
-use Rattle.sheet.proofs.Storing.{ascending-length}
 use Rattle.sheet.proofs.StorePlaces.{moved, stores-moved}
 
 -- One byte more at the end of what is told.

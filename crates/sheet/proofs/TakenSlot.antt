@@ -12,7 +12,7 @@ use lib.Dec.{eqb}
 use lib.ListN.{length, get_or, take, drop, replicate, set, length-append, get_or-replicate}
 use lib.Seq.{sets, sets-eq, take-append-le, take_at}
 use Rattle.frame.specs.Line.{bytes_for}
-use Rattle.sheet.specs.Bytes.{FF, all_blank, same}
+use Rattle.sheet.specs.Bytes.{FF, all_blank}
 use Rattle.sheet.specs.Record.{Entry, passes, after_length, length_of, length_bytes, record_of, picture, fields_of, is_record}
 use Rattle.sheet.specs.Slots.{spoiled, holds, slot_of}
 use Rattle.sheet.specs.Stores.{Store, ◌puts◌, made, ascending, stores}

@@ -1,2 +1,3 @@
 -- The laws that the view's proofs cite.
+pub mod Part
 pub mod Spans

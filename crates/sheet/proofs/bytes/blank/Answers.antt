@@ -1,11 +1,11 @@
 -- `sheet::bytes::blank` meets its contract: after i turns the common bits are FF exactly where the first i bytes are blank. Assumes nothing.
-use mathlib.Core.Path.{◌≡◌, refl, sym, ap, ◌∙◌}
+use mathlib.Core.Path.{refl, sym, ap, ◌∙◌}
 use mathlib.Core.Bool.{Bool, ◌&&◌}
-use Prim.Native.Nat.{◌≤◌, ◌<◌, ◌-◌}
+use Prim.Native.Nat.{◌<◌}
 use native.Mathlib.Omega.{arith}
 use lib.Bits.{and_le_l}
 use lib.Dec.{eqb}
-use lib.ListN.{length, take, get_or}
+use lib.ListN.{get_or}
 use lib.Seq.{take_all}
 use Rattle.sheet.specs.Bytes.{FF, all_blank}
 use Rattle.sheet.proofs.Blank.{blank-more, common-full}

@@ -1,14 +1,9 @@
 -- `sheet::bytes::number` meets its contract. After i turns `n` is the number that the first i bytes write. It is below 256 to the i, so that one
 -- byte more always fits. Assumes nothing.
-use mathlib.Core.Path.{◌≡◌, ap, ◌∙◌}
-use mathlib.Core.List.{List}
-use Prim.Native.Nat.{ℕ, ◌≤◌, ◌<◌, ◌-◌, ◌^◌}
-use native.Mathlib.Omega.{arith}
-use borrow.Author.Rules.{rules}
-use lib.ListN.{length, take, length-take}
-use lib.Seq.{take_all}
+use mathlib.Core.Path.{◌≡◌}
+use Prim.Native.Nat.{◌≤◌, ◌-◌}
+use lib.ListN.{length, take}
 use Rattle.sheet.specs.Bytes.{number_in}
-use Rattle.sheet.proofs.Numbers.{AreBytes, number_more, number_lt, bytes_take}
 use Rattle.sheet.proofs.bytes.number.Given as goal
 
 abbrev pub invariant-loop-i : goal.invariant-loop-i

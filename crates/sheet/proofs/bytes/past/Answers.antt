@@ -1,7 +1,6 @@
 -- `sheet::bytes::past` meets its contract: all ones, shifted by the count in two steps, are the ones that are left. Assumes nothing.
 use Prim.Native.Nat.{◌-◌, ◌/◌}
 use native.Mathlib.Omega.{arith}
-use borrow.Author.Rules.{rules}
 use Rattle.sheet.proofs.Ones.{ones-shifted}
 use Rattle.sheet.proofs.bytes.past.Goals as goal
 

@@ -1,7 +1,6 @@
 -- `sheet::bytes::past_bytes` meets its contract: all ones, shifted by 4 for each byte twice, are the ones that are left. Assumes nothing.
 use Prim.Native.Nat.{◌*◌}
 use native.Mathlib.Omega.{arith}
-use borrow.Author.Rules.{rules}
 use Rattle.sheet.proofs.Ones.{ones-shifted}
 use Rattle.sheet.proofs.bytes.past_bytes.Goals as goal
 

@@ -4,7 +4,6 @@ use mathlib.Core.Path.{◌≡◌, sym, ◌∙◌}
 use mathlib.Core.List.{List}
 use Prim.Native.Nat.{ℕ, zero, suc}
 use native.Mathlib.Omega.{arith}
-use borrow.Author.Rules.{rules}
 use Rattle.sheet.specs.Slots.{next_up_to}
 use Rattle.sheet.specs.Inside.Passing.{StopsAt}
 use Rattle.sheet.proofs.next.next_slot.Goals as goal

@@ -1,16 +1,8 @@
 -- `sheet::next::pass_blocks` meets its contract: at each turn the slot sought among the first slots is the one sought among the first k of them, since
 -- those passed are blank, eight at a time. Assumes nothing.
-use mathlib.Core.Path.{◌≡◌, refl, sym, ap, ◌∙◌}
-use mathlib.Core.Bool.{Bool, true}
-use mathlib.Core.List.{List}
-use Prim.Native.Nat.{ℕ, ◌≤◌, ◌+◌, ◌-◌, ◌*◌}
-use native.Mathlib.Omega.{arith}
-use borrow.Author.Rules.{rules}
-use borrow.Author.Tests.{not-false}
-use lib.ListN.{drop, take}
-use Rattle.sheet.specs.Bytes.{all_blank}
+use mathlib.Core.Path.{◌≡◌}
+use Prim.Native.Nat.{◌≤◌}
 use Rattle.sheet.specs.Slots.{next_up_to}
-use Rattle.sheet.proofs.LastUsed.{next_past}
 use Rattle.sheet.proofs.next.pass_blocks.Given as goal
 
 abbrev pub invariant-loop-k : goal.invariant-loop-k

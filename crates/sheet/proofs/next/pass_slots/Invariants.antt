@@ -1,17 +1,8 @@
 -- `sheet::next::pass_slots` meets its contract: at each turn the slot sought among the first slots is the one sought among the first k of them, since
 -- those passed are blank. Assumes nothing.
-use mathlib.Core.Path.{◌≡◌, refl, sym, ap, ◌∙◌}
-use mathlib.Core.Bool.{Bool, true, false}
-use mathlib.Core.List.{List}
-use Prim.Native.Nat.{ℕ, ◌≤◌, ◌<◌, ◌+◌, ◌-◌, ◌*◌}
-use native.Mathlib.Omega.{arith}
-use borrow.Author.Rules.{rules}
-use borrow.Author.Tests.{not-true, not-false}
-use lib.ListN.{drop, take}
-use Rattle.frame.specs.Pick.{pick}
-use Rattle.sheet.specs.Bytes.{all_blank}
+use mathlib.Core.Path.{◌≡◌}
+use Prim.Native.Nat.{◌≤◌}
 use Rattle.sheet.specs.Slots.{next_up_to}
-use Rattle.sheet.proofs.LastUsed.{next_one}
 use Rattle.sheet.proofs.next.pass_slots.Given as goal
 
 abbrev pub invariant-loop-k : goal.invariant-loop-k

@@ -1,5 +1,4 @@
 -- `sheet::record::check` meets its contract: each return rewrites the definition with the tests that led there. Assumes nothing.
-use borrow.Author.Rules.{rules}
 use borrow.Author.Tests.{le-ltb, lt-ltb}
 use mathlib.Core.Path.{sym, ◌∙◌}
 use Rattle.frame.specs.Faults.{first_of}

@@ -5,7 +5,7 @@ use mathlib.Core.Bool.{Bool, true, false, not, ◌&&◌}
 use mathlib.Core.List.{List}
 use Prim.Native.Nat.{ℕ, ◌≤◌, ◌<◌, ◌+◌, ◌-◌, ◌*◌, ◌/◌, ◌%◌, ◌^◌}
 use native.Mathlib.Omega.{arith}
-use borrow.Author.Tests.{eq-eqb, ne_eqb, lt-leb, lt-ltb, le-ltb, not-true, not-false}
+use borrow.Author.Tests.{eq-eqb, ne_eqb, lt-leb, lt-ltb, le-ltb}
 use lib.Bits.{bit_and, and_mask}
 use lib.Dec.{eqb, leb, ltb}
 use lib.ListN.{length, take, drop, get_or}
@@ -16,7 +16,6 @@ use Rattle.sheet.specs.Record.{picture, fields_of, is_record}
 use Rattle.sheet.specs.Look.{head_of}
 use Rattle.sheet.proofs.Numbers.{AreBytes}
 use Rattle.sheet.proofs.Records.{unformed, found}
-use borrow.Author.Rules.{rules}
 use Rattle.sheet.proofs.record.is_record.Goals.{After-number, Else-count-gt64}
 use Rattle.sheet.proofs.record.is_record.Goals as goal
 

@@ -5,7 +5,6 @@ use lib.Bits.{bit_and, and_mask, and_le_l}
 use Rattle.frame.specs.Line.{first_bytes}
 use Rattle.sheet.specs.Bytes.{big_endian}
 use Rattle.sheet.specs.Inside.Word.{first_bits}
-use borrow.Author.Rules.{rules}
 use Rattle.sheet.proofs.record.reply_in.Goals as goal
 
 -- the bytes of a word as the frame and as the sheet write them

@@ -1,7 +1,5 @@
 -- `sheet::stores::before_reply` meets its contract: each byte is a number of the definition's, which fits a byte. Assumes nothing.
-use Prim.Native.Nat.{◌/◌, ◌%◌}
 use native.Mathlib.Nat.{div-one}
-use borrow.Author.Rules.{rules}
 use Rattle.sheet.proofs.stores.before_reply.Goals as goal
 
 pub returns : goal.returns

@@ -1,18 +1,17 @@
 -- `sheet::stores::make_stores` meets its contract: its three runs, each as long as the allowance lets it be, are the first stores of the record. Assumes
 -- nothing.
-use mathlib.Core.Path.{◌≡◌, refl, sym, ap, ◌∙◌}
-use mathlib.Core.List.{List, [], ◌∷◌, ◌++◌}
-use Prim.Native.Nat.{ℕ, ◌≤◌, ◌<◌, ◌+◌, ◌-◌, ◌/◌, ◌%◌, min}
+use mathlib.Core.Path.{◌≡◌, sym, ap, ◌∙◌}
+use mathlib.Core.List.{List, [], ◌∷◌}
+use Prim.Native.Nat.{ℕ, ◌≤◌, ◌<◌, ◌+◌, ◌-◌, min}
 use native.Mathlib.Nat.{div-one, mod-eq_of_lt, div-eq_of_lt}
 use native.Mathlib.Omega.{arith}
 use lib.ListN.{length, take, get_or}
 use Rattle.sheet.specs.declared.Head.{Head}
 use Rattle.sheet.specs.Bytes.{big_endian}
 use Rattle.sheet.specs.Record.{after_length, length_of}
-use Rattle.sheet.specs.Stores.{Store, ◌puts◌, made, ascending, length_stores, stores}
+use Rattle.sheet.specs.Stores.{◌puts◌, made, ascending, length_stores, stores}
 use Rattle.sheet.specs.Look.{entry_with}
 use Rattle.sheet.proofs.Storing.{take_min, ascending-length, in-runs}
-use borrow.Author.Rules.{rules}
 use Rattle.sheet.proofs.stores.make_stores.Goals as goal
 
 -- a row stored as far as it goes

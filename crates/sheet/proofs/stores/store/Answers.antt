@@ -1,7 +1,6 @@
 -- `sheet::stores::store` meets its contract: the one store made is the one stated. Assumes nothing.
 use mathlib.Core.Path.{refl}
 use native.Mathlib.Omega.{arith}
-use borrow.Author.Rules.{rules}
 use Rattle.sheet.proofs.stores.store.Goals as goal
 
 pub bounds-sheet-place : goal.bounds-sheet-place

@@ -1,12 +1,11 @@
 -- `sheet::stores::store_length` meets its contract: none, one or both of its stores are the first of the two. Assumes nothing.
-use mathlib.Core.Path.{◌≡◌, sym, ap, ◌∙◌}
+use mathlib.Core.Path.{sym, ap, ◌∙◌}
 use mathlib.Core.List.{List, [], ◌∷◌}
 use Prim.Native.Nat.{ℕ, ◌+◌}
 use native.Mathlib.Omega.{arith}
 use lib.ListN.{take, set}
 use lib.Seq.{take_all}
 use Rattle.sheet.specs.Stores.{Store, ◌puts◌, made}
-use borrow.Author.Rules.{rules}
 use Rattle.sheet.proofs.stores.store_length.Goals as goal
 
 abbrev both : (at size : ℕ) → List Store

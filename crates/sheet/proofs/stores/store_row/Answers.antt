@@ -1,7 +1,7 @@
 -- `sheet::stores::store_row` meets its contract: after i turns the sheet is the one after the first i stores of the row, or after all that are wanted. Assumes nothing.
-use mathlib.Core.Path.{◌≡◌, refl, sym, ap, ◌∙◌}
+use mathlib.Core.Path.{◌≡◌, sym, ap, ◌∙◌}
 use mathlib.Core.List.{List}
-use Prim.Native.Nat.{ℕ, ◌+◌, ◌-◌, ◌<◌, ◌≤◌, min}
+use Prim.Native.Nat.{ℕ, ◌+◌, ◌<◌, ◌≤◌, min}
 use native.Mathlib.Omega.{arith}
 use lib.ListN.{length, take, get_or, set}
 use Rattle.sheet.specs.Stores.{Store, ◌puts◌, made, ascending}
@@ -58,10 +58,10 @@ loop-i-preserved c =
     let a = c.args in (
       omega arith,
       elim c.if-i-many.branch [
-        then-i-many w ↦
+        | then-i-many w ↦
             stored a.sheet.now l.sheet c.if-i-many.sheet a.at l.i a.many a.row.now w.if-i-many.true (omega arith) l.invariant.1
             (w.sheet-is ∙ w.store.ensures)
-      | else-i-many w ↦
+        | else-i-many w ↦
             w.sheet-is
             ∙ enough a.sheet.now l.sheet l.i (l.i + 1) a.many (ascending a.at a.row.now) w.if-i-many.false (omega arith) l.invariant.1
       ],

@@ -1,12 +1,8 @@
 -- `sheet::stores::store_row` meets its contract: after i turns the sheet is the one after the first i stores of the row, or after all that are wanted. Assumes nothing.
-use mathlib.Core.Path.{◌≡◌, refl, sym, ap, ◌∙◌}
-use mathlib.Core.Logic.{⊎_elim}
-use mathlib.Core.List.{List}
-use Prim.Native.Nat.{ℕ, ◌+◌, ◌-◌, ◌<◌, ◌≤◌, min}
-use native.Mathlib.Omega.{arith}
-use lib.ListN.{length, take, get_or, set}
-use Rattle.sheet.specs.Stores.{Store, ◌puts◌, made, ascending}
-use Rattle.sheet.proofs.Storing.{made-length, made_more, ascending-length, ascending-at}
+use mathlib.Core.Path.{◌≡◌}
+use Prim.Native.Nat.{◌-◌, ◌≤◌, min}
+use lib.ListN.{take}
+use Rattle.sheet.specs.Stores.{made, ascending}
 use Rattle.sheet.proofs.stores.store_row.Given as goal
 
 abbrev pub invariant-loop-i : goal.invariant-loop-i

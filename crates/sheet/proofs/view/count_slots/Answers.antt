@@ -1,6 +1,5 @@
 -- `sheet::view::count_slots` meets its contract: each return is the definition after the test that led there. Assumes nothing.
 use mathlib.Core.Path.{sym, ◌∙◌}
-use borrow.Author.Rules.{rules}
 use Rattle.sheet.specs.View.{slots_counted}
 use Rattle.sheet.proofs.view.count_slots.Goals as goal
 

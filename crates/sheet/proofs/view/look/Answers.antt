@@ -1,5 +1,5 @@
 -- `sheet::view::look` meets its contract: what is seen through a view that was opened is what a look answers.
-use mathlib.Core.Path.{◌≡◌, ap, ◌∙◌}
+use mathlib.Core.Path.{ap, ◌∙◌}
 use mathlib.Core.List.{List}
 use Prim.Native.Nat.{ℕ}
 use denote.Ref.{Bor}

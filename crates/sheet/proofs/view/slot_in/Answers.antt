@@ -1,9 +1,8 @@
 -- `sheet::view::slot_in` meets its contract: the span that `span_of` answers lies inside the bytes, and what stands there reads as the definition says.
 -- Assumes nothing.
 use mathlib.Core.Path.{◌≡◌, ap, ◌∙◌}
-use mathlib.Core.List.{List}
 use Prim.Native.Nat.{ℕ, ◌-◌, ◌≤◌}
-use lib.ListN.{length, take, drop}
+use lib.ListN.{take, drop}
 use Rattle.sheet.specs.declared.view.Span.{Span}
 use Rattle.sheet.specs.Look.{part_of}
 use Rattle.sheet.specs.Inside.Span.{span_of}

@@ -1,6 +1,5 @@
 -- `sheet::view::slots_for` meets its contract: each return is the definition after the test that led there. Assumes nothing.
 use mathlib.Core.Path.{sym, ◌∙◌}
-use borrow.Author.Rules.{rules}
 use Rattle.sheet.specs.View.{slots_for}
 use Rattle.sheet.proofs.view.slots_for.Goals as goal
 

@@ -1,5 +1,4 @@
 -- `sheet::view::span_of` meets its contract: each return is the definition after the tests that led there. Assumes nothing.
-use borrow.Author.Rules.{rules}
 use borrow.Author.Tests.{lt-ltb, le-ltb}
 use Rattle.sheet.specs.Inside.Span.{span_of}
 use Rattle.sheet.proofs.view.span_of.Goals as goal

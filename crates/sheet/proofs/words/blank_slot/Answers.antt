@@ -9,7 +9,6 @@ use lib.Bits.{bit_and}
 use lib.Dec.{eqb}
 use lib.ListN.{take, drop}
 use Rattle.sheet.specs.Bytes.{number_in}
-use borrow.Author.Rules.{rules}
 use Rattle.sheet.proofs.BlankWords.{whole-slot}
 use Rattle.sheet.proofs.words.blank_slot.Goals as goal
 
