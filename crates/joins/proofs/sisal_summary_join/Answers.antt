@@ -3,7 +3,7 @@ use mathlib.Core.Path.{◌≡◌, refl, sym, ap, ◌∙◌}
 use mathlib.Core.Bool.{Bool, true, false}
 use Prim.Native.Nat.{ℕ, ◌<◌, ◌≤◌}
 use native.Mathlib.Omega.{arith}
-use lib.ListN.{length, length-map}
+use lib.ListN.{length}
 use Rattle.frame.specs.Pick.{pick}
 use Rattle.summary.specs.declared.Summary.{Summary}
 use Rattle.summary.specs.declared.Made.{Made}
@@ -30,10 +30,10 @@ module _ (s : Else-misshapen-2) where
   b = s.args.b
 
   long-a : length s.args.a.lines ≡ 30
-  long-a = simp length-map at s.good.0.1.1.1.1.0.1.0.1
+  long-a = s.well_formed.0.1.1.1.1.0.1.0.1
 
   long-b : length s.args.b.lines ≡ 30
-  long-b = simp length-map at s.good.1.0.1.1.1.1.0.1.0.1
+  long-b = s.well_formed.1.0.1.1.1.1.0.1.0.1
 
 t1 : (c : Else-misshapen) → misshapen c.args.a ≡ false
 t1 c = sym c.misshapen.ensures ∙ c.if-misshapen.false
@@ -64,15 +64,11 @@ sound-b c = sound-handed c.args.b (long-b c) (t2 c)
 
 -- past the tests of 25
 module _ (c : Else-b-gt0) where
+  at-24 : lines_over c.args.a ≡ true → join_fault c.args.a c.args.b ≡ 24
+  at-24 = first-24 c.args.a c.args.b (t1-at-2 c) (t2 (goal.at.Else-b-gt0 c).Else-misshapen-2) (t3 (goal.at.Else-b-gt0 c).Else-count_pairs-gt30) c.if-a-gt0.false c.if-b-gt0.false
 
-
-
-
-  at-24 : lines_over (at_5 c).args.a ≡ true → join_fault (at_5 c).args.a (at_5 c).args.b ≡ 24
-  at-24 = first-24 (at_5 c).args.a (at_5 c).args.b (t1-at-2 c) (t2 c2) (t3 c3) c.if-a-gt0.left c.if-b-gt0.false
-
-  then-24 : lines_over (at_5 c).args.a ≡ false → lines_over (at_5 c).args.b ≡ true → join_fault (at_5 c).args.a (at_5 c).args.b ≡ 24
-  then-24 = second-24 (at_5 c).args.a (at_5 c).args.b (t1-at-2 c) (t2 c2) (t3 c3) c.if-a-gt0.left c.if-b-gt0.false
+  then-24 : lines_over c.args.a ≡ false → lines_over c.args.b ≡ true → join_fault c.args.a c.args.b ≡ 24
+  then-24 = second-24 c.args.a c.args.b (t1-at-2 c) (t2 (goal.at.Else-b-gt0 c).Else-misshapen-2) (t3 (goal.at.Else-b-gt0 c).Else-count_pairs-gt30) c.if-a-gt0.false c.if-b-gt0.false
 
 pub returns-then-misshapen : goal.returns-then-misshapen
 returns-then-misshapen c =
@@ -113,28 +109,22 @@ add_lines-joined-requires c =
 
 -- the join that was added up
 module _ (g : After-lines_over-3) where
-
-
-
-
-  joined_is : g.add_lines-joined.result ≡ join_page (at_7 e7).args.a (at_7 e7).args.b
+  joined_is : g.add_lines-joined.result ≡ join_page g.args.a g.args.b
   joined_is =
-      let none : (at_7 e7).args.a.others ≡ 0 = omega (arith, (c4 e5).if4.left) in
-      g.add_lines-joined.ensures ∙ ap (λ (n : ℕ). page n (join_lines (at_7 e7).args.a (at_7 e7).args.b)) none
+      let none : g.args.a.others ≡ 0 = omega (arith, g.if-a-gt0.false) in
+      g.add_lines-joined.ensures ∙ ap (λ (n : ℕ). page n (join_lines g.args.a g.args.b)) none
 
-  over-join : (o : Bool) → g.lines_over-3.result ≡ o → lines_over (join_page (at_7 e7).args.a (at_7 e7).args.b) ≡ o
+  over-join : (o : Bool) → g.lines_over-3.result ≡ o → lines_over (join_page g.args.a g.args.b) ≡ o
   over-join o h = ap lines_over (sym joined_is) ∙ sym g.lines_over-3.ensures ∙ h
 
-  last-24 : (o : Bool) → g.lines_over-3.result ≡ o → join_fault (at_7 e7).args.a (at_7 e7).args.b ≡ pick o 24 0
+  last-24 : (o : Bool) → g.lines_over-3.result ≡ o → join_fault g.args.a g.args.b ≡ pick o 24 0
   last-24 o h =
-      third-24 (at_7 e7).args.a (at_7 e7).args.b (t1 (c2 e5).before.before) (t2 (c2 e5)) (t3 (c3 e5)) (c4 e5).if4.left g.if-b-gt0.left (t6 e6) (t7 e7) o (over-join o h)
+      third-24 g.args.a g.args.b (t1 (goal.at.After-lines_over-3 g).Else-misshapen) (t2 (goal.at.After-lines_over-3 g).Else-misshapen-2) (t3 (goal.at.After-lines_over-3 g).Else-count_pairs-gt30) g.if-a-gt0.false g.if-b-gt0.false (t6 (goal.at.After-lines_over-3 g).Else-lines_over) (t7 (goal.at.After-lines_over-3 g).Else-lines_over-2) o (over-join o h)
 
 pub returns-then-lines_over-3 : goal.returns-then-lines_over-3
 returns-then-lines_over-3 c =
-    let s = at_7 c in
-    refuse s.args.a s.args.b 24 c.refused-then-lines_over-3.result (last-24 (goal.at.returns-then-lines_over-3 c).After-lines_over-3 true c.if-lines_over-3.true) (λ z. omega arith) c.refused-then-lines_over-3.ensures
+    refuse c.args.a c.args.b 24 c.refused-then-lines_over-3.result (last-24 (goal.at.returns-then-lines_over-3 c).After-lines_over-3 true c.if-lines_over-3.true) (λ z. omega arith) c.refused-then-lines_over-3.ensures
 
 pub returns : goal.returns
 returns c =
-    let s = at_7 c in
-    record { answers = ap (λ (t : Summary). made_of t 0) (joined_is (goal.at.returns c).After-lines_over-3) ∙ sym (made-join s.args.a s.args.b (last-24 (goal.at.returns c).After-lines_over-3 false c.if-lines_over-3.false)) }
+    record { answers = ap (λ (t : Summary). made_of t 0) (joined_is (goal.at.returns c).After-lines_over-3) ∙ sym (made-join c.args.a c.args.b (last-24 (goal.at.returns c).After-lines_over-3 false c.if-lines_over-3.false)) }

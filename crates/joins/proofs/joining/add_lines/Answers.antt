@@ -20,8 +20,6 @@ use Rattle.joins.proofs.joining.add_lines.Goals as goal
 
 -- one turn
 module _ (t : After-turn-whose) where
-
-
   abbrev a : Summary
   a = t.args.a
 
@@ -92,7 +90,8 @@ module _ (t : After-turn-whose) where
 
 -- where the two are of one pair
 module _ (c : Else-whose-eq1) where
-
+  abbrev t2 : After-turn-whose
+  t2 = (goal.at.Else-whose-eq1 c).After-turn-whose
 
   both : (i t2 < (a t2).count) × (j t2 < (b t2).count)
   both = let f = (turned t2).same c.if-whose-eq0.false c.if-whose-eq1.false in (f.0, f.1.0)
@@ -105,7 +104,7 @@ module _ (c : Else-whose-eq1) where
   room = free t2 (together (line_at (a t2) (i t2)) (line_at (b t2) (j t2))) (i t2 + 1) (j t2 + 1) then
 
   within : (i t2 < 30) × (j t2 < 30)
-  within = (omega (arith, both.0, (start t2).pre.first.few), omega (arith, both.1, (start t2).pre.second.few))
+  within = (omega (arith, both.0, c.requires.first.few), omega (arith, both.1, c.requires.second.few))
 
 pub loop-i-init : goal.loop-i-init
 loop-i-init c = (omega arith, (omega arith, none-merged _ _ _ (ap (λ (s : Summary). s.lines) c.blank-none.ensures)))
@@ -191,8 +190,8 @@ bounds-right-j-in-loop-i c = omega (arith, (within (goal.at.bounds-right-j-in-lo
 pub together-requires : goal.together-requires
 together-requires c =
     let l = both (goal.at.together-requires c).Else-whose-eq1 in
-    let fa = (start (goal.at.together-requires c).After-turn-whose).pre.few_first in
-    let fb = (start (goal.at.together-requires c).After-turn-whose).pre.few_second in
+    let fa = c.requires.few_first in
+    let fb = c.requires.few_second in
     record { good_bound = omega (arith, fa.good (i (goal.at.together-requires c).After-turn-whose) l.0, fb.good (j (goal.at.together-requires c).After-turn-whose) l.1); faulty_bound = omega (arith, fa.faulty (i (goal.at.together-requires c).After-turn-whose) l.0, fb.faulty (j (goal.at.together-requires c).After-turn-whose) l.1) }
 
 pub offset_bounds-lines-at-in-loop-i : goal.offset_bounds-lines-at-in-loop-i

@@ -32,9 +32,9 @@ loop-i-init c = (omega arith, (refl, λ k l. absurd (omega arith)))
 pub loop-i-preserved : goal.loop-i-preserved
 loop-i-preserved c =
     let ps = c.loop-i.pairs in
-    (omega arith, (length-set ps c.loop-i.i c.pair_of.result ∙ c.loop-i.invariant.1.0, stored ps c.args.t1 c.loop-i.i c.pair_of.result (omega arith) c.pair_of.ensures c.loop-i.invariant.1.1))
+    (omega arith, (length-set ps c.loop-i.i c.pair_of.result ∙ c.loop-i.invariant.1.0, stored ps c.args.lines c.loop-i.i c.pair_of.result (omega arith) c.pair_of.ensures c.loop-i.invariant.1.1))
 
 pub returns : goal.returns
 returns c =
-    let long : length c.args.t1 ≡ 30 = c.well_formed.0.1.0.1 in
-    all-stored c.loop-i.pairs c.args.t1 (c.loop-i.invariant.1.0 ∙ sym long) (λ k h. c.loop-i.invariant.1.1 k (omega arith))
+    let long : length c.args.lines ≡ 30 = c.well_formed.0.1.0.1 in
+    all-stored c.loop-i.pairs c.args.lines (c.loop-i.invariant.1.0 ∙ sym long) (λ k h. c.loop-i.invariant.1.1 k (omega arith))
