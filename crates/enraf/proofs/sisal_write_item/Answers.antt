@@ -37,7 +37,7 @@ unfolding text_fits
 text-is-at-2 c = refl
 
 fitting : (c : Else-not-fits) → text_fits (item-at-2 c) ≡ true
-fitting c = text-is-at-2 c ∙ sym c.fits2.ensures ∙ c.if-not-fits.false
+fitting c = text-is-at-2 c ∙ sym c.fits.ensures ∙ c.if-not-fits.false
 
 pub returns-then-ciu-gt9 : goal.returns-then-ciu-gt9
 returns-then-ciu-gt9 c =
@@ -51,7 +51,7 @@ returns-then-gauge-gt99 c =
 
 pub returns-then-not-fits : goal.returns-then-not-fits
 returns-then-not-fits c =
-    let t = c.fits2 in
+    let t = c.fits in
     let f =
     write-fault-by (item (goal.at.returns-then-not-fits c).Start) c.args.out.now false false false _ (le-ltb _ _ c.if-ciu-gt9.false) (le-ltb _ _ c.if-gauge-gt99.false)
     (text-is (goal.at.returns-then-not-fits c).Start ∙ sym t.ensures ∙ c.if-not-fits.true) refl in

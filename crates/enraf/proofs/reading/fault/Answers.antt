@@ -84,7 +84,7 @@ returns-then-fits c =
     let inner : length s - 2 - 8 ≡ length s - 10 = omega arith in
     let t = ap (λ (m : ℕ). take m (drop 8 s)) inner in
     let said =
-    c.fits2.ensures
+    c.fits.ensures
     ∙ text-said s (take (length s - 2 - 8) (drop 8 s)) c.kind_in-kind.result c.error_in-error.result c.characters_in.result.now t
     c.kind_in-kind.ensures c.error_in-error.ensures c.characters_in.ensures in
     sym (read-fault-by s true true true true (in_frame (goal.at.returns-then-fits c).Else-not-is_framed) (right (goal.at.returns-then-fits c).Else-not-is_checked) (named (goal.at.returns-then-fits c).Else-not-is_addressed) (sym said ∙ c.if-fits.true))
@@ -96,7 +96,7 @@ returns c =
     let inner : length s - 2 - 8 ≡ length s - 10 = omega arith in
     let t = ap (λ (m : ℕ). take m (drop 8 s)) inner in
     let said =
-    c.fits2.ensures
+    c.fits.ensures
     ∙ text-said s (take (length s - 2 - 8) (drop 8 s)) c.kind_in-kind.result c.error_in-error.result c.characters_in.result.now t
     c.kind_in-kind.ensures c.error_in-error.ensures c.characters_in.ensures in
     sym (read-fault-by s true true true false (in_frame (goal.at.returns c).Else-not-is_framed) (right (goal.at.returns c).Else-not-is_checked) (named (goal.at.returns c).Else-not-is_addressed) (sym said ∙ c.if-fits.false))
