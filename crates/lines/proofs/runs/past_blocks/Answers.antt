@@ -48,7 +48,7 @@ loop-i-preserved c =
     let a = c.args in
     let l = c.loop-i in
     run_join a.samples.now a.from l.i (l.i + 64) a.sample l.invariant
-    (block a.samples.now l.i a.sample (omega arith) (c.all_Alike.ensures c.if-not-all_alike.false))
+    (block a.samples.now l.i a.sample (omega arith) (c.all_alike.ensures c.if-not-all_alike.false))
 
 pub returns : goal.returns
 returns c = c.loop-i.invariant
