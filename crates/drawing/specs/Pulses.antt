@@ -1,5 +1,5 @@
 -- Our request 15: a message as samples, one byte each, in the alphabet of request 01: 0 idle, 1 mark low, 2 space low.
-use Rattle.std.specs.Prelude.{Bool, ◌||◌, not, List, [], ◌∷◌, ◌++◌, ℕ, zero, suc, ◌+◌, ◌-◌, ◌/◌, ◌%◌, ◌^◌, eqb, get_or, replicate}
+use Rattle.std.specs.Prelude.{Bool, ◌||◌, not, List, [], ◌∷◌, ◌++◌, ℕ, zero, suc, ◌-◌, ◌/◌, ◌%◌, ◌^◌, eqb, get_or, replicate}
 use Rattle.frame.specs.Pick.{pick, within}
 
 -- Each bit's line is low for `low` samples, 1 to 1,000, and both lines are then still for `still` samples, 1 to 10,000.

@@ -1,10 +1,8 @@
 -- The place of a bit in a word whose bits after the count are 0: there is room for it, and after it the bits are 0 again. Assumes nothing.
 use mathlib.Core.Path.{◌≡◌, sym, ap, ◌∙◌}
-use mathlib.Core.Bool.{Bool, true, false}
 use Prim.Native.Nat.{ℕ, ◌+◌, ◌-◌, ◌*◌, ◌/◌, ◌%◌, ◌^◌, ◌<◌, ◌≤◌}
 use native.Mathlib.Omega.{arith}
 use native.Mathlib.Nat.{one-mul, mod-eq_of_lt, div-add-mod', div-lt_iff_lt-mul, mul_assoc, add-mul, mul-mod_left}
-use Rattle.frame.specs.Line.{mark}
 use lib.Arith.{digits_lt}
 use lib.Pow.{pow-lt, pow_pos, pow-add}
 

@@ -8,7 +8,7 @@ use native.Mathlib.Numerals.{add-one}
 use native.Mathlib.Omega.{arith}
 use borrow.Author.Tests.{eqb-true, eqb-false}
 use lib.Arith.{digits_div, digits_mod}
-use lib.Bits.{bit_or, bit_xor, differ, or_add_and, xor_add_and, xor_step, and_le_l, and_le_r}
+use lib.Bits.{bit_or, bit_xor, or_add_and, xor_add_and, xor_step, and_le_l, and_le_r}
 use lib.Dec.{eqb}
 use lib.ListN.{get_or}
 use lib.Pow.{pow_mono}

@@ -1,5 +1,4 @@
 -- `drawing::bad_pulse` meets its contract: each test by what it states. Assumes nothing.
-use borrow.Author.Rules.{rules}
 use Rattle.drawing.proofs.bad_pulse.Goals as goal
 
 pub returns : goal.returns

@@ -1,8 +1,6 @@
 -- `drawing::sisal_draw` meets its contract: each return is the list of refusals by what the tests gave. Assumes nothing.
-use mathlib.Core.Path.{◌≡◌, refl, sym, ◌∙◌}
+use mathlib.Core.Path.{refl, sym, ◌∙◌}
 use mathlib.Core.Bool.{true, false}
-use borrow.Author.Rules.{rules}
-use borrow.Author.Tests.{not-true, not-false}
 use Rattle.drawing.proofs.Answers.{fault-by, good-pulse, good-form, refuses, draws}
 use Rattle.drawing.proofs.sisal_draw.Goals as goal
 

@@ -9,9 +9,7 @@ use Rattle.frame.specs.Faults.{first_of}
 use Rattle.frame.proofs.Both.{both}
 use Rattle.lines.specs.Timing.{Timing, timing, bad_timing, timing_fault}
 use Rattle.lines.specs.Calls.{lines_answer}
-use Rattle.lines.specs.Hearing.{hear}
 use Rattle.lines.proofs.Cases.{none_of}
-use borrow.Author.Rules.{rules}
 use Rattle.lines.proofs.sisal_hear_lines.Goals as goal
 
 -- timing that is not bad has a gap

@@ -5,11 +5,10 @@ use mathlib.Core.List.{List}
 use Prim.Native.Nat.{ℕ, ◌+◌, ◌-◌, ◌*◌, ◌≤◌, ◌<◌, min}
 use native.Mathlib.Nat.{mod-lt, mul-le-mul, le_of_lt, le_of_eq, le_trans}
 use native.Mathlib.Omega.{arith}
-use borrow.Author.Rules.{rules}
 use lib.ListN.{length, get_or, take, drop, replicate, length-drop}
 use lib.Seq.{sets, length-sets}
 use Rattle.drawing.specs.Pulses.{drawing}
-use Rattle.drawing.proofs.Idle.{Idle, idle-first, filled, turn, still-idle}
+use Rattle.drawing.proofs.Idle.{idle-first, filled, turn, still-idle}
 use Rattle.drawing.proofs.Rest.{rest_of, from-sample, samples-left, samples-of-bit, some-bit, drawing-long}
 use Rattle.drawing.proofs.pulses.draw.Goals as goal
 

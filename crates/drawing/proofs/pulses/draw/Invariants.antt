@@ -1,16 +1,12 @@
 -- `drawing::pulses::draw` meets its contract: at each turn, the rest of the drawing put from the place reached makes it whole, and up to its end the
 -- output is idle from there on. Assumes nothing.
-use mathlib.Core.Path.{◌≡◌, refl, sym, ap, ap₂, ◌∙◌}
-use mathlib.Core.List.{List}
-use Prim.Native.Nat.{ℕ, ◌+◌, ◌-◌, ◌*◌, ◌≤◌, ◌<◌, min}
-use native.Mathlib.Nat.{mod-lt, mul-le-mul, le_of_lt, le_of_eq, le_trans}
-use native.Mathlib.Omega.{arith}
-use borrow.Author.Rules.{rules}
-use lib.ListN.{length, get_or, take, drop, replicate, length-drop}
-use lib.Seq.{sets, length-sets}
+use mathlib.Core.Path.{◌≡◌}
+use Prim.Native.Nat.{◌+◌, ◌-◌, ◌≤◌, ◌<◌}
+use lib.ListN.{length, take, drop}
+use lib.Seq.{sets}
 use Rattle.drawing.specs.Pulses.{drawing}
-use Rattle.drawing.proofs.Idle.{Idle, idle-first, filled, turn, still-idle}
-use Rattle.drawing.proofs.Rest.{rest_of, from-sample, samples-left, samples-of-bit, some-bit, drawing-long}
+use Rattle.drawing.proofs.Idle.{Idle}
+use Rattle.drawing.proofs.Rest.{rest_of}
 use Rattle.drawing.proofs.pulses.draw.Given as goal
 
 abbrev pub invariant-loop-i : goal.invariant-loop-i

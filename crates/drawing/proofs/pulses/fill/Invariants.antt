@@ -1,11 +1,8 @@
 -- `drawing::pulses::fill` meets its contract: after each turn the samples so far stand in the output. Assumes nothing.
-use mathlib.Core.Path.{◌≡◌, refl, sym, ap, ◌∙◌}
-use mathlib.Core.List.{List, [], ◌∷◌}
-use Prim.Native.Nat.{ℕ, ◌≤◌, ◌-◌, ◌+◌}
-use native.Mathlib.Omega.{arith}
-use lib.ListN.{length, set, replicate, length-set, length-replicate, replicate-append-replicate}
+use mathlib.Core.Path.{◌≡◌}
+use Prim.Native.Nat.{◌≤◌, ◌-◌}
+use lib.ListN.{length, replicate}
 use lib.Seq.{sets}
-use Rattle.frame.proofs.Parts.{sets-append}
 use Rattle.drawing.proofs.pulses.fill.Given as goal
 
 abbrev pub invariant-loop-i : goal.invariant-loop-i

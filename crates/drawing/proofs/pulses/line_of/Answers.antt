@@ -1,7 +1,6 @@
 -- `drawing::pulses::line_of` meets its contract: the bit that was tested is the message's. Assumes nothing.
 use mathlib.Core.Path.{sym, ap}
 use mathlib.Core.Bool.{Bool}
-use borrow.Author.Rules.{rules}
 use borrow.Author.Tests.{eq-eqb, ne_eqb}
 use Prim.Native.Nat.{ℕ}
 use Rattle.frame.specs.Pick.{pick}

@@ -7,7 +7,6 @@ use lib.Bits.{bit_xor, xor_lt}
 use lib.Count.{count_leading_zeros, leading_le, leading_length}
 use Rattle.lines.specs.Inside.Runs.{Digits, Alike}
 use Rattle.lines.proofs.Words.{agree-front}
-use borrow.Author.Rules.{rules}
 use Rattle.lines.proofs.runs.alike_front.Goals as goal
 
 -- as many bytes as leading zeros make are alike

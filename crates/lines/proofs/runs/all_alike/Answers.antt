@@ -1,11 +1,10 @@
 -- `lines::runs::all_alike` meets its contract: after i turns, if no bit differed, the first i samples are alike. Assumes nothing.
 use mathlib.Core.Path.{◌≡◌}
-use Prim.Native.Nat.{◌≤◌, ◌+◌, ◌-◌}
+use Prim.Native.Nat.{◌+◌}
 use native.Mathlib.Omega.{arith}
 use borrow.Author.Tests.{eqb-true}
 use lib.Bits.{bit_xor}
 use lib.ListN.{length, get_or}
-use Rattle.lines.specs.Inside.Runs.{Alike}
 use Rattle.lines.proofs.Words.{or-none, xor-none}
 use Rattle.lines.proofs.Alike.{alike-none, alike-one, alike-join}
 use Rattle.lines.proofs.runs.all_alike.Goals as goal

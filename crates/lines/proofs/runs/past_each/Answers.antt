@@ -1,8 +1,6 @@
 -- `lines::runs::past_each` meets its contract: at each turn the samples before i are alike. Assumes nothing.
-use Prim.Native.Nat.{◌+◌, ◌-◌}
+use Prim.Native.Nat.{◌+◌}
 use native.Mathlib.Omega.{arith}
-use lib.ListN.{length}
-use Rattle.lines.specs.Inside.Runs.{RunTo}
 use Rattle.lines.proofs.Alike.{alike-one, run_none, run_join}
 use Rattle.lines.proofs.runs.past_each.Goals as goal
 

@@ -1,9 +1,7 @@
 -- `lines::runs::past_each` meets its contract: at each turn the samples before i are alike. Assumes nothing.
-use Prim.Native.Nat.{◌+◌, ◌-◌}
-use native.Mathlib.Omega.{arith}
+use Prim.Native.Nat.{◌-◌}
 use lib.ListN.{length}
 use Rattle.lines.specs.Inside.Runs.{RunTo}
-use Rattle.lines.proofs.Alike.{alike-one, run_none, run_join}
 use Rattle.lines.proofs.runs.past_each.Given as goal
 
 abbrev pub invariant-loop-i : goal.invariant-loop-i

@@ -1,11 +1,7 @@
 -- `lines::runs::run_end` meets its contract: at each turn the samples before i are alike, by words and by blocks. Assumes nothing.
-use mathlib.Core.Path.{◌≡◌}
-use mathlib.Core.List.{List}
-use Prim.Native.Nat.{ℕ, ◌≤◌, ◌+◌, ◌-◌}
-use native.Mathlib.Omega.{arith}
-use lib.ListN.{length, take, drop, length-take, length-drop}
-use Rattle.lines.specs.Inside.Runs.{Alike, RunTo}
-use Rattle.lines.proofs.Alike.{alike-part, run_none, run_join}
+use Prim.Native.Nat.{◌-◌}
+use lib.ListN.{length}
+use Rattle.lines.specs.Inside.Runs.{RunTo}
 use Rattle.lines.proofs.runs.run_end.Given as goal
 
 abbrev pub invariant-loop-i : goal.invariant-loop-i

@@ -1,13 +1,7 @@
 -- `lines::runs::word` meets its contract: after i turns the number has the first i bytes for digits, so that one more always fits. Assumes nothing.
-use mathlib.Core.Path.{◌≡◌}
-use Prim.Native.Nat.{ℕ, ◌≤◌, ◌<◌, ◌-◌, ◌*◌, ◌%◌, ◌^◌}
-use native.Mathlib.Nat.{pow-le-pow_right}
-use native.Mathlib.Omega.{arith}
-use borrow.Author.Rules.{rules}
-use lib.Dec.{lit<}
+use Prim.Native.Nat.{◌≤◌, ◌-◌}
 use lib.ListN.{length}
 use Rattle.lines.specs.Inside.Runs.{Digits}
-use Rattle.lines.proofs.Words.{digits_more}
 use Rattle.lines.proofs.runs.word.Given as goal
 
 abbrev pub invariant-loop-i : goal.invariant-loop-i

@@ -1,7 +1,6 @@
 -- `lines::state::closed` meets its contract: a spoiled message is told by its number alone, any other by its bits. Assumes nothing.
 use mathlib.Core.Path.{◌∙◌}
 use borrow.Author.Tests.{eq-eqb, ne_eqb}
-use borrow.Author.Rules.{rules}
 use Rattle.lines.proofs.state.closed.Goals as goal
 
 pub returns-then-s-ne0 : goal.returns-then-s-ne0

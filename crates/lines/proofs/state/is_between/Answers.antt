@@ -1,5 +1,4 @@
 -- `lines::state::is_between` meets its contract: the tests of the definition, one after another. Assumes nothing.
-use borrow.Author.Rules.{rules}
 use Rattle.lines.proofs.state.is_between.Goals as goal
 
 pub returns : goal.returns

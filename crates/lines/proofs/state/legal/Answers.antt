@@ -1,6 +1,5 @@
 -- `lines::state::legal` meets its contract: one of the four. Assumes nothing.
 use Rattle.lines.specs.SoFar.{legal}
-use borrow.Author.Rules.{rules}
 use Rattle.lines.proofs.state.legal.Goals as goal
 
 pub returns : goal.returns

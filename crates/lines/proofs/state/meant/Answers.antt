@@ -3,7 +3,6 @@ use mathlib.Core.Path.{sym, ◌∙◌}
 use native.Mathlib.Omega.{arith}
 use Rattle.lines.specs.SoFar.{meant}
 use Rattle.lines.proofs.Kept.{legal-safe, bare}
-use borrow.Author.Rules.{rules}
 use Rattle.lines.proofs.state.meant.Goals as goal
 
 pub returns-then-legal : goal.returns-then-legal

@@ -1,5 +1,4 @@
 -- `lines::state::untold` meets its contract: no bits are eight zeros. Assumes nothing.
-use borrow.Author.Rules.{rules}
 use Rattle.lines.proofs.state.untold.Goals as goal
 
 pub returns : goal.returns

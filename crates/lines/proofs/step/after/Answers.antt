@@ -4,7 +4,6 @@ use native.Mathlib.Omega.{arith}
 use borrow.Author.Tests.{eq-eqb}
 use Rattle.lines.specs.Timing.{timing}
 use Rattle.lines.proofs.Steps.{low-sample, foreign-sample}
-use borrow.Author.Rules.{rules}
 use Rattle.lines.proofs.step.after.Goals as goal
 
 pub returns-then-sample-eq0 : goal.returns-then-sample-eq0

@@ -2,7 +2,6 @@
 use mathlib.Core.Path.{◌∙◌}
 use borrow.Author.Tests.{eq-eqb, ne_eqb}
 use Rattle.lines.specs.Step.{after_both}
-use borrow.Author.Rules.{rules}
 use Rattle.lines.proofs.step.after_both.Goals as goal
 
 pub returns-then-s-eq22 : goal.returns-then-s-eq22

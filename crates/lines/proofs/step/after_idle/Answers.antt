@@ -2,7 +2,6 @@
 use mathlib.Core.Path.{◌∙◌}
 use borrow.Author.Tests.{eq-eqb, ne_eqb}
 use Rattle.lines.specs.Step.{after_idle}
-use borrow.Author.Rules.{rules}
 use Rattle.lines.proofs.step.after_idle.Goals as goal
 
 pub returns-then-s-eq0 : goal.returns-then-s-eq0

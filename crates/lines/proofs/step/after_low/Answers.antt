@@ -3,7 +3,6 @@ use mathlib.Core.Path.{◌∙◌}
 use native.Mathlib.Omega.{arith}
 use borrow.Author.Tests.{eq-eqb, ne_eqb}
 use Rattle.lines.specs.Step.{after_low}
-use borrow.Author.Rules.{rules}
 use Rattle.lines.proofs.step.after_low.Goals as goal
 
 pub returns-then-s-ne0 : goal.returns-then-s-ne0

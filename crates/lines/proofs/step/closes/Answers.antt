@@ -1,6 +1,5 @@
 -- `lines::step::closes` meets its contract: no line is low, and the run has the gap's length. Assumes nothing.
 use mathlib.Core.Path.{refl}
-use borrow.Author.Rules.{rules}
 use Rattle.lines.proofs.step.closes.Goals as goal
 
 pub returns : goal.returns

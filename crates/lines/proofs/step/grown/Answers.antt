@@ -2,7 +2,6 @@
 use mathlib.Core.Path.{sym, ◌∙◌}
 use borrow.Author.Tests.{eq-eqb, ne_eqb}
 use Rattle.lines.specs.Inside.Runs.{grown}
-use borrow.Author.Rules.{rules}
 use Rattle.lines.proofs.step.grown.Goals as goal
 
 pub returns-then-s : goal.returns-then-s

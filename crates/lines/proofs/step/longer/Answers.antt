@@ -1,6 +1,5 @@
 -- `lines::step::longer` meets its contract: one more, or the number at which the count stops. Assumes nothing.
 use native.Mathlib.Omega.{arith}
-use borrow.Author.Rules.{rules}
 use Rattle.lines.proofs.step.longer.Goals as goal
 
 pub returns-then-run-lt1001 : goal.returns-then-run-lt1001

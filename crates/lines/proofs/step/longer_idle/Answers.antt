@@ -1,6 +1,5 @@
 -- `lines::step::longer_idle` meets its contract: the run grows where something is open. Assumes nothing.
 use Rattle.lines.specs.Step.{longer_idle}
-use borrow.Author.Rules.{rules}
 use Rattle.lines.proofs.step.longer_idle.Goals as goal
 
 pub returns-then-s : goal.returns-then-s

@@ -4,7 +4,6 @@ use mathlib.Core.Bool.{◌&&◌}
 use lib.Dec.{leb, ltb}
 use borrow.Author.Tests.{ltb-true}
 use Rattle.lines.specs.Step.{run_ended}
-use borrow.Author.Rules.{rules}
 use Rattle.frame.proofs.Both.{both}
 use Rattle.lines.proofs.step.run_ended.Goals as goal
 

@@ -3,7 +3,6 @@ use mathlib.Core.Path.{◌≡◌, sym, ◌∙◌}
 use Prim.Native.Nat.{◌-◌}
 use native.Mathlib.Omega.{arith}
 use Rattle.lines.specs.Inside.Runs.{wanted_of}
-use borrow.Author.Rules.{rules}
 use Rattle.lines.proofs.step.wanted.Goals as goal
 
 pub returns-then-run-gap : goal.returns-then-run-gap
