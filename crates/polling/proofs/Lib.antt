@@ -8,6 +8,4 @@ pub mod Sizes
 pub mod Putting
 pub mod Answers
 pub mod Taking
-pub mod Elements
-pub mod Lent
 pub mod UsedRows

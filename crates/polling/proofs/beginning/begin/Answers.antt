@@ -16,7 +16,7 @@ returns-then-not-found c =
       on = λ board n e.
           let finds = f.ensures.on board n e in
           c.begun_with.ensures ∙ ap (λ (l : List Polled). begun_by l 0 38) c.no_replies.ensures
-          ∙ none_kept board a.minute (sym finds.order ∙ c.if-not-found.true);
+          ∙ none_kept board a.minute (sym finds.order ∙ not-true c.find-found.result.kept c.if-not-found.true);
     }
 
 pub replies_of-replies-requires : goal.replies_of-replies-requires
@@ -31,7 +31,7 @@ returns c =
     record {
       on = λ board n e.
           let finds = f.ensures.on board n e in
-          let kept = sym finds.order ∙ c.if-not-found.false in
+          let kept = sym finds.order ∙ not-false c.find-found.result.kept c.if-not-found.false in
           c.begun_with-2.ensures ∙ ap (λ (l : List Polled). begun_by l f.result.free 0) c.replies_of-replies.ensures
           ∙ all-kept board a.minute a.held f.result.free kept e (finds.vacant kept);
     }

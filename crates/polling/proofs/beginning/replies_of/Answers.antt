@@ -32,7 +32,7 @@ one_more minute held i x long less is =
     (ap (λ (y : Polled). map f (take i held) ++ y ∷ []) is ∙ sym (map_snoc f (take i held) (get_or held i free_row))
     ∙ ap (map f) (sym (take-suc held i free_row (omega arith)) ∙ ap (λ (n : ℕ). take n held) (sym (add-one i))))
 
-thirty : (s : Start) → length s.args.t1 ≡ 30
+thirty : (s : Start) → length s.args.held ≡ 30
 thirty s = s.well_formed.0.1.0.1
 
 pub loop-i-init : goal.loop-i-init
@@ -60,11 +60,11 @@ pub loop-i-preserved : goal.loop-i-preserved
 loop-i-preserved c =
     let l = c.loop-i in (
       omega arith,
-      ap (λ (x : List Polled). set x l.i c.unanswered.result) l.invariant.1 ∙ one_more c.args.minute c.args.t1 l.i c.unanswered.result (thirty (goal.at.loop-i-preserved c).Start) (omega arith) c.unanswered.ensures,
+      ap (λ (x : List Polled). set x l.i c.unanswered.result) l.invariant.1 ∙ one_more c.args.minute c.args.held l.i c.unanswered.result (thirty (goal.at.loop-i-preserved c).Start) (omega arith) c.unanswered.ensures,
     )
 
 pub returns : goal.returns
 returns c =
     let l = c.loop-i in
     let place : l.i ≡ c.args.count = omega arith in
-    l.invariant.1 ∙ ap (λ (k : ℕ). map (reply_for c.args.minute) (take k c.args.t1) ++ replicate (30 - k) no_reply) place
+    l.invariant.1 ∙ ap (λ (k : ℕ). map (reply_for c.args.minute) (take k c.args.held) ++ replicate (30 - k) no_reply) place

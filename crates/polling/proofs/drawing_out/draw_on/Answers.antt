@@ -36,8 +36,8 @@ returns-then-size_of-passed c =
     record {
       on = λ rs its.
           let entry = sym (its-entry rs a.t c.requires.t_value its) in
-          draws-on (state_of rs a.t) a.p a.out.now (left_by_drawing rs a.t c.drew.result) c.requires.p_value c.requires.t_value c.requires.listening_value put.result put.new.1.1.1.0
-          (subst (λ (x : Polled). Puts (drop a.t.passed (try_drawn a.p x.address)) a.out.now put.result put.new.1.1.1.0) entry put.ensures)
+          draws-on (state_of rs a.t) a.p a.out.now (left_by_drawing rs a.t c.drew.result) c.requires.p_value c.requires.t_value c.requires.listening_value put.result put.new.out
+          (subst (λ (x : Polled). Puts (drop a.t.passed (try_drawn a.p x.address)) a.out.now put.result put.new.out) entry put.ensures)
           (ap (left_by_drawing rs a.t) c.drew.ensures
           ∙ ap (λ (s : SoFar). drew (turn_by (state_of rs a.t) s 0 a.t.tried 1) put.result 0 0) rest.ensures
           ∙ ap (λ (x : Polling). drew x put.result 0 0)
@@ -55,8 +55,8 @@ returns c =
     record {
       on = λ rs its.
           let entry = sym (its-entry rs a.t c.requires.t_value its) in
-          draws-on (state_of rs a.t) a.p a.out.now (left_by_drawing rs a.t c.drew-2.result) c.requires.p_value c.requires.t_value c.requires.listening_value put.result put.new.1.1.1.0
-          (subst (λ (x : Polled). Puts (drop a.t.passed (try_drawn a.p x.address)) a.out.now put.result put.new.1.1.1.0) entry put.ensures)
+          draws-on (state_of rs a.t) a.p a.out.now (left_by_drawing rs a.t c.drew-2.result) c.requires.p_value c.requires.t_value c.requires.listening_value put.result put.new.out
+          (subst (λ (x : Polled). Puts (drop a.t.passed (try_drawn a.p x.address)) a.out.now put.result put.new.out) entry put.ensures)
           (ap (left_by_drawing rs a.t) c.drew-2.ensures
           ∙ ap (λ (s : SoFar). drew (turn_by (state_of rs a.t) s (a.t.passed + put.result) a.t.tried 0) put.result 0 0) rest.ensures
           ∙ ap (λ (x : Polling). drew x put.result 0 0)

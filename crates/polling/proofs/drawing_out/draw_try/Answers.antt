@@ -33,4 +33,4 @@ returns c =
     let poll = c.poll-more in
     let still = c.left in
     let before = c.left-2 in
-    two-parts a.p a.address a.from a.out.now i.new.out poll.new.1.1.1.0 i.result poll.result still.result before.result still.ensures before.ensures i.ensures poll.ensures
+    two-parts a.p a.address a.from a.out.now i.new.out poll.new.out i.result poll.result still.result before.result still.ensures before.ensures i.ensures poll.ensures

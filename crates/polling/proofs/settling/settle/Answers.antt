@@ -49,7 +49,7 @@ module _ (p : Pace) (minute : ℕ) (w : Polling) where
       (sym (ap (λ (x : Ear). x.message || leb p.tries (w.tried + 1)) is) ∙ t))
 
 pub going_on-requires : goal.going_on-requires
-going_on-requires c = c.listen-ear.ensures.1 c.if-not-ear.true
+going_on-requires c = c.listen-ear.ensures.1 (not-true c.listen-ear.result.settled c.if-not-ear.true)
 
 pub returns-then-not-ear : goal.returns-then-not-ear
 returns-then-not-ear c =
@@ -59,7 +59,7 @@ returns-then-not-ear c =
     record {
       on = λ rs its. ap (left_by_hearing rs a.t.at a.t) c.going_on.ensures
           ∙ ap (λ (x : List Polled). settled_of (state_of x (turn_as a.t e.so_far (a.t.passed + e.taken) a.t.tried 1)) e.taken 0 0 0 0) (kept rs a.t.at a.t.entry its)
-          ∙ goes_on a.p a.minute (state_of rs a.t) _ e l.ensures.0 c.if-not-ear.true;
+          ∙ goes_on a.p a.minute (state_of rs a.t) _ e l.ensures.0 (not-true c.listen-ear.result.settled c.if-not-ear.true);
     }
 
 pub answered-requires : goal.answered-requires
@@ -73,7 +73,7 @@ returns-then-ear-p c =
     record {
       on = λ rs its. ap (left_by_hearing rs a.t.at a.t) c.answered.ensures
           ∙ stood rs a.t a.minute e its
-          ∙ stands a.p a.minute (state_of rs a.t) _ e l.ensures.0 c.if-not-ear.false c.if-ear-p.true;
+          ∙ stands a.p a.minute (state_of rs a.t) _ e l.ensures.0 (not-false c.listen-ear.result.settled c.if-not-ear.false) c.if-ear-p.true;
     }
 
 pub asked_again-requires : goal.asked_again-requires
@@ -90,5 +90,5 @@ returns c =
     record {
       on = λ rs its. ap (left_by_hearing rs a.t.at a.t) c.asked_again.ensures
           ∙ ap (λ (x : List Polled). settled_of (state_of x (turn_as a.t rest_state 0 (a.t.tried + 1) 0)) e.taken a.t.at 0 0 e.number) (kept rs a.t.at a.t.entry its)
-          ∙ again a.p a.minute (state_of rs a.t) _ e l.ensures.0 c.if-not-ear.false c.if-ear-p.false;
+          ∙ again a.p a.minute (state_of rs a.t) _ e l.ensures.0 (not-false c.listen-ear.result.settled c.if-not-ear.false) c.if-ear-p.false;
     }
