@@ -8,11 +8,6 @@ use Rattle.layers.specs.Gauged.{with_reply}
 use borrow.Author.Rules.{rules}
 use Rattle.layers.proofs.gauge.with_record.Goals as goal
 
-pub slice_bounds-read_reply-end : goal.slice_bounds-read_reply-end
-slice_bounds-read_reply-end c =
-    let long : length c.args.t3 ≡ 8 = c.well_formed.1.1.0.1.0.1 in
-    sym (length-take-le _ c.args.t3 (omega arith))
-
 pub returns : goal.returns
 returns c =
     let a = c.args in

@@ -11,9 +11,9 @@ use Rattle.layers.proofs.parts.put_point.Goals as goal
 pub returns-then-not-v : goal.returns-then-not-v
 returns-then-not-v c =
     let a = c.args in
-    nothing_put (no-point a.joined a.minute a.v c.if-not-v.true)
+    nothing_put (no-point a.joined a.minute a.v (not-true a.v.there c.if-not-v.true))
 
 pub returns : goal.returns
 returns c =
     let a = c.args in
-    text-is (a_point a.joined a.minute a.v _ c.one_if.ensures c.if-not-v.false) c.put_choice.ensures
+    text-is (a_point a.joined a.minute a.v _ c.one_if.ensures (not-false a.v.there c.if-not-v.false)) c.put_choice.ensures

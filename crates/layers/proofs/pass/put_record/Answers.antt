@@ -14,11 +14,6 @@ use Rattle.layers.specs.Drawing.{value_in, point_text, mark_text, part_text, lin
 use borrow.Author.Rules.{rules}
 use Rattle.layers.proofs.pass.put_record.Goals as goal
 
-pub slice_bounds-read_reply-end : goal.slice_bounds-read_reply-end
-slice_bounds-read_reply-end c =
-    let long : length c.args.t6 ≡ 8 = c.well_formed.1.1.1.1.1.0.1.0.1 in
-    sym (length-take-le _ c.args.t6 (omega arith))
-
 pub returns : goal.returns
 unfolding part_text line_goes_on
 returns c =
