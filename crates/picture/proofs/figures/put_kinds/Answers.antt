@@ -41,11 +41,6 @@ loop-k-init c = record { low = omega arith; so_far = omega arith; kept = refl; t
 pub offset_bounds-counts-k : goal.offset_bounds-counts-k
 offset_bounds-counts-k c = omega arith
 
-pub bounds-counts-k : goal.bounds-counts-k
-bounds-counts-k c =
-    let long : length c.args.t3 ≡ 19 = c.well_formed.1.1.0.1.0.1 in
-    omega (arith, long)
-
 pub put_kind-end-requires : goal.put_kind-end-requires
 put_kind-end-requires c =
     let l = c.loop-k in
@@ -70,6 +65,6 @@ pub returns : goal.returns
 returns c =
     let l = c.loop-k in
     let a = c.args in
-    let none = no_kind a.t3 l.k (omega arith) in
+    let none = no_kind a.counts l.k (omega arith) in
     let all = sym (append-nil l.invariant.text) ∙ ap (λ (t : List ℕ). l.invariant.text ++ t) (sym none) ∙ l.invariant.whole in
     at_most (omega (arith, l.invariant.so_far)) (text-is all l.invariant.put)

@@ -112,6 +112,6 @@ returns c =
     let f = c.loop-i.invariant in
     let a = c.args in
     let l = list_of a.sheet.now in
-    let none = no_line a.t6 a.count c.loop-i.i (omega arith) in
-    let end : f.text ≡ sections_text l a.a (take a.count a.t6) = sym (append-nil f.text) ∙ ap (λ (t : List ℕ). f.text ++ t) (sym (ap (sections_text l a.a) none ∙ text-none l a.a)) ∙ f.whole in
+    let none = no_line a.lines a.count c.loop-i.i (omega arith) in
+    let end : f.text ≡ sections_text l a.a (take a.count a.lines) = sym (append-nil f.text) ∙ ap (λ (t : List ℕ). f.text ++ t) (sym (ap (sections_text l a.a) none ∙ text-none l a.a)) ∙ f.whole in
     at_most (omega (arith, f.room)) (text-is end f.put)
