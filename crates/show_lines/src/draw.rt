@@ -24,27 +24,23 @@ fn sample(letter: u8) -> u8 {
 
 // The samples of a picture, as many as there is room for.
 pub(crate) fn picture(letters: &[u8], samples: &mut [u8; 356]) {
-    let mut i = 0;
-    while i < 356 {
+    for i in 0..356 {
         if letters.len() <= i {
             return;
         }
         samples[i] = sample(letters[i]);
-        i += 1;
     }
 }
 
 // So many of one sample from a place on, as many as there is room for. Answers the place after them.
 pub(crate) fn run(samples: &mut [u8; 356], from: usize, of: u8, times: usize) -> usize {
     let mut at = from;
-    let mut left = times;
-    while at < 356 {
-        if left == 0 {
+    for _sample in 0..times {
+        if 356 <= at {
             return at;
         }
         samples[at] = of;
         at += 1;
-        left -= 1;
     }
     at
 }
