@@ -1,14 +1,7 @@
 -- `cards::counting::count` meets its contract: after k turns the first k slots are counted, and each of them once at most. Assumes nothing.
-use mathlib.Core.Path.{◌≡◌, sym, ap, ◌∙◌}
-use mathlib.Core.List.{List}
-use Prim.Native.Nat.{ℕ, ◌+◌, ◌-◌, ◌<◌, ◌≤◌, ◌^◌}
-use native.Mathlib.Numerals.{add-one}
-use native.Mathlib.Omega.{arith}
-use Rattle.sheet.specs.Slots.{slots}
-use Rattle.sheet.specs.Look.{look_of}
-use Rattle.cards.specs.declared.counting.Tally.{Tally}
-use Rattle.cards.specs.Tally.{with_slot, tally_up_to}
-use Rattle.cards.proofs.FewCounted.{few-counted}
+use mathlib.Core.Path.{◌≡◌}
+use Prim.Native.Nat.{◌-◌, ◌≤◌}
+use Rattle.cards.specs.Tally.{tally_up_to}
 use Rattle.cards.proofs.counting.count.Given as goal
 
 abbrev pub invariant-loop-k : goal.invariant-loop-k

@@ -1,5 +1,4 @@
 -- `cards::counting::with_record` meets its contract: the two minutes are the lower and the higher. Assumes nothing.
-use borrow.Author.Rules.{rules}
 use Rattle.cards.proofs.counting.with_record.Goals as goal
 
 pub returns : goal.returns

@@ -5,14 +5,11 @@ use Rattle.sheet.specs.declared.Found.TheVariants.{Blank, Spoiled, Foreign, Reco
 use Rattle.sheet.specs.declared.Looked.{Looked}
 use Rattle.sheet.specs.Look.{look_of}
 use Rattle.cards.specs.Tally.{with_slot}
-use borrow.Author.Rules.{rules}
 use Rattle.cards.proofs.counting.with_slot.Goals.{After-look-looked}
 use Rattle.cards.proofs.counting.with_slot.Goals as goal
 
 -- counted by what was found, or by what a look answers
 module _ (l : After-look-looked) where
-
-
   seen : (f : Found) → l.look-looked.result.found ≡ f → with_slot f l.args.t ≡ with_slot (look_of l.args.sheet.now l.args.k).found l.args.t
   seen f e = ap (λ (g : Found). with_slot g l.args.t) (sym e ∙ ap (λ (x : Looked). x.found) l.look-looked.ensures.answers)
 
