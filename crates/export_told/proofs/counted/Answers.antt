@@ -1,5 +1,4 @@
 -- `export_told::counted` meets its contract, case by case of the answer.
-use borrow.Author.Rules.{rules}
 use Rattle.export_told.proofs.counted.Goals as goal
 
 pub returns-in-Slots : goal.returns-in-Slots

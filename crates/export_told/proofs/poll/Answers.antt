@@ -1,5 +1,4 @@
 -- `export_told::poll` meets its contract, case by case of the answer.
-use borrow.Author.Rules.{rules}
 use Rattle.export_told.proofs.poll.Goals as goal
 
 pub returns-in-Asked : goal.returns-in-Asked

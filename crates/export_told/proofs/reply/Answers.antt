@@ -1,6 +1,5 @@
 -- `export_told::reply` meets its contract, case by case of the answer.
 use mathlib.Core.Path.{◌∙◌}
-use borrow.Author.Rules.{rules}
 use Rattle.export_told.proofs.reply.Goals as goal
 
 pub returns-in-Read : goal.returns-in-Read

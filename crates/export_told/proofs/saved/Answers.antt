@@ -1,5 +1,4 @@
 -- `export_told::saved` meets its contract, case by case of the answer.
-use borrow.Author.Rules.{rules}
 use Rattle.export_told.proofs.saved.Goals as goal
 
 pub returns-in-Stores : goal.returns-in-Stores

@@ -1,6 +1,5 @@
 -- `export_told::slot` meets its contract, case by case of what was found.
 use mathlib.Core.Path.{◌∙◌}
-use borrow.Author.Rules.{rules}
 use Rattle.export_told.proofs.slot.Goals as goal
 
 pub overflow_cast-result : goal.overflow_cast-result

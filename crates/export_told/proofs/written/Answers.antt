@@ -1,5 +1,4 @@
 -- `export_told::written` meets its contract, case by case of the answer.
-use borrow.Author.Rules.{rules}
 use Rattle.export_told.proofs.written.Goals as goal
 
 pub returns-in-Bytes : goal.returns-in-Bytes

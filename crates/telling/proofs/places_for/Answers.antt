@@ -1,14 +1,13 @@
 -- `telling::places_for` meets its contract: after i turns the first i places stand in the row, and zeros behind them. Assumes nothing.
 use mathlib.Core.Path.{◌≡◌, refl, sym, ap, ◌∙◌}
-use mathlib.Core.List.{List, [], ◌∷◌, ◌++◌}
-use Prim.Native.Nat.{ℕ, suc, ◌+◌, ◌-◌, ◌<◌, ◌≤◌}
+use mathlib.Core.List.{List}
+use Prim.Native.Nat.{ℕ, ◌+◌, ◌<◌, ◌≤◌}
 use native.Mathlib.Numerals.{add-one}
 use native.Mathlib.Omega.{arith}
-use lib.ListN.{length, set, length-set, length-append, length-replicate}
+use lib.ListN.{length, set}
 use Rattle.sheet.specs.StoresTold.{zeros_behind}
 use Rattle.sheet.specs.Inside.Rows.{up_from, places_row}
 use Rattle.sheet.proofs.Rows.{one_more, two-more, up-length, up_more}
-use borrow.Author.Rules.{rules}
 use Rattle.telling.proofs.places_for.Goals as goal
 
 -- one place more

@@ -1,14 +1,8 @@
 -- `telling::places_for` meets its contract: after i turns the first i places stand in the row, and zeros behind them. Assumes nothing.
-use mathlib.Core.Path.{◌≡◌, refl, sym, ap, ◌∙◌}
-use mathlib.Core.List.{List, [], ◌∷◌, ◌++◌}
-use Prim.Native.Nat.{ℕ, suc, ◌+◌, ◌-◌, ◌<◌, ◌≤◌}
-use native.Mathlib.Numerals.{add-one}
-use native.Mathlib.Omega.{arith}
-use lib.ListN.{length, set, length-set, length-append, length-replicate}
+use mathlib.Core.Path.{◌≡◌}
+use Prim.Native.Nat.{◌-◌, ◌≤◌}
 use Rattle.sheet.specs.StoresTold.{zeros_behind}
-use Rattle.sheet.specs.Inside.Rows.{up_from, places_row}
-use Rattle.sheet.proofs.Rows.{one_more, two-more, up-length, up_more}
-use borrow.Author.Rules.{rules}
+use Rattle.sheet.specs.Inside.Rows.{up_from}
 use Rattle.telling.proofs.places_for.Given as goal
 
 abbrev pub invariant-loop-i : goal.invariant-loop-i
