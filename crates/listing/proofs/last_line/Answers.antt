@@ -13,20 +13,20 @@ use Rattle.listing.specs.Lines.{count_line}
 use Rattle.listing.proofs.Answers.{refused-12, put_first, handed}
 use borrow.Author.Rules.{rules}
 use Rattle.sheet.proofs.FewRecords.{few-records}
-use Rattle.listing.proofs.last_line.Goals.{In-Slots-2}
+use Rattle.listing.proofs.last_line.Goals.{In-Slots}
 use Rattle.listing.proofs.last_line.Goals as goal
 
 -- the slots that were counted are the sheet's, which is of an allowed size
-told : (c : In-Slots-2) → (size_allowed c.args.sheet.now ≡ true) × (c.in-Slots.slots ≡ slots c.args.sheet.now)
+told : (c : In-Slots) → (size_allowed c.args.sheet.now ≡ true) × (c.in-Slots.slots ≡ slots c.args.sheet.now)
 told c = told-slots c.args.sheet.now _ c.in-Slots.slots c.count_slots-counted.ensures c.in-Slots.is
 
 pub count_records-records-requires : goal.count_records-records-requires
-count_records-records-requires c = let all = told (goal.at.count_records-records-requires c).In-Slots-2 in record { sheet_value = all.0; many_value = all.1 }
+count_records-records-requires c = let all = told (goal.at.count_records-records-requires c).In-Slots in record { sheet_value = all.0; many_value = all.1 }
 
 pub overflow_cast-records : goal.overflow_cast-records
 overflow_cast-records c =
     let s = c.args.sheet.now in
-    omega (arith, c.count_records-records.ensures, few-records s (slots s), few-slots s (told (goal.at.overflow_cast-records c).In-Slots-2).0)
+    omega (arith, c.count_records-records.ensures, few-records s (slots s), few-slots s (told (goal.at.overflow_cast-records c).In-Slots).0)
 
 pub slice_bounds-hand_over-end : goal.slice_bounds-hand_over-end
 slice_bounds-hand_over-end c =
@@ -36,8 +36,8 @@ slice_bounds-hand_over-end c =
 pub returns-in-Slots : goal.returns-in-Slots
 unfolding count_line
 returns-in-Slots c =
-    let text = ap (λ (n : ℕ). ascii "c " ++ in_decimal n ++ ascii "\n") c.count_records-records.ensures in
-    handed _ _ _ _ _ _ (told (goal.at.returns-in-Slots c).In-Slots-2).0 (put_first _ _ _ _ _ (omega (arith, c.put_count-end.ensures.within)) c.put_count-end.ensures ∙ text) c.hand_over.ensures
+    let text = ap (λ (n : ℕ). ascii "records " ++ in_decimal n ++ ascii "\n") c.count_records-records.ensures in
+    handed _ _ _ _ _ _ (told (goal.at.returns-in-Slots c).In-Slots).0 (put_first _ _ _ _ _ (omega (arith, c.put_count-end.ensures.within)) c.put_count-end.ensures ∙ text) c.hand_over.ensures
 
 pub returns-in-Refused : goal.returns-in-Refused
 returns-in-Refused c =

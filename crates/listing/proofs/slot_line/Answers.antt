@@ -9,22 +9,22 @@ use Rattle.sheet.specs.Slots.{size_allowed, slots}
 use Rattle.sheet.proofs.Seen.{told-slots, told-refused}
 use Rattle.listing.proofs.Answers.{refused-12, put_first, handed}
 use borrow.Author.Rules.{rules}
-use Rattle.listing.proofs.slot_line.Goals.{In-Slots-2}
+use Rattle.listing.proofs.slot_line.Goals.{In-Slots}
 use Rattle.listing.proofs.slot_line.Goals as goal
 
 -- the slots that were counted are the sheet's, which is of an allowed size
-told : (c : In-Slots-2) → (size_allowed c.args.sheet.now ≡ true) × (c.in-Slots.slots ≡ slots c.args.sheet.now)
+told : (c : In-Slots) → (size_allowed c.args.sheet.now ≡ true) × (c.in-Slots.slots ≡ slots c.args.sheet.now)
 told c = told-slots c.args.sheet.now _ c.in-Slots.slots c.count_slots-counted.ensures c.in-Slots.is
 
 pub returns-then-slots-slot : goal.returns-then-slots-slot
 returns-then-slots-slot c =
     let a = c.args in
-    let size = told (goal.at.returns-then-slots-slot c).In-Slots-2 in
+    let size = told (goal.at.returns-then-slots-slot c).In-Slots in
     refused-12 _ _ a.out.now _ (simp (size.0, le-ltb a.slot (slots a.sheet.now) (omega (arith, c.if-slots-slot.true))))
 
 pub put_slot-put-requires : goal.put_slot-put-requires
 put_slot-put-requires c =
-    let size = told (goal.at.put_slot-put-requires c).In-Slots-2 in
+    let size = told (goal.at.put_slot-put-requires c).In-Slots in
     record { at_in_bounds = omega arith; sheet_value = size.0; slot_bound = omega (arith, c.if-slots-slot.false) }
 
 pub slice_bounds-hand_over-end : goal.slice_bounds-hand_over-end
@@ -35,7 +35,7 @@ slice_bounds-hand_over-end c =
 pub returns-else-slots-slot : goal.returns-else-slots-slot
 returns-else-slots-slot c =
     let a = c.args in
-    let size = told (goal.at.returns-else-slots-slot c).In-Slots-2 in
+    let size = told (goal.at.returns-else-slots-slot c).In-Slots in
     handed _ _ _ _ _ _ (simp (size.0, lt-ltb a.slot (slots a.sheet.now) (omega (arith, c.if-slots-slot.false))))
     (put_first _ _ _ _ _ (omega (arith, c.put_slot-put.ensures.puts.within)) c.put_slot-put.ensures.puts) c.hand_over.ensures
 

@@ -9,8 +9,8 @@ use Rattle.listing.proofs.lines.put_line.Goals as goal
 
 pub slice_bounds-put_record-end : goal.slice_bounds-put_record-end
 slice_bounds-put_record-end c =
-    let long : length c.args.t5 ≡ 8 = c.well_formed.1.1.1.1.0.1.0.1 in
-    sym (length-take-le _ c.args.t5 (omega arith))
+    let long : length c.args.reply ≡ 8 = c.well_formed.1.1.1.1.0.1.0.1 in
+    sym (length-take-le _ c.args.reply (omega arith))
 
 pub returns : goal.returns
 returns c =

@@ -33,18 +33,18 @@ degrees-text d m plus fits test said took size =
 pub overflow_cast-tenths : goal.overflow_cast-tenths
 overflow_cast-tenths c =
     let d = c.in-Degrees.d in
-    let fits : SFits w16 d = record { sfits = c.in-Degrees.known_told-1-own.given.0.1 } in
+    let fits : SFits w16 d = search rules in
     rw (c.magnitude-tenths.ensures, same d fits) (record { fits = omega (arith, magnitude-small d fits) })
 
 pub returns-then-is_plus : goal.returns-then-is_plus
 returns-then-is_plus c =
     let d = c.in-Degrees.d in
-    at_most (omega arith) (text-is (degrees-text d _ true (record { sfits = c.in-Degrees.known_told-1-own.given.0.1 }) _ c.is_plus.ensures c.if-is_plus.true c.magnitude-tenths.ensures ∙ ap temperature_text (sym c.in-Degrees.is)) c.put_short.ensures)
+    at_most (omega arith) (text-is (degrees-text d _ true (search rules) _ c.is_plus.ensures c.if-is_plus.true c.magnitude-tenths.ensures ∙ ap temperature_text (sym c.in-Degrees.is)) c.put_short.ensures)
 
 pub returns-else-is_plus : goal.returns-else-is_plus
 returns-else-is_plus c =
     let d = c.in-Degrees.d in
-    text-is (degrees-text d _ false (record { sfits = c.in-Degrees.known_told-1-own.given.0.1 }) _ c.is_plus.ensures c.if-is_plus.false c.magnitude-tenths.ensures ∙ ap temperature_text (sym c.in-Degrees.is)) (then c.put_byte-next.ensures c.put_short-in-Degrees.ensures)
+    text-is (degrees-text d _ false (search rules) _ c.is_plus.ensures c.if-is_plus.false c.magnitude-tenths.ensures ∙ ap temperature_text (sym c.in-Degrees.is)) (then c.put_byte-next.ensures c.put_short-in-Degrees.ensures)
 
 pub returns-in-Above : goal.returns-in-Above
 returns-in-Above c =

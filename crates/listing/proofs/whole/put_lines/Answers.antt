@@ -12,10 +12,10 @@ use Rattle.putting.specs.Puts.{Puts}
 use Rattle.putting.proofs.Putting.{then, text-is, at_most, nothing_put}
 use Rattle.listing.proofs.Slotwise.{lines_more, records-more}
 use Rattle.listing.proofs.whole.put_lines.Invariants.{Listed}
-use Rattle.listing.proofs.whole.put_lines.Goals.{After-struct_known-1}
+use Rattle.listing.proofs.whole.put_lines.Goals.{After-put_slot-line}
 use Rattle.listing.proofs.whole.put_lines.Goals as goal
 
-one_more : (c : After-struct_known-1) → let l = c.loop-k in let put = c.put_slot-line in Listed c.args.out.now c.args.at c.args.sheet.now c.args.many put.new.out put.result.end (l.records + put.result.records) (l.k + 1)
+one_more : (c : After-put_slot-line) → let l = c.loop-k in let put = c.put_slot-line in Listed c.args.out.now c.args.at c.args.sheet.now c.args.many put.new.out put.result.end (l.records + put.result.records) (l.k + 1)
 one_more c =
     let l = c.loop-k in
     let put = c.put_slot-line in
@@ -38,7 +38,7 @@ put_slot-line-requires c =
     record { at_in_bounds = omega (arith, l.invariant.lines.ends, l.invariant.lines.within, l.invariant.kept, c.requires.many_in_bounds); sheet_value = c.requires.sheet_value; slot_bound = omega (arith, c.requires.many_value) }
 
 pub overflow_add-records : goal.overflow_add-records
-overflow_add-records c = omega (arith, (one_more c).counted, few-records c.args.sheet.now (c.loop-k.k + 1))
+overflow_add-records c = omega (arith, (one_more (goal.at.overflow_add-records c).After-put_slot-line).counted, few-records c.args.sheet.now (c.loop-k.k + 1))
 
 pub overflow_add-k : goal.overflow_add-k
 overflow_add-k c = omega arith
@@ -47,7 +47,7 @@ pub loop-k-smaller : goal.loop-k-smaller
 loop-k-smaller c = omega arith
 
 pub loop-k-preserved : goal.loop-k-preserved
-loop-k-preserved c = one_more c
+loop-k-preserved c = one_more (goal.at.loop-k-preserved c).After-put_slot-line
 
 pub shape_of-out : goal.shape_of-out
 shape_of-out c = c.loop-k.invariant.kept
