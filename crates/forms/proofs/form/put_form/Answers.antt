@@ -45,9 +45,6 @@ module _ (out₀ : List ℕ) (at : ℕ) (form numbers : List ℕ) (out : List �
 
 -- what the test saw at the place
 module _ (t : After-takes_number) where
-
-
-
   test : (b : Bool) → t.takes_number.result ≡ b → takes_number (get_or t.args.form.now t.loop-i.i 0) t.loop-i.n (length t.args.numbers.now) ≡ b
   test b e = sym t.takes_number.ensures ∙ e
 

@@ -16,8 +16,6 @@ use Rattle.joins.proofs.joining.count_pairs.Goals as goal
 
 -- one turn
 module _ (t : After-turn-whose) where
-
-
   abbrev i : ℕ
   i = t.loop-i.i
 

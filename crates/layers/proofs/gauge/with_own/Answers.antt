@@ -14,8 +14,6 @@ use Rattle.layers.proofs.gauge.with_own.Goals as goal
 
 -- the record, and its pair
 module _ (p : After-pair_of) where
-
-
   abbrev e : Entry
   e = entry_with p.args.head (take (bytes_for p.args.head.count) p.args.reply)
 

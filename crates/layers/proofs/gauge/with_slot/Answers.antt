@@ -20,8 +20,6 @@ use Rattle.layers.proofs.gauge.with_slot.Goals as goal
 
 -- what the look tells, by the case that the match saw
 module _ (l : After-look-looked) where
-
-
   abbrev s : List ℕ
   s = l.args.sheet.now
 

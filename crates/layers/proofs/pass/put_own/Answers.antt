@@ -15,8 +15,6 @@ use Rattle.layers.proofs.pass.put_own.Goals as goal
 
 -- the record, and its pair
 module _ (p : After-pair_of) where
-
-
   abbrev e : Entry
   e = entry_with p.args.head (take (bytes_for p.args.head.count) p.args.reply)
 

@@ -19,8 +19,6 @@ use Rattle.layers.proofs.pass.put_slot.Goals as goal
 
 -- what the look tells, by the case that the match saw
 module _ (l : After-look-looked) where
-
-
   abbrev s : List ℕ
   s = l.args.sheet.now
 

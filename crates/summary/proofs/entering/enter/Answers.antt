@@ -33,8 +33,6 @@ use Rattle.summary.proofs.entering.enter.Goals as goal
 
 -- what the search told, of what the call was handed
 module _ (p : After-stands_at) where
-
-
   abbrev fs : List ℕ
   fs = p.args.fronts.now
 
@@ -114,7 +112,10 @@ returns c =
     let moved = c.move_on.ensures in
     let moved-b = c.move_on-2.ensures in
     let few = (small (goal.at.returns c).After-stands_at).sound.few in
-    let free : (h (goal.at.returns c).After-stands_at).count < 30 = omega (arith, few, c.if-count-eq30.false) in record { enters = enters-new (fs (goal.at.returns c).After-stands_at) (bs (goal.at.returns c).After-stands_at) (h (goal.at.returns c).After-stands_at) (thirty (goal.at.returns c).After-stands_at) (small (goal.at.returns c).After-stands_at) (x (goal.at.returns c).After-stands_at) (k (goal.at.returns c).After-stands_at) (at (goal.at.returns c).After-stands_at) (is (goal.at.returns c).After-stands_at) (places (goal.at.returns c).After-stands_at) (one (goal.at.returns c).After-stands_at) (elsewhere (goal.at.returns c).After-stands_at c.if-stands_at.false) free _ _ c.front-2.ensures c.back-2.ensures _ _ moved moved-b _ refl; thirty_2 = record {
+    let free : (h (goal.at.returns c).After-stands_at).count < 30 = omega (arith, few, c.if-count-eq30.false) in record {
+      enters = enters-new (fs (goal.at.returns c).After-stands_at) (bs (goal.at.returns c).After-stands_at) (h (goal.at.returns c).After-stands_at) (thirty (goal.at.returns c).After-stands_at) (small (goal.at.returns c).After-stands_at) (x (goal.at.returns c).After-stands_at) (k (goal.at.returns c).After-stands_at) (at (goal.at.returns c).After-stands_at) (is (goal.at.returns c).After-stands_at) (places (goal.at.returns c).After-stands_at) (one (goal.at.returns c).After-stands_at) (elsewhere (goal.at.returns c).After-stands_at c.if-stands_at.false) free _ _ c.front-2.ensures c.back-2.ensures _ _ moved moved-b _ refl;
+      thirty_2 = record {
         fronts = ap length moved ∙ moved-long 0 (fs (goal.at.returns c).After-stands_at) (h (goal.at.returns c).After-stands_at).count (omega (arith, (thirty (goal.at.returns c).After-stands_at).fronts)) (at (goal.at.returns c).After-stands_at) (places (goal.at.returns c).After-stands_at).few _ ∙ (thirty (goal.at.returns c).After-stands_at).fronts;
         backs = ap length moved-b ∙ moved-long 0 (bs (goal.at.returns c).After-stands_at) (h (goal.at.returns c).After-stands_at).count (omega (arith, (thirty (goal.at.returns c).After-stands_at).backs)) (at (goal.at.returns c).After-stands_at) (places (goal.at.returns c).After-stands_at).few _ ∙ (thirty (goal.at.returns c).After-stands_at).backs;
-      } }
+      };
+    }

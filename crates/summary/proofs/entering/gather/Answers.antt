@@ -55,8 +55,7 @@ pub loop-i-preserved : goal.loop-i-preserved
 loop-i-preserved c =
     let i = c.loop-i.i in
     let ls = c.loop-i.lines in
-    let y = c.line_by.result in
-    (
+    let y = c.line_by.result in (
       omega arith,
       (
         length-set ls i y ∙ c.loop-i.invariant.1.0,

@@ -16,8 +16,6 @@ use Rattle.summary.proofs.entering.with_line.Goals.{After-lay_out}
 use Rattle.summary.proofs.entering.with_line.Goals as goal
 
 module _ (l : After-lay_out) where
-
-
   abbrev s : Summary
   s = l.args.s
 

@@ -80,8 +80,7 @@ loop-i-smaller c = omega arith
 pub loop-i-preserved : goal.loop-i-preserved
 loop-i-preserved c =
     let s = handed (goal.at.loop-i-preserved c).After-place_right in
-    let i = at (goal.at.loop-i-preserved c).After-place_right in
-    (
+    let i = at (goal.at.loop-i-preserved c).After-place_right in (
       omega arith,
       (
         ap (λ (n : ℕ). n + 1) c.pair_of.ensures ∙ add-one (pair_of (line_at s i)) ∙ ap (least_at s.lines) (sym (add-one i)),
