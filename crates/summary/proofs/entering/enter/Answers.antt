@@ -15,19 +15,6 @@ use Rattle.summary.specs.InWords.{Thirty, held_as, One}
 use Rattle.summary.specs.Inside.Entering.{front_pair, Places}
 use Rattle.summary.proofs.Moved.{moved-long}
 use Rattle.summary.proofs.LineEntered.{line-there, enters-changed, enters-others, enters-new}
-use borrow.Author.Rules.{rules}
-use Rattle.summary.proofs.entering.enter.Reads as reads
-use Rattle.summary.proofs.entering.enter.Lts as lts
-use Rattle.summary.proofs.entering.back.Reads as back-reads
-use Rattle.summary.proofs.entering.front.Reads as front_reads
-use Rattle.summary.proofs.entering.line_by.Reads as line-by-reads
-use Rattle.summary.proofs.entering.move_on.Reads as move-on-reads
-use Rattle.summary.proofs.entering.place.Reads as place-reads
-use Rattle.summary.proofs.entering.stands_at.Reads as stands-at-reads
-use Rattle.summary.proofs.figures.pair_of.Reads as pair-of-reads
-use Rattle.summary.proofs.figures.together.Reads as together-reads
-use Rattle.summary.proofs.handed.line_fault.Reads as line-fault-reads
-use Rattle.summary.proofs.handed.others_fault.Reads as others-fault-reads
 use Rattle.summary.proofs.entering.enter.Goals.{After-stands_at}
 use Rattle.summary.proofs.entering.enter.Goals as goal
 

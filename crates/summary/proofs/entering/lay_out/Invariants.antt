@@ -1,20 +1,9 @@
 -- `summary::entering::lay_out` meets its contract. The invariant: the words of the lines passed tell them.
-use mathlib.Core.Path.{◌≡◌, sym, ap, ◌∙◌}
-use mathlib.Core.List.{List}
-use Prim.Native.Nat.{ℕ, ◌+◌, ◌-◌, ◌<◌, ◌≤◌}
-use native.Mathlib.Omega.{arith}
-use borrow.Author.Rules.{rules}
-use borrow.Author.Count.{below_more}
-use lib.ListN.{length, get_or, set, length-set}
-use lib.Seq.{ext_get_or, get_or-set_same, get_or-set_other}
-use Rattle.summary.specs.declared.Line.{Line}
+use mathlib.Core.Path.{◌≡◌}
+use Prim.Native.Nat.{ℕ, ◌-◌, ◌<◌, ◌≤◌}
+use lib.ListN.{length, get_or}
 use Rattle.summary.specs.Line.{blank_line}
-use Rattle.summary.specs.InWords.{line_by, lines_by}
-use Rattle.summary.proofs.Words.{told_line, by-at, by_length}
-use Rattle.summary.proofs.entering.lay_out.Reads as reads
-use Rattle.summary.proofs.entering.lay_out.Lts as lts
-use Rattle.summary.proofs.entering.back.Reads as back-reads
-use Rattle.summary.proofs.entering.front.Reads as front_reads
+use Rattle.summary.specs.InWords.{line_by}
 use Rattle.summary.proofs.entering.lay_out.Given as goal
 
 abbrev pub invariant-loop-i : goal.invariant-loop-i

@@ -1,13 +1,7 @@
 -- `summary::entering::place` meets its contract. The invariant: every pair passed is below the one sought.
 use Prim.Native.Nat.{ℕ, ◌-◌, ◌<◌, ◌≤◌}
-use native.Mathlib.Omega.{arith}
-use borrow.Author.Count.{below_more}
-use borrow.Author.Rules.{rules}
 use lib.ListN.{get_or}
 use Rattle.summary.specs.Inside.Entering.{front_pair}
-use Rattle.summary.proofs.entering.place.Reads as reads
-use Rattle.summary.proofs.entering.place.Lts as lts
-use Rattle.summary.proofs.entering.pair_in.Reads as pair-in-reads
 use Rattle.summary.proofs.entering.place.Given as goal
 
 abbrev pub invariant-loop-i : goal.invariant-loop-i

@@ -1,12 +1,8 @@
 -- `summary::entering::stands_at` meets its contract: by whether the place is used, and by its pair.
-use mathlib.Core.Path.{◌≡◌, sym, ◌∙◌}
+use mathlib.Core.Path.{sym, ◌∙◌}
 use mathlib.Core.Bool.{false≢true}
 use native.Mathlib.Omega.{arith}
 use borrow.Author.Tests.{eqb-true, eqb-false}
-use borrow.Author.Rules.{rules}
-use Rattle.summary.proofs.entering.stands_at.Reads as reads
-use Rattle.summary.proofs.entering.stands_at.Lts as lts
-use Rattle.summary.proofs.entering.pair_in.Reads as pair-in-reads
 use Rattle.summary.proofs.entering.stands_at.Goals as goal
 
 pub returns-then-count-at : goal.returns-then-count-at

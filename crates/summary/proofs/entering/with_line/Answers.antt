@@ -6,12 +6,6 @@ use Rattle.summary.specs.declared.Summary.{Summary}
 use Rattle.summary.specs.Updated.{with_line}
 use Rattle.summary.specs.Sound.{Small}
 use Rattle.summary.specs.InWords.{held_as}
-use borrow.Author.Rules.{rules}
-use Rattle.summary.proofs.entering.with_line.Reads as reads
-use Rattle.summary.proofs.entering.with_line.Lts as lts
-use Rattle.summary.proofs.entering.enter.Reads as enter-reads
-use Rattle.summary.proofs.entering.gather.Reads as gather-reads
-use Rattle.summary.proofs.entering.lay_out.Reads as lay-out-reads
 use Rattle.summary.proofs.entering.with_line.Goals.{After-lay_out}
 use Rattle.summary.proofs.entering.with_line.Goals as goal
 

@@ -1,8 +1,6 @@
 -- `summary::handed::counts_over` meets its contract: the first count that is over decides.
 use Rattle.summary.specs.Handed.{counts_over}
 use borrow.Author.Tests.{lt-ltb, le-ltb}
-use Rattle.summary.proofs.handed.counts_over.Reads as reads
-use Rattle.summary.proofs.handed.counts_over.Lts as lts
 use Rattle.summary.proofs.handed.counts_over.Goals as goal
 
 pub returns-then-line-gt1000000 : goal.returns-then-line-gt1000000

@@ -5,12 +5,7 @@ use borrow.Author.Tests.{lt-ltb, le-ltb}
 use Rattle.frame.specs.Pick.{pick}
 use Rattle.summary.specs.declared.Summary.{Summary}
 use Rattle.summary.specs.Handed.{misshapen, over, lines_over, handed_fault, most}
-use Prim.Native.Nat.{ℕ, ◌<◌, ◌≤◌}
-use borrow.Author.Rules.{rules}
-use Rattle.summary.proofs.handed.fault_of.Reads as reads
-use Rattle.summary.proofs.handed.fault_of.Lts as lts
-use Rattle.summary.proofs.handed.lines_over.Reads as lines-over-reads
-use Rattle.summary.proofs.handed.misshapen.Reads as misshapen-reads
+use Prim.Native.Nat.{◌<◌, ◌≤◌}
 use Rattle.summary.proofs.handed.fault_of.Goals as goal
 
 by_tests : (s : Summary) (m o : Bool) → misshapen s ≡ m → over s ≡ o → handed_fault s ≡ pick m 37 (pick o 24 0)

@@ -3,8 +3,6 @@ use mathlib.Core.Path.{sym}
 use Rattle.summary.proofs.Every.{blank-by}
 use Rattle.summary.specs.Handed.{is_blank}
 use borrow.Author.Tests.{eq-eqb, ne_eqb}
-use Rattle.summary.proofs.handed.is_blank.Reads as reads
-use Rattle.summary.proofs.handed.is_blank.Lts as lts
 use Rattle.summary.proofs.handed.is_blank.Goals as goal
 
 pub returns-then-line-ne0 : goal.returns-then-line-ne0

@@ -3,8 +3,6 @@ use mathlib.Core.Path.{sym}
 use Rattle.summary.proofs.Every.{levels-by}
 use Rattle.summary.specs.Handed.{levels_right}
 use borrow.Author.Tests.{eq-eqb, ne_eqb}
-use Rattle.summary.proofs.handed.levels_right.Reads as reads
-use Rattle.summary.proofs.handed.levels_right.Lts as lts
 use Rattle.summary.proofs.handed.levels_right.Goals as goal
 
 pub returns-then-line-ne65535 : goal.returns-then-line-ne65535

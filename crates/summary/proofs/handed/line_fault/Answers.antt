@@ -2,10 +2,6 @@
 use mathlib.Core.Path.{sym, ap, ◌∙◌}
 use mathlib.Core.Bool.{Bool}
 use Rattle.frame.specs.Pick.{pick}
-use borrow.Author.Rules.{rules}
-use Rattle.summary.proofs.handed.line_fault.Reads as reads
-use Rattle.summary.proofs.handed.line_fault.Lts as lts
-use Rattle.summary.proofs.handed.counts_over.Reads as counts-over-reads
 use Rattle.summary.proofs.handed.line_fault.Goals as goal
 
 pub returns-then-counts_over : goal.returns-then-counts_over

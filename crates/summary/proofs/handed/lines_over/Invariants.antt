@@ -1,17 +1,10 @@
 -- `summary::handed::lines_over` meets its contract. The invariant: no line passed has a count that is over.
-use mathlib.Core.Path.{◌≡◌, refl, sym, ap, ◌∙◌}
+use mathlib.Core.Path.{◌≡◌}
 use mathlib.Core.Bool.{false}
 use Prim.Native.Nat.{ℕ, ◌-◌, ◌<◌, ◌≤◌}
-use native.Mathlib.Omega.{arith}
-use borrow.Author.Rules.{rules}
-use borrow.Author.Count.{below_more}
 use lib.ListN.{get_or}
 use Rattle.summary.specs.Line.{blank_line}
 use Rattle.summary.specs.Handed.{counts_over}
-use Rattle.summary.proofs.Every.{one-over, none_over}
-use Rattle.summary.proofs.handed.lines_over.Reads as reads
-use Rattle.summary.proofs.handed.lines_over.Lts as lts
-use Rattle.summary.proofs.handed.counts_over.Reads as counts-over-reads
 use Rattle.summary.proofs.handed.lines_over.Given as goal
 
 abbrev pub invariant-loop-i : goal.invariant-loop-i

@@ -3,8 +3,6 @@ use mathlib.Core.Path.{sym, ap}
 use mathlib.Core.Bool.{Bool}
 use borrow.Author.Tests.{lt-ltb, le-ltb}
 use Rattle.frame.specs.Pick.{pick}
-use Rattle.summary.proofs.handed.others_fault.Reads as reads
-use Rattle.summary.proofs.handed.others_fault.Lts as lts
 use Rattle.summary.proofs.handed.others_fault.Goals as goal
 
 pub returns-then-others-gt1000000 : goal.returns-then-others-gt1000000

@@ -10,12 +10,6 @@ use Rattle.summary.specs.declared.Line.{Line}
 use Rattle.summary.specs.Line.{pair_of}
 use Rattle.summary.specs.Handed.{is_blank, levels_right}
 use Rattle.summary.specs.Inside.Entering.{right_from}
-use borrow.Author.Rules.{rules}
-use Rattle.summary.proofs.handed.place_right.Reads as reads
-use Rattle.summary.proofs.handed.place_right.Lts as lts
-use Rattle.summary.proofs.figures.pair_of.Reads as pair-of-reads
-use Rattle.summary.proofs.handed.is_blank.Reads as is-blank-reads
-use Rattle.summary.proofs.handed.levels_right.Reads as levels-right-reads
 use Rattle.summary.proofs.handed.place_right.Goals as goal
 
 module _ (count i least : ℕ) (l : Line) where
