@@ -3,15 +3,14 @@
 use mathlib.Core.Path.{◌≡◌, refl, sym, ap, ◌∙◌}
 use mathlib.Core.Bool.{Bool, true, false}
 use mathlib.Core.List.{List, [], ◌∷◌, ◌++◌, map, append-nil}
-use Prim.Native.Nat.{ℕ, zero, suc, ◌+◌, ◌-◌, ◌<◌, ◌≤◌}
+use Prim.Native.Nat.{ℕ, suc, ◌+◌, ◌-◌, ◌<◌, ◌≤◌}
 use native.Mathlib.Omega.{arith}
 use native.Mathlib.Numerals.{add-one}
 use borrow.Author.Tests.{eq-eqb, ne_eqb, lt-ltb, le-ltb, ltb-true, ltb-false}
 use lib.Dec.{ltb}
 use lib.ListN.{length, get_or, take, drop, set, replicate, length-append, length-set, drop_of_length-le, take-append-drop, get_or-map}
 use lib.Seq.{drop-cons, length-take-le, take-suc-set, drop-set-lt, append_snoc}
-use Rattle.frame.specs.Rising.{Above, above_none, above_more, Rises, rises_none, rises_more}
-use Rattle.frame.proofs.Rising.{above_lower}
+use Rattle.frame.specs.Rising.{Above, above_more, Rises, rises_more}
 use Rattle.summary.specs.declared.Line.{Line}
 use Rattle.summary.specs.Line.{pair_of, together, blank_line}
 use Rattle.summary.specs.declared.Summary.{Summary}

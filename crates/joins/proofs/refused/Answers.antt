@@ -2,7 +2,6 @@
 use mathlib.Core.Path.{ap}
 use Rattle.summary.specs.declared.Summary.{Summary}
 use Rattle.summary.specs.Calls.{made_of}
-use borrow.Author.Rules.{rules}
 use Rattle.joins.proofs.refused.Goals as goal
 
 pub returns : goal.returns

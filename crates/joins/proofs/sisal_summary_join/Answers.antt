@@ -1,7 +1,7 @@
 -- `joins::sisal_summary_join` meets its contract: each return is the case of its tests, and past them the lines are added up.
-use mathlib.Core.Path.{◌≡◌, refl, sym, ap, ◌∙◌}
+use mathlib.Core.Path.{◌≡◌, sym, ap, ◌∙◌}
 use mathlib.Core.Bool.{Bool, true, false}
-use Prim.Native.Nat.{ℕ, ◌<◌, ◌≤◌}
+use Prim.Native.Nat.{ℕ, ◌≤◌}
 use native.Mathlib.Omega.{arith}
 use lib.ListN.{length}
 use Rattle.frame.specs.Pick.{pick}
@@ -14,7 +14,6 @@ use Rattle.summary.specs.Joined.{join_lines, join_page, join_fault, JoinsSummari
 use Rattle.summary.specs.Sound.{Sound}
 use Rattle.summary.proofs.HandedIn.{sound-handed}
 use Rattle.summary.proofs.JoinTests.{refused-join, made-join, first-37, second-37, pairs-25, first-25, second-25, first-24, second-24, third-24, few-of}
-use borrow.Author.Rules.{rules}
 use Rattle.joins.proofs.sisal_summary_join.Goals.{After-lines_over-3, Else-b-gt0, Else-count_pairs-gt30, Else-lines_over, Else-lines_over-2, Else-misshapen, Else-misshapen-2}
 use Rattle.joins.proofs.sisal_summary_join.Goals as goal
 

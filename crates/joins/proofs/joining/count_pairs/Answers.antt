@@ -1,10 +1,9 @@
 -- `joins::joining::count_pairs` meets its contract. The invariant, of any lines whose pairs these are: the turns made and the lines left are those of
 -- the rows merged.
-use mathlib.Core.Path.{◌≡◌, refl, sym, ap, ◌∙◌}
+use mathlib.Core.Path.{◌≡◌, sym, ap, ◌∙◌}
 use mathlib.Core.List.{List, ◌∷◌}
-use Prim.Native.Nat.{ℕ, ◌+◌, ◌-◌, ◌<◌, ◌≤◌}
+use Prim.Native.Nat.{ℕ, ◌+◌, ◌≤◌}
 use native.Mathlib.Omega.{arith}
-use borrow.Author.Rules.{rules}
 use lib.ListN.{length, drop}
 use Rattle.summary.specs.declared.Line.{Line}
 use Rattle.summary.specs.Handed.{lines_of}

@@ -1,16 +1,12 @@
 -- `joins::joining::count_pairs` meets its contract. The invariant, of any lines whose pairs these are: the turns made and the lines left are those of
 -- the rows merged.
-use mathlib.Core.Path.{◌≡◌, refl, sym, ap, ◌∙◌}
-use mathlib.Core.List.{List, ◌∷◌}
-use Prim.Native.Nat.{ℕ, ◌+◌, ◌-◌, ◌<◌, ◌≤◌}
-use native.Mathlib.Omega.{arith}
-use borrow.Author.Rules.{rules}
+use mathlib.Core.Path.{◌≡◌}
+use mathlib.Core.List.{List}
+use Prim.Native.Nat.{◌+◌, ◌-◌, ◌≤◌}
 use lib.ListN.{length, drop}
 use Rattle.summary.specs.declared.Line.{Line}
-use Rattle.summary.specs.Handed.{lines_of}
-use Rattle.joins.specs.Inside.Joining.{merged, Turn}
-use Rattle.summary.proofs.LinesAdded.{count-of}
-use Rattle.joins.proofs.Merging.{PairsOf, pairs_of, turn-first, turn-second, turn-both, next-none, join-merged}
+use Rattle.joins.specs.Inside.Joining.{merged}
+use Rattle.joins.proofs.Merging.{PairsOf}
 use Rattle.joins.proofs.joining.count_pairs.Given as goal
 
 abbrev pub invariant-loop-i : goal.invariant-loop-i
