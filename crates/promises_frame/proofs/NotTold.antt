@@ -9,7 +9,7 @@ use borrow.Author.Tests.{ne_eqb}
 use Rattle.frame.specs.declared.Temperature.{Temperature}
 use Rattle.frame.specs.declared.Temperature.TheVariants.{Degrees, Above, Below, Absent}
 use Rattle.frame.specs.Line.{field, bit, mark}
-use Rattle.frame.specs.Temperature.{put_degrees_1900, put_degrees_1800, put_heat_1900, put_heat_1800, put_heat}
+use Rattle.frame.specs.Temperature.{put_degrees_1900, put_heat_1900, put_heat_1800, put_heat}
 use Rattle.promises_frame.specs.NotTold.{is_range_error, NotTold, bit_2, bit_3, sign_of_zero, sign_beside, hundred_beside, digits_beside, as_we_write}
 use Rattle.frame.specs.Temperature.{is_below}
 use Rattle.promises_frame.proofs.Fields.{same-within}

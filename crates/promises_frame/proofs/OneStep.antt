@@ -9,10 +9,9 @@ use native.Mathlib.Omega.{arith}
 use native.Mathlib.Nat.{div-add-mod', mod-lt, lt_of_le_of_lt, zero-div, zero-mod}
 use lib.Arith.{digits_div, digits_mod, mul_pred}
 use lib.ListN.{get_or}
-use borrow.Author.Tests.{eq-eqb, ne_eqb}
 use Rattle.frame.specs.declared.Reading.{Reading}
 use Rattle.frame.specs.Pick.{pick}
-use Rattle.frame.specs.Line.{line, field, bit, first_bytes}
+use Rattle.frame.specs.Line.{line, field, bit}
 use Rattle.frame.specs.Charts.{Chart, size_of, is_odd, turned, code_of, one_bit, two_bits, feet_tens, decimal, inches, sixteenths}
 use Rattle.frame.specs.Level.{Mode, known, width_of, values_of, write_row, mode_of, fractional_mode, decimal_mode, twenty_metre_mode, thirty_metre_mode, last_bit_of, digits_of, level_of}
 use Rattle.frame.specs.Temperature.{is_absent}

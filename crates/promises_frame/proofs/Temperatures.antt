@@ -11,7 +11,7 @@ use Rattle.frame.specs.declared.Temperature.{Temperature}
 use Rattle.frame.specs.declared.Temperature.TheVariants.{Degrees, Above, Below}
 use Rattle.frame.specs.Pick.{pick}
 use Rattle.frame.specs.Line.{field, bit, mark, three_decimal, three_digits}
-use Rattle.frame.specs.Temperature.{limit, told, bad, signed, is_plus, magnitude, degrees_at, hundreds1900, heat1900, heat1800, put_degrees, put_degrees_1900, put_heat_1900, put_heat_1800, heat_of, put_heat, is_absent}
+use Rattle.frame.specs.Temperature.{limit, told, bad, signed, is_plus, magnitude, degrees_at, hundreds1900, heat1900, heat1800, put_degrees_1900, put_heat_1900, put_heat_1800, heat_of, put_heat, is_absent}
 use Rattle.promises_frame.specs.NotTold.{is_range_error, NotTold, sign_of_zero, sign_beside, hundred_beside, digits_beside}
 use Rattle.promises_frame.specs.Temperatures.{TemperatureBothWays}
 use Rattle.promises_frame.proofs.Cases.{by_le, not-1, not-true}

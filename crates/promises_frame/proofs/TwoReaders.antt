@@ -12,7 +12,7 @@ use Rattle.frame.specs.Reply.{ReadsReply}
 use Rattle.frame.specs.Charts.{decimal, is_odd, turned, place_in, code_of}
 use Rattle.frame.specs.Pairs.{no_pair, pair_number, table_entry, index_of, ReadsReplyByPairs}
 use Rattle.frame.proofs.Both.{and_left, and_right}
-use Rattle.frame.proofs.Tables.{all_below, at-below}
+use Rattle.frame.proofs.Tables.{at-below}
 use Rattle.frame.proofs.PairsAreDigits.{entry-is, pairs-are-digits}
 use Rattle.frame.proofs.SecondReader.{same_second, same-reply}
 use Rattle.promises_frame.specs.TwoReaders.{TwoReaders}

@@ -9,16 +9,15 @@ use native.Mathlib.Nat.{mod-lt}
 use lib.Dec.{T, eqb, leb, ltb, ltb→lt}
 use lib.ListN.{length, get_or}
 use lib.Pow.{pow_pos}
-use borrow.Author.Tests.{eqb-true, eqb-false, leb-true, ltb-true, ltb-false, lt-ltb}
+use borrow.Author.Tests.{eqb-true, eqb-false, leb-true, ltb-true, lt-ltb}
 use Rattle.frame.specs.declared.Reply.{Reply}
 use Rattle.frame.specs.declared.Reply.TheVariants.{Read, Refused, Unreadable}
-use Rattle.frame.specs.declared.Reading.{Reading}
 use Rattle.frame.specs.Pick.{pick}
 use Rattle.frame.specs.Charts.{Chart, size_of, is_odd, turned, place_in, one_bit, two_bits, feet_tens, decimal, inches, sixteenths}
 use Rattle.frame.specs.Faults.{Test, first_of}
 use Rattle.frame.specs.Level.{Level, Mode, known, lost, no_chart, place_lost, width_of, read_row, level_of, last_bit_of, mode_of, fractional_mode, decimal_mode, twenty_metre_mode, thirty_metre_mode}
 use Rattle.frame.specs.Line.{line, field, put}
-use Rattle.frame.specs.Reply.{ReadsReply, mode_in, reading_at, reply_tests, reply_fault, refused_by, reply_of, reply_number}
+use Rattle.frame.specs.Reply.{ReadsReply, mode_in, reading_at, reply_tests, reply_fault, reply_of, reply_number}
 use Rattle.frame.proofs.Tables.{all_below, at-below}
 use Rattle.frame.proofs.Both.{both}
 use Rattle.promises_frame.specs.Unreadable.{InChart, chart_at, code_at, FirstUnreadable, Named, NamesPlace, EveryCode, last_named, CanBeNamed, UnreadableDigit}

@@ -11,7 +11,7 @@ use Rattle.frame.specs.declared.Reading.{Reading}
 use Rattle.frame.specs.declared.Reply.TheVariants.{Read, Unreadable}
 use Rattle.frame.specs.declared.Temperature.{Temperature}
 use Rattle.frame.specs.declared.Written.TheVariants.{Bytes}
-use Rattle.frame.specs.Line.{line, first_bytes}
+use Rattle.frame.specs.Line.{first_bytes}
 use Rattle.frame.specs.Faults.{first_of}
 use Rattle.frame.specs.Level.{known, lost, level_of}
 use Rattle.frame.specs.Temperature.{is_absent}
