@@ -14,24 +14,26 @@ use Rattle.layers.proofs.parts.heat_value.Goals as goal
 pub overflow_cast-m : goal.overflow_cast-m
 overflow_cast-m c =
     let d = c.in-Degrees.d in
-    let fits : SFits w16 d = record { sfits = c.in-Degrees.known_told-1-own.given.0.1 } in
+    let fits : SFits w16 d = search rules in
     rw (c.magnitude-m.ensures, same d fits) (record { fits = omega (arith, magnitude-small d fits) })
 
 pub overflow_add-result : goal.overflow_add-result
 overflow_add-result c =
     let d = c.in-Degrees.d in
-    let fits : SFits w16 d = record { sfits = c.in-Degrees.known_told-1-own.given.0.1 } in
+    let fits : SFits w16 d = search rules in
     rw (c.magnitude-m.ensures, same d fits) (record { fits = omega (arith, magnitude-small d fits) })
 
 pub returns-then-is_plus : goal.returns-then-is_plus
 returns-then-is_plus c =
     let d = c.in-Degrees.d in
-    degrees-value d _ true (record { sfits = c.in-Degrees.known_told-1-own.given.0.1 }) _ c.is_plus.ensures c.if-is_plus.true c.magnitude-m.ensures ∙ ap heat_value (sym c.in-Degrees.is)
+    let fits : SFits w16 d = search rules in
+    degrees-value d _ true fits _ c.is_plus.ensures c.if-is_plus.true c.magnitude-m.ensures ∙ ap heat_value (sym c.in-Degrees.is)
 
 pub returns-else-is_plus : goal.returns-else-is_plus
 returns-else-is_plus c =
     let d = c.in-Degrees.d in
-    ap stands c.under.ensures ∙ degrees-value d _ false (record { sfits = c.in-Degrees.known_told-1-own.given.0.1 }) _ c.is_plus.ensures c.if-is_plus.false c.magnitude-m.ensures ∙ ap heat_value (sym c.in-Degrees.is)
+    let fits : SFits w16 d = search rules in
+    ap stands c.under.ensures ∙ degrees-value d _ false fits _ c.is_plus.ensures c.if-is_plus.false c.magnitude-m.ensures ∙ ap heat_value (sym c.in-Degrees.is)
 
 pub returns-in-Above : goal.returns-in-Above
 returns-in-Above c = ap heat_value (sym c.in-Above.is)
