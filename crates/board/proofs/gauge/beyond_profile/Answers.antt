@@ -1,6 +1,5 @@
 -- `board::gauge::beyond_profile` meets its contract, arm by arm.
 use mathlib.Core.Path.{refl}
-use borrow.Author.Tests.{ne_eqb}
 use mir.Syntax.{w16}
 use mir.Facts.{to_z-of_z}
 use borrow.Author.Rules.{rules}
@@ -11,6 +10,3 @@ returns-in-1 c = simp (c.in-1.is, c.beyond_ends.ensures, to_z-of_z {w = w16} {z 
 
 pub returns-in-2 : goal.returns-in-2
 returns-in-2 c = simp (c.in-2.is, c.beyond_ends-in-2.ensures, to_z-of_z {w = w16} {z = c.args.d} c.ranges.d) refl
-
-pub returns-in_default : goal.returns-in_default
-returns-in_default c = simp (ne_eqb _ _ c.in_default.in_default-own.rest.0.1, ne_eqb _ _ c.in_default.in_default-own.rest.1)

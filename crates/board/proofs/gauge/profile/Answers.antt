@@ -1,5 +1,4 @@
 -- `board::gauge::profile` meets its contract, arm by arm.
-use borrow.Author.Tests.{ne_eqb}
 use Rattle.board.proofs.gauge.profile.Goals as goal
 
 pub returns-in-1 : goal.returns-in-1
@@ -7,6 +6,3 @@ returns-in-1 c = simp c.in-1.is
 
 pub returns-in-2 : goal.returns-in-2
 returns-in-2 c = simp c.in-2.is
-
-pub returns-in_default : goal.returns-in_default
-returns-in_default c = simp (ne_eqb _ _ c.in_default.in_default-own.rest.0.1, ne_eqb _ _ c.in_default.in_default-own.rest.1)
