@@ -101,8 +101,11 @@ holds k (l ∷ ls) (narrow_more h n) = go (compare (pair_of l) k) (holds k ls n)
 both-turned : (k : ℕ) (xs ys : List Line) → Holds k xs → Holds k ys → both_lines xs ys ≡ both_lines ys xs
 both-turned k [] [] nothing nothing = refl
 both-turned k [] (y ∷ []) nothing (line q m) = refl
+both-turned k [] (y ∷ (_ ∷ _)) _ h = elim h [ ]
 both-turned k (x ∷ []) [] (line p n) nothing = refl
 both-turned k (x ∷ []) (y ∷ []) (line p n) (line q m) = ap (λ (z : Line). z ∷ []) (turned x y n m (p ∙ sym q))
+both-turned k (x ∷ []) (y ∷ (_ ∷ _)) _ h = elim h [ ]
+both-turned k (x ∷ (_ ∷ _)) ys h _ = elim h [ ]
 
 pub lines-turned : (ls xs : List Line) → Rises pair_of ls → Rises pair_of xs → AllNarrow ls → AllNarrow xs → put_all ls xs ≡ put_all xs ls
 lines-turned ls xs rl rx nl nx =
