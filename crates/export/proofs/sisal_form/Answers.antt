@@ -1,6 +1,5 @@
 -- `export::sisal_form` meets its contract: the number follows what `formed` answers.
 use mathlib.Core.Path.{sym, ◌∙◌}
-use borrow.Author.Rules.{rules}
 use Rattle.export.proofs.sisal_form.Goals as goal
 
 pub returns-then-formed : goal.returns-then-formed

@@ -1,6 +1,5 @@
 -- `export::sisal_look` meets its contract. The count of a record fits one byte.
 use Rattle.export.proofs.Fits.{look-fits}
-use borrow.Author.Rules.{rules}
 use Rattle.export.proofs.sisal_look.Goals as goal
 
 pub slot-requires : goal.slot-requires

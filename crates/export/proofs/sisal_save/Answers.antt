@@ -1,5 +1,4 @@
 -- `export::sisal_save` meets its contract: what `save` answers is told.
-use borrow.Author.Rules.{rules}
 use Rattle.export.proofs.sisal_save.Goals as goal
 
 pub returns : goal.returns

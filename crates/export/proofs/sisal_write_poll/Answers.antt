@@ -1,5 +1,4 @@
 -- `export::sisal_write_poll` meets its contract: what `write_poll` answers is told.
-use borrow.Author.Rules.{rules}
 use Rattle.export.proofs.sisal_write_poll.Goals as goal
 
 pub returns : goal.returns

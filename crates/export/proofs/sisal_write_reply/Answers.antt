@@ -1,7 +1,6 @@
 -- `export::sisal_write_reply` meets its contract: the reading that is written is the one that the numbers stand for.
 use mir.Syntax.{w16}
 use mir.Facts.{to_z-of_z}
-use borrow.Author.Rules.{rules}
 use Rattle.export.proofs.sisal_write_reply.Goals as goal
 
 pub returns : goal.returns
