@@ -5,18 +5,17 @@ use mathlib.Core.Bool.{Bool, true, false, ◌||◌}
 use mathlib.Core.List.{List, [], ◌∷◌, ◌++◌}
 use Prim.Native.Nat.{ℕ, zero, suc, ◌+◌, ◌-◌, ◌<◌, ◌≤◌}
 use native.Mathlib.Omega.{arith}
-use lib.Dec.{eqb, leb, ltb}
+use lib.Dec.{leb}
 use lib.ListN.{length, get_or, set, length-set, get_or-append}
 use lib.Seq.{set-append_left}
-use borrow.Author.Tests.{ltb-true, ltb-false, leb-true, le-leb, lt-leb, eqb-true, ne_eqb, eqb-false}
+use borrow.Author.Tests.{le-leb, lt-leb, eqb-false}
 use Rattle.frame.specs.Pick.{pick}
 use Rattle.board.specs.declared.Row.{Row}
 use Rattle.board.specs.Row.{is_free, free_row}
 use Rattle.board.specs.Rows.{holds, place_by, place_of, place_free}
-use Rattle.board.proofs.Places.{place-le}
-use Rattle.board.specs.Order.{all_free, in_address_order_from, in_address_order, pushed, insert_row, closed_up, without_row}
+use Rattle.board.specs.Order.{in_address_order_from, pushed, insert_row, closed_up, without_row}
 use Rattle.board.specs.Inside.ByValue.{reaches, place_for, carry, Within, onward, backward}
-use Rattle.board.proofs.Order.{neither, free-holds, used-holds, holds-used, off_head, room-tail, free-front, free_off, First, first_free, first_used, first-of, Put, put_free, put_here, put_behind, put_of, without-by, closed-by}
+use Rattle.board.proofs.Order.{neither, used-holds, holds-used, off_head, room-tail, free_off, First, first_free, first_used, first-of, Put, put_free, put_here, put_behind, put_of, without-by, closed-by}
 
 -- One step, at places that are known by other names.
 pub carry-step : (up down k at here next : ℕ) (row : Row) (rows : List Row) → at - down ≡ here → here + up ≡ next → carry up down (suc k) at row rows ≡ carry up down k next (get_or rows here free_row) (set rows here row)

@@ -1,19 +1,19 @@
 -- A board so kept: what is known of its rows, and that it stays so where a row is put among them, taken out, or set to one of the same address.
 -- Each law goes by induction on the rows, with the tests of the first row taken apart.
-use mathlib.Core.Path.{◌≡◌, refl, sym, ◌∙◌, ap, subst}
+use mathlib.Core.Path.{◌≡◌, refl, sym, ◌∙◌, ap}
 use mathlib.Core.Bool.{Bool, true, false, not, ◌&&◌, ◌||◌}
 use mathlib.Core.List.{List, [], ◌∷◌}
-use Prim.Native.Nat.{ℕ, zero, suc, ◌+◌, ◌<◌, ◌≤◌}
+use Prim.Native.Nat.{ℕ, zero, suc, ◌<◌, ◌≤◌}
 use native.Mathlib.Omega.{arith}
 use lib.Dec.{eqb, leb, ltb}
 use lib.ListN.{length, get_or, set}
-use borrow.Author.Tests.{ltb-true, ltb-false, leb-true, le-leb, eqb-true, ne_eqb, eqb-false}
+use borrow.Author.Tests.{ltb-true, ltb-false, leb-true, le-leb, ne_eqb, eqb-false}
 use Rattle.frame.specs.Pick.{pick}
 use Rattle.frame.proofs.Both.{both_left, both_right}
 use Rattle.board.specs.declared.Row.{Row}
 use Rattle.board.specs.Row.{is_free, free_row}
 use Rattle.board.specs.Rows.{holds, place_by, place_of, place_free}
-use Rattle.board.specs.Order.{all_free, in_address_order_from, in_address_order, pushed, insert_row, closed_up, without_row}
+use Rattle.board.specs.Order.{all_free, in_address_order_from, pushed, insert_row, closed_up, without_row}
 
 -- A test that both holds and fails.
 pub neither : {A : Type 0} {b : Bool} → b ≡ true → b ≡ false → A

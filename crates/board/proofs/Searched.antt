@@ -2,7 +2,7 @@
 -- its row stands there. Each law goes by induction on the rows, from whatever is known of those passed before. The rows passed are a board and
 -- free rows behind it, which change nothing of what is found.
 use mathlib.Core.Path.{◌≡◌, refl, sym, ◌∙◌, ap, subst}
-use mathlib.Core.Bool.{Bool, true, false, ◌&&◌, ◌||◌}
+use mathlib.Core.Bool.{Bool, true, false, ◌&&◌}
 use mathlib.Core.List.{List, [], ◌∷◌, ◌++◌}
 use Prim.Native.Nat.{ℕ, zero, suc, ◌+◌, ◌-◌, ◌<◌, ◌≤◌}
 use native.Mathlib.Omega.{arith}
@@ -21,7 +21,7 @@ use Rattle.board.specs.declared.value.Found.{Found}
 use Rattle.board.specs.declared.value.Search.{Search}
 use Rattle.board.specs.Inside.ByValue.{filled, reaches, place_for, over_free, over_low, over_used, over_row, searched, unsearched, found_by, not_in_order, Finds, carry, Within, onward, backward}
 use Rattle.board.proofs.Places.{place-le}
-use Rattle.board.proofs.Order.{neither, free-holds, used-holds, off_cons, free-front, free_off, low-off, First, first_free, first_used, first-of}
+use Rattle.board.proofs.Order.{neither, free-holds, used-holds, off_cons, free_off, low-off, First, first_free, first_used, first-of}
 use Rattle.board.proofs.Carried.{free-place, for-place, of-place, or_left, or_right, insert-carry, without-carry}
 
 -- a row passed, by its tests

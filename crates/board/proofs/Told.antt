@@ -1,7 +1,6 @@
 -- What looking tells of a row, by whether it holds a reading: the test of its kind is opened either way.
 use mathlib.Core.Path.{◌≡◌, ap}
 use mathlib.Core.Bool.{Bool}
-use Prim.Native.Nat.{ℕ}
 use borrow.Author.Tests.{eq-eqb, ne_eqb}
 use Rattle.frame.specs.Kinds.{reading_by}
 use Rattle.frame.specs.Pick.{pick}

@@ -3,7 +3,6 @@ use mathlib.Core.Path.{refl, sym, ◌∙◌}
 use mathlib.Core.Bool.{true, false}
 use borrow.Author.Tests.{lt-ltb, le-ltb, lt-leb, le-leb}
 use Rattle.areas.proofs.Cutting.{check-by}
-use borrow.Author.Rules.{rules}
 use Rattle.areas.proofs.sisal_check_areas.Goals as goal
 
 pub returns-then-site-gt120 : goal.returns-then-site-gt120

@@ -9,7 +9,6 @@ use lib.ListN.{length}
 use Rattle.frame.specs.Pick.{pick}
 use Rattle.areas.specs.Plan.{greedy, rest, plan_fault, plan_told, refused}
 use Rattle.areas.proofs.Cutting.{plan-by}
-use borrow.Author.Rules.{rules}
 use Rattle.areas.proofs.sisal_plan_areas.Goals as goal
 
 -- the same answer by the list of refusals

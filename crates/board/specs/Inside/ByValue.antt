@@ -17,7 +17,7 @@ use Rattle.board.specs.declared.value.Found.{Found}
 use Rattle.board.specs.declared.value.Search.{Search}
 use Rattle.board.specs.Gauge.{outside_by, unmarked, at_once}
 use Rattle.board.specs.Row.{is_free, free_row, with_reading, with_fault, sets_fault}
-use Rattle.board.specs.Rows.{board_of, place_by, place_of, on_board, row_of, place_free}
+use Rattle.board.specs.Rows.{place_by, place_of, on_board, row_of, place_free}
 use Rattle.board.specs.Order.{in_address_order, if_in_order}
 use Rattle.board.specs.Calls.{enrol_number, enrol_rows, hear_number, hear_place, hear_rows, heard_as, find_number, remove_rows, looked_at, refused_look}
 

@@ -8,7 +8,6 @@ use lib.Dec.{eqb}
 use Rattle.frame.specs.Pick.{pick}
 use Rattle.enraf.specs.declared.ItemTold.{ItemTold}
 use Rattle.enraf.specs.Reading.{item_in, read_fault, told_in_integers, refused, ReadsItem}
-use borrow.Author.Rules.{rules}
 use Rattle.enraf.proofs.sisal_read_item.Goals as goal
 
 refuses : (s : List ℕ) (n : ℕ) (answer : ItemTold) → read_fault s ≡ n → eqb n 0 ≡ false → answer ≡ refused n → ReadsItem s answer

@@ -4,7 +4,7 @@ use mathlib.Core.Path.{◌≡◌, refl, sym, ap, ◌∙◌}
 use mathlib.Core.Bool.{true, false}
 use Prim.Native.Nat.{ℕ, ◌+◌, ◌≤◌, ◌<◌}
 use native.Mathlib.Omega.{arith}
-use borrow.Author.Tests.{lt-ltb, le-ltb, not-true, not-false}
+use borrow.Author.Tests.{lt-ltb, le-ltb}
 use lib.ListN.{length}
 use Rattle.enraf.specs.Item.{Item, item_of, text_fits}
 use Rattle.enraf.specs.Record.{item_record}
@@ -12,7 +12,6 @@ use Rattle.enraf.specs.Writing.{done}
 use Rattle.enraf.proofs.ByTests.{write-fault-by}
 use Rattle.enraf.proofs.SixKinds.{fits-kind}
 use Rattle.enraf.proofs.Written.{refuses, writes, record-long, left}
-use borrow.Author.Rules.{rules}
 use Rattle.enraf.proofs.sisal_write_item.Goals.{Else-not-fits, Start}
 use Rattle.enraf.proofs.sisal_write_item.Goals as goal
 

@@ -1,9 +1,9 @@
 -- `putting::put_word` meets its contract: after i turns the first i bytes of the word stand in the output. Assumes nothing.
-use mathlib.Core.Path.{◌≡◌, refl, ap, ◌∙◌}
+use mathlib.Core.Path.{refl, ap, ◌∙◌}
 use mathlib.Core.List.{List}
-use Prim.Native.Nat.{ℕ, ◌≤◌, ◌-◌, ◌+◌}
+use Prim.Native.Nat.{ℕ, ◌+◌}
 use native.Mathlib.Omega.{arith}
-use lib.ListN.{length, take, get_or, set, length-set}
+use lib.ListN.{get_or, set, length-set}
 use lib.Seq.{sets, take_all}
 use Rattle.frame.proofs.Parts.{sets-next}
 use Rattle.putting.proofs.put_word.Goals as goal

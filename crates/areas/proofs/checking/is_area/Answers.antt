@@ -5,7 +5,6 @@ use Prim.Native.Nat.{ℕ}
 use borrow.Author.Tests.{lt-leb, le-leb}
 use lib.Dec.{leb}
 use Rattle.areas.proofs.Joining.{area-by}
-use borrow.Author.Rules.{rules}
 use Rattle.areas.proofs.checking.is_area.Goals as goal
 
 pub returns-then-part-lt1 : goal.returns-then-part-lt1

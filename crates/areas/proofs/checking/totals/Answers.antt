@@ -1,8 +1,6 @@
 -- `areas::checking::totals` meets its contract: after i turns each sum is the total of the first i, each at most 65,535. Assumes nothing.
-use mathlib.Core.Path.{◌≡◌, refl, ap, ◌∙◌}
-use Prim.Native.Nat.{◌≤◌, ◌-◌, ◌*◌}
+use mathlib.Core.Path.{refl, ap, ◌∙◌}
 use native.Mathlib.Omega.{arith}
-use lib.ListN.{length, take}
 use lib.Seq.{take_all}
 use Rattle.areas.specs.Site.{feet, tenths, total}
 use Rattle.areas.proofs.Totals.{total-next}

@@ -1,11 +1,8 @@
 -- `areas::checking::totals` meets its contract: after i turns each sum is the total of the first i, each at most 65,535. Assumes nothing.
-use mathlib.Core.Path.{◌≡◌, refl, ap, ◌∙◌}
+use mathlib.Core.Path.{◌≡◌}
 use Prim.Native.Nat.{◌≤◌, ◌-◌, ◌*◌}
-use native.Mathlib.Omega.{arith}
 use lib.ListN.{length, take}
-use lib.Seq.{take_all}
 use Rattle.areas.specs.Site.{feet, tenths, total}
-use Rattle.areas.proofs.Totals.{total-next}
 use Rattle.areas.proofs.checking.totals.Given as goal
 
 abbrev pub invariant-loop-i : goal.invariant-loop-i

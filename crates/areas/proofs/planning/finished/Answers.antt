@@ -5,7 +5,6 @@ use borrow.Author.Tests.{eq-eqb, ne_eqb}
 use Rattle.frame.specs.Pick.{pick}
 use Rattle.areas.specs.declared.Plan.{Plan}
 use Rattle.areas.specs.Plan.{refused}
-use borrow.Author.Rules.{rules}
 use Rattle.areas.proofs.planning.finished.Goals.{Then-left-eq0}
 use Rattle.areas.proofs.planning.finished.Goals as goal
 

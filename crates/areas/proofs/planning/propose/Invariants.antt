@@ -1,17 +1,9 @@
 -- `areas::planning::propose` meets its contract: at each turn the plan is the areas taken and those that are yet to be taken. Assumes nothing.
-use mathlib.Core.Path.{◌≡◌, refl, sym, ap, ◌∙◌}
-use mathlib.Core.Bool.{false}
-use mathlib.Core.List.{List, [], ◌∷◌, ◌++◌, append_assoc, append-nil}
-use Prim.Native.Nat.{ℕ, suc, ◌≤◌, ◌<◌, ◌-◌, ◌+◌}
-use native.Mathlib.Numerals.{add-one}
-use native.Mathlib.Omega.{arith}
-use borrow.Author.Tests.{ne_eqb}
-use lib.Dec.{eqb}
-use lib.ListN.{length, take, drop, set, replicate, length-drop, length-set, take-append-drop}
-use lib.Seq.{take-suc-set, drop-set-lt, length-take-le, drop-drop}
-use Rattle.frame.specs.Pick.{pick}
-use Rattle.areas.specs.Plan.{first_area, greedy, rest, plan_told, refused}
-use Rattle.areas.proofs.Cutting.{greedy-step, rest-step, greedy-stop, rest-stop}
+use mathlib.Core.Path.{◌≡◌}
+use mathlib.Core.List.{◌++◌}
+use Prim.Native.Nat.{◌≤◌, ◌-◌}
+use lib.ListN.{length, take, drop, replicate}
+use Rattle.areas.specs.Plan.{greedy, rest}
 use Rattle.areas.proofs.planning.propose.Given as goal
 
 abbrev pub invariant-loop-k : goal.invariant-loop-k

@@ -2,7 +2,6 @@
 use mathlib.Core.Path.{refl}
 use mir.Syntax.{w16}
 use mir.Facts.{to_z-of_z}
-use borrow.Author.Rules.{rules}
 use Rattle.board.proofs.gauge.beyond_profile.Goals as goal
 
 pub returns-in-1 : goal.returns-in-1

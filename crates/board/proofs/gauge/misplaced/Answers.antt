@@ -2,7 +2,6 @@
 use mathlib.Core.Path.{sym, ◌∙◌}
 use Rattle.board.specs.Gauge.{profile_of}
 use Rattle.board.proofs.Gauges.{has-profile}
-use borrow.Author.Rules.{rules}
 use Rattle.board.proofs.gauge.misplaced.Goals as goal
 
 pub returns-then-of_1800 : goal.returns-then-of_1800

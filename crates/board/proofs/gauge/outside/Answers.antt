@@ -1,7 +1,4 @@
 -- `board::gauge::outside` meets its contract, case by case of the temperature. The degrees fit an i16, as every value of the type does.
-use mir.Syntax.{w16}
-use mir.Facts.{to_z-of_z}
-use borrow.Author.Rules.{rules}
 use Rattle.board.proofs.gauge.outside.Goals as goal
 
 pub returns-in-Above : goal.returns-in-Above

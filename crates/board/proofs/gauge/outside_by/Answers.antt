@@ -1,7 +1,5 @@
 -- `board::gauge::outside_by` meets its contract, by the type.
 use mathlib.Core.Path.{sym, ◌∙◌}
-use borrow.Author.Tests.{not-true, not-false}
-use borrow.Author.Rules.{rules}
 use Rattle.board.proofs.gauge.outside_by.Goals as goal
 
 pub returns-then-not-of_1800 : goal.returns-then-not-of_1800

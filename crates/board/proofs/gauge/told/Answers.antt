@@ -2,7 +2,6 @@
 use native.Mathlib.Omega.{arith}
 use Rattle.board.specs.Gauge.{profile_of}
 use Rattle.board.proofs.Gauges.{profile-small}
-use borrow.Author.Rules.{rules}
 use Rattle.frame.proofs.Marks.{mark-small}
 use Rattle.board.proofs.gauge.told.Goals as goal
 

@@ -1,7 +1,6 @@
 -- `board::gauge::unmarked` meets its contract, by the mark, and then by whether raise is asked for.
 use mathlib.Core.Path.{sym, ◌∙◌}
-use borrow.Author.Tests.{not-true, not-false, eq-eqb, ne_eqb}
-use borrow.Author.Rules.{rules}
+use borrow.Author.Tests.{eq-eqb, ne_eqb}
 use Rattle.board.proofs.gauge.unmarked.Goals as goal
 
 pub returns-then-raise-ne0 : goal.returns-then-raise-ne0

@@ -1,7 +1,6 @@
 -- `board::rows::free_rows` meets its contract: thirty copies of the free row.
 use lib.ListN.{replicate}
 use mathlib.Core.Path.{ap}
-use borrow.Author.Rules.{rules}
 use Rattle.board.proofs.rows.free_rows.Goals as goal
 
 pub returns : goal.returns

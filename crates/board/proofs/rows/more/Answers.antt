@@ -1,6 +1,5 @@
 -- `board::rows::more` meets its contract, arm by arm.
 use borrow.Author.Tests.{lt-ltb, le-ltb}
-use borrow.Author.Rules.{rules}
 use Rattle.board.proofs.rows.more.Goals as goal
 
 pub returns-then-faulty-lt65535 : goal.returns-then-faulty-lt65535

@@ -1,5 +1,4 @@
 -- `board::rows::new_row` meets its contract: it is the free row with three fields set.
-use borrow.Author.Rules.{rules}
 use Rattle.board.proofs.rows.new_row.Goals as goal
 
 pub returns : goal.returns

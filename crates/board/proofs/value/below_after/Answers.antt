@@ -1,5 +1,4 @@
 -- `board::value::below_after` meets its contract, test by test.
-use borrow.Author.Rules.{rules}
 use borrow.Author.Tests.{lt-ltb, le-ltb}
 use Rattle.board.proofs.value.below_after.Goals as goal
 

@@ -7,15 +7,14 @@ use Rattle.board.specs.declared.value.Search.{Search}
 use Rattle.board.specs.declared.value.Found.{Found}
 use Rattle.board.specs.declared.Row.{Row}
 use Rattle.board.specs.Row.{free_row}
-use Rattle.board.specs.Inside.ByValue.{over_row, searched, unsearched, found_by, not_in_order, rows_that_count, filled, Finds, FindsOn}
-use Prim.Native.Nat.{ℕ, ◌+◌, ◌-◌, ◌%◌, ◌≤◌, ◌<◌}
+use Rattle.board.specs.Inside.ByValue.{searched, unsearched, found_by, not_in_order, rows_that_count, filled, Finds, FindsOn}
+use Prim.Native.Nat.{ℕ, ◌+◌, ◌≤◌, ◌<◌}
 use mathlib.Core.Path.{◌≡◌, refl, sym, ◌∙◌, ap, subst}
 use mathlib.Core.Bool.{Bool, true, false, not}
 use mathlib.Core.List.{List}
 use lib.Dec.{ltb}
 use lib.ListN.{length, get_or, drop}
 use native.Mathlib.Omega.{arith}
-use borrow.Author.Rules.{rules}
 use borrow.Author.Tests.{ltb-true, lt-ltb}
 use Rattle.frame.specs.Pick.{pick}
 use Rattle.board.proofs.value.find.Goals.{After-on_board-spot, After-pass-s, After-pass-s-in-loop-i, Start}

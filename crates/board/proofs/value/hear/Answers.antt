@@ -7,7 +7,6 @@ use native.Mathlib.Omega.{arith}
 use Rattle.board.specs.declared.Row.{Row}
 use Rattle.board.specs.Inside.ByValue.{heard_change}
 use mathlib.Core.Path.{refl, sym, ◌∙◌, ap}
-use borrow.Author.Rules.{rules}
 use Rattle.board.proofs.value.hear.Goals as goal
 
 pub returns-then-not-f : goal.returns-then-not-f

@@ -1,6 +1,5 @@
 -- `board::value::heard` meets its contract, case by case of the frame's answer.
 use mathlib.Core.Path.{sym, ◌∙◌}
-use borrow.Author.Rules.{rules}
 use Rattle.board.proofs.value.heard.Goals as goal
 
 pub returns-then-sets_fault : goal.returns-then-sets_fault

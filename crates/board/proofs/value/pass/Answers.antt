@@ -1,8 +1,7 @@
 -- `board::value::pass` meets its contract: the tests of the row pick the part of the definition. Its address is a machine word of 16 bits.
 use borrow.Author.Rules.{rules}
 use borrow.Author.Tests.{lt-ltb, le-ltb}
-use native.Mathlib.Omega.{arith}
-use mathlib.Core.Path.{◌≡◌, sym, ◌∙◌, ap}
+use mathlib.Core.Path.{sym, ◌∙◌}
 use Rattle.board.proofs.value.pass.Goals as goal
 
 pub returns-then-is_free : goal.returns-then-is_free

@@ -1,6 +1,5 @@
 -- `board::value::read` meets its contract, by whether the temperature is outside the row's profile.
 use mathlib.Core.Path.{sym, ◌∙◌}
-use borrow.Author.Rules.{rules}
 use Rattle.board.proofs.value.read.Goals as goal
 
 pub returns-then-outside_by : goal.returns-then-outside_by

@@ -1,5 +1,4 @@
 -- `board::value::refused` meets its contract: its row is the free row.
-use borrow.Author.Rules.{rules}
 use Rattle.board.proofs.value.refused.Goals as goal
 
 pub returns : goal.returns

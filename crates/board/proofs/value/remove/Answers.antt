@@ -6,7 +6,6 @@ use Rattle.board.proofs.Numbers.{find-11, find-17, find-0}
 use Rattle.board.specs.Calls.{remove_rows}
 use native.Mathlib.Omega.{arith}
 use mathlib.Core.Path.{refl, sym, ◌∙◌}
-use borrow.Author.Rules.{rules}
 use borrow.Author.Tests.{not-true, not-false}
 use Rattle.board.proofs.value.remove.Goals as goal
 

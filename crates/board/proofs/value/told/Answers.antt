@@ -1,5 +1,4 @@
 -- `board::value::told` meets its contract: the place is the one that was worked out.
-use borrow.Author.Rules.{rules}
 use Rattle.board.proofs.value.told.Goals as goal
 
 pub returns : goal.returns

@@ -1,5 +1,4 @@
 -- `board::value::unkept` meets its contract: the row is the free one.
-use borrow.Author.Rules.{rules}
 use Rattle.board.proofs.value.unkept.Goals as goal
 
 pub returns : goal.returns

@@ -2,7 +2,6 @@
 use mathlib.Core.Path.{sym, ap}
 use Rattle.frame.specs.Poll.{written_number}
 use Rattle.board.proofs.Polling.{refused-or, written-or}
-use borrow.Author.Rules.{rules}
 use Rattle.board.proofs.value.write_or.Goals as goal
 
 pub returns-then-number-ne0 : goal.returns-then-number-ne0

@@ -1,5 +1,4 @@
 -- `calendar::counting::days_in` meets its contract, by its tests. Assumes nothing.
-use borrow.Author.Rules.{rules}
 use borrow.Author.Tests.{eq-eqb, ne_eqb}
 use Rattle.calendar.proofs.counting.days_in.Goals as goal
 

@@ -1,6 +1,4 @@
 -- `calendar::counting::february` meets its contract, by its tests. Assumes nothing.
-use native.Mathlib.Omega.{arith}
-use borrow.Author.Rules.{rules}
 use borrow.Author.Tests.{eq-eqb, ne_eqb}
 use Rattle.calendar.proofs.counting.february.Goals as goal
 

@@ -1,6 +1,4 @@
 -- `calendar::counting::next_month` meets its contract, by its test. Assumes nothing.
-use native.Mathlib.Omega.{arith}
-use borrow.Author.Rules.{rules}
 use borrow.Author.Tests.{lt-ltb, le-ltb}
 use Rattle.calendar.proofs.counting.next_month.Goals as goal
 

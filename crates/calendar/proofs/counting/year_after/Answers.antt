@@ -1,6 +1,4 @@
 -- `calendar::counting::year_after` meets its contract, by its tests. Assumes nothing.
-use native.Mathlib.Omega.{arith}
-use borrow.Author.Rules.{rules}
 use borrow.Author.Tests.{lt-ltb, le-ltb}
 use Rattle.calendar.proofs.counting.year_after.Goals as goal
 

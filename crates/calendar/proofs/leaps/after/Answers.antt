@@ -1,7 +1,6 @@
 -- `calendar::leaps::after` meets its contract: the days of its month that are over are counted too, and each leap comes to the same day. Assumes nothing.
-use mathlib.Core.Path.{◌≡◌, ap, ◌∙◌}
+use mathlib.Core.Path.{ap, ◌∙◌}
 use Prim.Native.Nat.{ℕ, ◌+◌}
-use borrow.Author.Rules.{rules}
 use Rattle.calendar.specs.Days.{first_of_month, days_after}
 use Rattle.calendar.proofs.leaps.after.Goals as goal
 

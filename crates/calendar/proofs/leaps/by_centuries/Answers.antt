@@ -2,7 +2,6 @@
 use mathlib.Core.Path.{◌≡◌, sym, ap, ◌∙◌}
 use Prim.Native.Nat.{ℕ, ◌+◌, ◌-◌, ◌*◌, ◌/◌, ◌≤◌}
 use native.Mathlib.Omega.{arith}
-use borrow.Author.Rules.{rules}
 use Rattle.calendar.specs.Days.{first_of_month, days_after}
 use Rattle.calendar.proofs.Years.{centuries-less}
 use Rattle.calendar.proofs.leaps.by_centuries.Goals as goal

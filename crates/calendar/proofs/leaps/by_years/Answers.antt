@@ -1,9 +1,8 @@
 -- `calendar::leaps::by_years` meets its contract: the days that are left, counted on from the January that is reached, come to the same day; a year has a day
 -- at least, so fewer are left after each. Assumes nothing.
-use mathlib.Core.Path.{◌≡◌, refl, sym, ap, ◌∙◌}
-use Prim.Native.Nat.{ℕ, ◌+◌, ◌-◌, ◌<◌, ◌≤◌}
+use mathlib.Core.Path.{refl, sym, ap, ◌∙◌}
+use Prim.Native.Nat.{ℕ, ◌-◌, ◌≤◌}
 use native.Mathlib.Omega.{arith}
-use borrow.Author.Rules.{rules}
 use Rattle.calendar.specs.Days.{year_days, first_of_month, days_after}
 use Rattle.calendar.proofs.Years.{year-some, year-less}
 use Rattle.calendar.proofs.leaps.by_years.Goals as goal

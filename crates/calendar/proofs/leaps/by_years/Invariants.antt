@@ -1,11 +1,7 @@
 -- `calendar::leaps::by_years` meets its contract: the days that are left, counted on from the January that is reached, come to the same day; a year has a day
 -- at least, so fewer are left after each. Assumes nothing.
-use mathlib.Core.Path.{◌≡◌, refl, sym, ap, ◌∙◌}
-use Prim.Native.Nat.{ℕ, ◌+◌, ◌-◌, ◌<◌, ◌≤◌}
-use native.Mathlib.Omega.{arith}
-use borrow.Author.Rules.{rules}
+use mathlib.Core.Path.{◌≡◌}
 use Rattle.calendar.specs.Days.{year_days, first_of_month, days_after}
-use Rattle.calendar.proofs.Years.{year-some, year-less}
 use Rattle.calendar.proofs.leaps.by_years.Given as goal
 
 abbrev pub invariant-loop-size : goal.invariant-loop-size

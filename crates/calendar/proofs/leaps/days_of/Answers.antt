@@ -1,7 +1,6 @@
 -- `calendar::leaps::days_of` meets its contract: 337 days and those of February. Assumes nothing.
-use mathlib.Core.Path.{◌≡◌, ap}
+use mathlib.Core.Path.{ap}
 use Prim.Native.Nat.{ℕ, ◌+◌}
-use borrow.Author.Rules.{rules}
 use Rattle.calendar.specs.Days.{year_days}
 use Rattle.calendar.proofs.leaps.days_of.Goals as goal
 

@@ -1,10 +1,9 @@
 -- `calendar::leaps::to_january` meets its contract: the days that are left, counted on from the first of the month that is reached, come to the same day;
 -- a month has a day at least, so fewer are left after each. Assumes nothing.
-use mathlib.Core.Path.{◌≡◌, refl, sym, ap, ◌∙◌}
-use Prim.Native.Nat.{ℕ, ◌-◌, ◌+◌, ◌<◌, ◌≤◌}
+use mathlib.Core.Path.{refl, ◌∙◌}
+use Prim.Native.Nat.{◌-◌, ◌≤◌}
 use native.Mathlib.Omega.{arith}
-use Rattle.calendar.specs.declared.counting.Day.{Day}
-use Rattle.calendar.specs.Days.{days_in, month_after, year_after, first_of_month, days_after}
+use Rattle.calendar.specs.Days.{days_in, first_of_month, days_after}
 use Rattle.calendar.proofs.Counted.{few-days, month-less}
 use Rattle.calendar.proofs.leaps.to_january.Goals as goal
 

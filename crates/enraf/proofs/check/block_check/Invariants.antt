@@ -1,12 +1,8 @@
 -- `enraf::check::block_check` meets its contract: at each turn the sum of the whole part is that of the bytes left, after the sum so far. Assumes nothing.
-use mathlib.Core.Path.{◌≡◌, refl, sym, ap, ◌∙◌}
-use mathlib.Core.List.{List}
-use Prim.Native.Nat.{ℕ, ◌≤◌, ◌-◌, ◌%◌}
-use native.Mathlib.Omega.{arith}
+use mathlib.Core.Path.{◌≡◌}
+use Prim.Native.Nat.{◌≤◌, ◌-◌}
 use lib.ListN.{length, drop}
-use lib.Seq.{drop-length}
-use Rattle.enraf.specs.Check.{sum_after, block_check}
-use Rattle.enraf.proofs.Sums.{sum-next}
+use Rattle.enraf.specs.Check.{sum_after}
 use Rattle.enraf.proofs.check.block_check.Given as goal
 
 abbrev pub invariant-loop-i : goal.invariant-loop-i

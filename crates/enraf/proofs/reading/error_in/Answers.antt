@@ -7,7 +7,6 @@ use borrow.Author.Tests.{eq-eqb, ne_eqb}
 use lib.Dec.{eqb}
 use Rattle.enraf.specs.Item.{failed, is_error, kind_in}
 use Rattle.enraf.proofs.ByTests.{number_by, is-error, error-long, error-digits}
-use borrow.Author.Rules.{rules}
 use Rattle.enraf.proofs.reading.error_in.Goals.{Else-kind-ne6}
 use Rattle.enraf.proofs.reading.error_in.Goals as goal
 

@@ -4,7 +4,6 @@ use mathlib.Core.Bool.{true, false, ◌&&◌}
 use mathlib.Core.List.{List}
 use Prim.Native.Nat.{ℕ, ◌-◌}
 use native.Mathlib.Omega.{arith}
-use borrow.Author.Tests.{not-true, not-false}
 use lib.ListN.{length, get_or, take, drop}
 use Rattle.enraf.specs.Item.{item_of, is_letter, kind_fits, text_fits, kind_in, error_in, characters_in}
 use Rattle.enraf.specs.Reading.{framed, check_right, addressed, tail_in, item_in}

@@ -1,9 +1,7 @@
 -- `enraf::reading::is_addressed` meets its contract, digit by digit. Assumes nothing.
 use mathlib.Core.Path.{refl, sym, ◌∙◌}
 use mathlib.Core.Bool.{true, false}
-use borrow.Author.Tests.{not-true, not-false}
 use Rattle.enraf.proofs.ByTests.{addressed-by}
-use borrow.Author.Rules.{rules}
 use Rattle.enraf.proofs.reading.is_addressed.Goals as goal
 
 pub returns-then-not-is_digit : goal.returns-then-not-is_digit

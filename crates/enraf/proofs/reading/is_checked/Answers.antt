@@ -6,7 +6,6 @@ use lib.Dec.{eqb}
 use lib.ListN.{length, get_or, take, drop}
 use Rattle.enraf.specs.Check.{block_check}
 use Rattle.enraf.specs.Reading.{check_right}
-use borrow.Author.Rules.{rules}
 use Rattle.enraf.proofs.reading.is_checked.Goals as goal
 
 pub returns : goal.returns

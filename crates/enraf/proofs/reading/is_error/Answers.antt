@@ -1,9 +1,8 @@
 -- `enraf::reading::is_error` meets its contract, test by test. Assumes nothing.
 use mathlib.Core.Path.{refl, sym, ◌∙◌}
 use mathlib.Core.Bool.{true, false}
-use borrow.Author.Tests.{eq-eqb, ne_eqb, not-true, not-false}
+use borrow.Author.Tests.{eq-eqb, ne_eqb}
 use Rattle.enraf.proofs.ByTests.{error-by}
-use borrow.Author.Rules.{rules}
 use Rattle.enraf.proofs.reading.is_error.Goals as goal
 
 pub returns-then-tail-ne4 : goal.returns-then-tail-ne4

@@ -3,7 +3,6 @@ use borrow.Author.Tests.{lt-leb, le-leb, eq-eqb, ne_eqb}
 use mathlib.Core.Path.{refl, sym}
 use mathlib.Core.Bool.{true, false}
 use Rattle.enraf.proofs.ByTests.{framed-by}
-use borrow.Author.Rules.{rules}
 use Rattle.enraf.proofs.reading.is_framed.Goals as goal
 
 pub returns-then-bytes-lt10 : goal.returns-then-bytes-lt10

@@ -1,6 +1,5 @@
 -- `enraf::reading::is_taken` meets its contract, test by test. Assumes nothing.
 use borrow.Author.Tests.{ne_eqb}
-use borrow.Author.Rules.{rules}
 use Rattle.enraf.proofs.reading.is_taken.Goals as goal
 
 pub returns-then-tail-ne1 : goal.returns-then-tail-ne1

@@ -3,7 +3,6 @@ use mathlib.Core.Path.{refl, sym, ◌∙◌}
 use mathlib.Core.Bool.{true, false}
 use borrow.Author.Tests.{eq-eqb, ne_eqb}
 use Rattle.enraf.proofs.ByTests.{kind-by}
-use borrow.Author.Rules.{rules}
 use Rattle.enraf.proofs.reading.kind_in.Goals as goal
 
 pub returns-then-size-eq0 : goal.returns-then-size-eq0

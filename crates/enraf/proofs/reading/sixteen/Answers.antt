@@ -1,9 +1,9 @@
 -- `enraf::reading::sixteen` meets its contract: after i turns the first i characters stand there, and 0 after them. Assumes nothing.
 use mathlib.Core.Path.{◌≡◌, refl, ap, ◌∙◌}
 use mathlib.Core.List.{List, ◌++◌}
-use Prim.Native.Nat.{ℕ, ◌≤◌, ◌-◌}
+use Prim.Native.Nat.{ℕ, ◌-◌}
 use native.Mathlib.Omega.{arith}
-use lib.ListN.{length, take, get_or, set, replicate}
+use lib.ListN.{length, get_or, set, replicate}
 use lib.Seq.{take_all}
 use Rattle.enraf.proofs.Filling.{fill}
 use Rattle.enraf.proofs.reading.sixteen.Goals as goal

@@ -1,11 +1,8 @@
 -- `enraf::reading::sixteen` meets its contract: after i turns the first i characters stand there, and 0 after them. Assumes nothing.
-use mathlib.Core.Path.{◌≡◌, refl, ap, ◌∙◌}
-use mathlib.Core.List.{List, ◌++◌}
-use Prim.Native.Nat.{ℕ, ◌≤◌, ◌-◌}
-use native.Mathlib.Omega.{arith}
-use lib.ListN.{length, take, get_or, set, replicate}
-use lib.Seq.{take_all}
-use Rattle.enraf.proofs.Filling.{fill}
+use mathlib.Core.Path.{◌≡◌}
+use mathlib.Core.List.{◌++◌}
+use Prim.Native.Nat.{◌≤◌, ◌-◌}
+use lib.ListN.{length, take, replicate}
 use Rattle.enraf.proofs.reading.sixteen.Given as goal
 
 abbrev pub invariant-loop-i : goal.invariant-loop-i

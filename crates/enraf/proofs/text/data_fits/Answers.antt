@@ -5,7 +5,6 @@ use lib.Dec.{eqb}
 use lib.ListN.{length}
 use Rattle.frame.specs.Pick.{pick}
 use Rattle.enraf.specs.Item.{is_data, has_data}
-use borrow.Author.Rules.{rules}
 use Rattle.enraf.proofs.text.data_fits.Goals as goal
 
 pub returns-then-has_data : goal.returns-then-has_data

@@ -1,10 +1,8 @@
 -- `enraf::text::fits` meets its contract, test by test. Assumes nothing.
 use mathlib.Core.Path.{refl, sym, ◌∙◌}
 use mathlib.Core.Bool.{true, false}
-use borrow.Author.Tests.{not-true, not-false}
 use Rattle.enraf.specs.Item.{Item, item_of}
 use Rattle.enraf.proofs.ByTests.{text-by}
-use borrow.Author.Rules.{rules}
 use Rattle.enraf.proofs.text.fits.Goals.{Start}
 use Rattle.enraf.proofs.text.fits.Goals as goal
 

@@ -3,7 +3,6 @@ use mathlib.Core.Path.{refl, sym}
 use mathlib.Core.Bool.{true, false}
 use borrow.Author.Tests.{lt-leb, le-leb}
 use Rattle.enraf.proofs.ByTests.{data-by}
-use borrow.Author.Rules.{rules}
 use Rattle.enraf.proofs.text.is_data.Goals as goal
 
 pub returns-then-part-lt1 : goal.returns-then-part-lt1

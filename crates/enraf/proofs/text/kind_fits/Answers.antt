@@ -1,9 +1,8 @@
 -- `enraf::text::kind_fits` meets its contract, test by test. Assumes nothing.
 use mathlib.Core.Path.{refl, sym, ◌∙◌}
 use mathlib.Core.Bool.{true, false}
-use borrow.Author.Tests.{lt-leb, le-leb, not-true, not-false}
+use borrow.Author.Tests.{lt-leb, le-leb}
 use Rattle.enraf.proofs.ByTests.{kind-fits-by}
-use borrow.Author.Rules.{rules}
 use Rattle.enraf.proofs.text.kind_fits.Goals as goal
 
 pub returns-then-kind-lt1 : goal.returns-then-kind-lt1

@@ -6,7 +6,6 @@ use native.Mathlib.Omega.{arith}
 use lib.ListN.{take, drop, set, length-set}
 use Rattle.enraf.specs.Check.{block_check}
 use Rattle.enraf.specs.Record.{ETX}
-use borrow.Author.Rules.{rules}
 use Rattle.enraf.proofs.writing.put_end.Goals as goal
 
 pub slice_bounds-block_check-end : goal.slice_bounds-block_check-end

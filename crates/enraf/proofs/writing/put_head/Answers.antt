@@ -1,7 +1,6 @@
 -- `enraf::writing::put_head` meets its contract: the stores are those of the eight bytes, one after another. Assumes nothing.
 use native.Mathlib.Omega.{arith}
 use lib.ListN.{length-set}
-use borrow.Author.Rules.{rules}
 use Rattle.enraf.proofs.writing.put_head.Goals as goal
 
 pub bounds-out-1 : goal.bounds-out-1

@@ -1,5 +1,5 @@
 -- `enraf::writing::put_tail` meets its contract, kind by kind: its parts are put one after another. Assumes nothing.
-use mathlib.Core.Path.{◌≡◌, refl, sym, ap}
+use mathlib.Core.Path.{◌≡◌, sym, ap}
 use mathlib.Core.List.{[], ◌∷◌, ◌++◌}
 use Prim.Native.Nat.{◌+◌}
 use native.Mathlib.Omega.{arith}
@@ -8,7 +8,6 @@ use Rattle.putting.proofs.Putting.{then, text-is, at_most, nothing_put}
 use Rattle.enraf.specs.Item.{ampersand}
 use Rattle.enraf.proofs.SixKinds.{one-of-six, the-first, error-few, characters-few}
 use Rattle.enraf.proofs.Tails.{tail-alone, tail-setting, tail-taken, tail-setting-taken, tail-value, tail-error}
-use borrow.Author.Rules.{rules}
 use Rattle.enraf.proofs.writing.put_tail.Goals as goal
 
 pub put_byte-at-requires : goal.put_byte-at-requires

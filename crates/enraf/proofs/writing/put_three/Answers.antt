@@ -5,7 +5,6 @@ use native.Mathlib.Omega.{arith}
 use lib.ListN.{set, length-set}
 use Rattle.putting.specs.Digit.{digit}
 use native.Mathlib.Numerals.{add-one}
-use borrow.Author.Rules.{rules}
 use Rattle.enraf.proofs.writing.put_three.Goals as goal
 
 pub bounds-out-at-2 : goal.bounds-out-at-2

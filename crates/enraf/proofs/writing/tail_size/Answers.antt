@@ -4,7 +4,6 @@ use native.Mathlib.Omega.{arith}
 use lib.ListN.{length, length-append}
 use Rattle.enraf.proofs.SixKinds.{one-of-six, the-first, characters-few}
 use Rattle.enraf.proofs.Tails.{tail-alone, tail-setting, tail-taken, tail-setting-taken, tail-value, tail-error}
-use borrow.Author.Rules.{rules}
 use Rattle.enraf.proofs.writing.tail_size.Goals as goal
 
 pub returns-in-2 : goal.returns-in-2
