@@ -1,11 +1,10 @@
 -- The list and the lines of a sheet, one slot more. Assumes nothing.
 use mathlib.Core.Path.{◌≡◌}
 use mathlib.Core.List.{List, ◌++◌}
-use Prim.Native.Nat.{ℕ, zero, suc, ◌+◌, ◌≤◌}
+use Prim.Native.Nat.{ℕ, ◌+◌}
 use native.Mathlib.Numerals.{add-one}
-use native.Mathlib.Omega.{arith}
 use lib.ListN.{length, length-append}
-use Rattle.sheet.specs.Slots.{Slot, blank, spoiled, foreign, holds, slot_at, slot_of, record_in, list_up_to}
+use Rattle.sheet.specs.Slots.{slot_at, slot_of, record_in, list_up_to}
 use Rattle.listing.specs.Lines.{slot_line, lines_up_to}
 
 pub lines_more : (s : List ℕ) (k : ℕ) → lines_up_to s (k + 1) ≡ lines_up_to s k ++ slot_line s k

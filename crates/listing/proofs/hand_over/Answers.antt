@@ -3,7 +3,6 @@ use mathlib.Core.Path.{refl}
 use mathlib.Core.Bool.{true}
 use lib.ListN.{length}
 use Rattle.listing.proofs.Answers.{refused-15, written}
-use borrow.Author.Rules.{rules}
 use Rattle.listing.proofs.hand_over.Goals as goal
 
 pub returns-then-out-line : goal.returns-then-out-line

@@ -8,7 +8,6 @@ use Rattle.sheet.proofs.Seen.{told-slots, told-refused, few-slots}
 use Rattle.listing.specs.Text.{ascii, in_decimal}
 use Rattle.listing.specs.Lines.{head_line}
 use Rattle.listing.proofs.Answers.{refused-12, put_first, handed}
-use borrow.Author.Rules.{rules}
 use Rattle.listing.proofs.head_line.Goals as goal
 
 pub overflow_cast-slots : goal.overflow_cast-slots

@@ -11,7 +11,6 @@ use Rattle.sheet.proofs.Seen.{told-slots, told-refused, few-slots}
 use Rattle.listing.specs.Text.{ascii, in_decimal}
 use Rattle.listing.specs.Lines.{count_line}
 use Rattle.listing.proofs.Answers.{refused-12, put_first, handed}
-use borrow.Author.Rules.{rules}
 use Rattle.sheet.proofs.FewRecords.{few-records}
 use Rattle.listing.proofs.last_line.Goals.{In-Slots}
 use Rattle.listing.proofs.last_line.Goals as goal

@@ -8,7 +8,6 @@ use lib.Seq.{length-take-le}
 use Rattle.sheet.specs.Slots.{size_allowed, slots}
 use Rattle.sheet.proofs.Seen.{told-slots, told-refused}
 use Rattle.listing.proofs.Answers.{refused-12, put_first, handed}
-use borrow.Author.Rules.{rules}
 use Rattle.listing.proofs.slot_line.Goals.{In-Slots}
 use Rattle.listing.proofs.slot_line.Goals as goal
 

@@ -12,7 +12,6 @@ use Rattle.listing.specs.Calls.{room_for}
 use Rattle.listing.proofs.Answers.{refused-15, written}
 use Rattle.sheet.proofs.Seen.{told-slots, told-refused, few-slots}
 use Rattle.putting.proofs.Putting.{text-is}
-use borrow.Author.Rules.{rules}
 use Rattle.listing.proofs.whole_listing.Goals.{In-Slots}
 use Rattle.listing.proofs.whole_listing.Goals as goal
 

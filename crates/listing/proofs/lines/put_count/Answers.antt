@@ -1,7 +1,6 @@
 -- `listing::lines::put_count` meets its contract: the word, the number, the end of the line. Assumes nothing.
 use native.Mathlib.Omega.{arith}
 use Rattle.putting.proofs.Putting.{then, at_most}
-use borrow.Author.Rules.{rules}
 use Rattle.listing.proofs.lines.put_count.Goals as goal
 
 pub returns : goal.returns

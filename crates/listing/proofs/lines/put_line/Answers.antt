@@ -4,7 +4,6 @@ use native.Mathlib.Omega.{arith}
 use lib.ListN.{length}
 use lib.Seq.{length-take-le}
 use Rattle.putting.proofs.Putting.{then}
-use borrow.Author.Rules.{rules}
 use Rattle.listing.proofs.lines.put_line.Goals as goal
 
 pub slice_bounds-put_record-end : goal.slice_bounds-put_record-end

@@ -1,6 +1,5 @@
 -- `listing::lines::put_other` meets its contract: the number, then the word. Assumes nothing.
 use Rattle.putting.proofs.Putting.{then}
-use borrow.Author.Rules.{rules}
 use Rattle.listing.proofs.lines.put_other.Goals as goal
 
 pub returns : goal.returns

@@ -8,7 +8,6 @@ use Rattle.putting.specs.Digit.{digit}
 use Rattle.listing.specs.Text.{digits_up_to}
 use Rattle.listing.specs.Lines.{alarm_text, reading_text}
 use Rattle.putting.proofs.Putting.{then, text-is}
-use borrow.Author.Rules.{rules}
 use Rattle.listing.proofs.lines.put_reading.Goals as goal
 
 -- the byte of an alarm is its text

@@ -4,7 +4,6 @@ use native.Mathlib.Omega.{arith}
 use Rattle.listing.specs.Lines.{reply_text, record_text}
 use Rattle.listing.proofs.Numbers.{few-digits}
 use Rattle.putting.proofs.Putting.{then, text-is}
-use borrow.Author.Rules.{rules}
 use Rattle.listing.proofs.lines.put_record.Goals as goal
 
 pub put_number-minute-requires : goal.put_number-minute-requires

@@ -3,7 +3,6 @@ use mathlib.Core.Path.{sym, ap}
 use native.Mathlib.Omega.{arith}
 use Rattle.listing.specs.Lines.{reply_text}
 use Rattle.putting.proofs.Putting.{then, text-is, at_most}
-use borrow.Author.Rules.{rules}
 use Rattle.listing.proofs.lines.put_reply.Goals as goal
 
 pub returns-in-Read : goal.returns-in-Read

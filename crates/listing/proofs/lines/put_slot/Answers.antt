@@ -13,7 +13,6 @@ use Rattle.listing.specs.Lines.{slot_line}
 use Rattle.sheet.proofs.Seen.{seen-bits, few-slots}
 use Rattle.putting.proofs.Putting.{text-is, at_most, nothing_put}
 use Rattle.listing.proofs.Seen.{line_found, records_found, seen-line, seen-records}
-use borrow.Author.Rules.{rules}
 use Rattle.listing.proofs.lines.put_slot.Goals.{After-look-looked}
 use Rattle.listing.proofs.lines.put_slot.Goals as goal
 

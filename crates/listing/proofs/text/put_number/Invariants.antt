@@ -1,16 +1,11 @@
 -- `listing::text::put_number` meets its contract. The loop puts the digits from the last forward: those put so far, `tail`, stand from the place i
 -- on, and the digits of what is left, with the tail after them, are those of the number. Assumes nothing.
-use mathlib.Core.Path.{◌≡◌, refl, sym, ap, ◌∙◌}
-use mathlib.Core.List.{List, [], ◌∷◌, ◌++◌, append-nil, append_assoc}
-use Prim.Native.Nat.{ℕ, ◌+◌, ◌-◌, ◌/◌, ◌%◌, ◌<◌, ◌≤◌, ◌^◌}
-use native.Mathlib.Omega.{arith}
-use borrow.Author.Rules.{rules}
-use lib.ListN.{length, set, length-set, length-append}
+use mathlib.Core.Path.{◌≡◌}
+use mathlib.Core.List.{List, ◌++◌}
+use Prim.Native.Nat.{ℕ, ◌+◌, ◌<◌, ◌≤◌, ◌^◌}
+use lib.ListN.{length}
 use lib.Seq.{sets}
-use Rattle.putting.specs.Digit.{digit}
 use Rattle.listing.specs.Text.{in_decimal}
-use Rattle.listing.proofs.Numbers.{one-digit, more-digits, few-digits, some-digit}
-use Rattle.putting.proofs.Putting.{set_front}
 use Rattle.listing.proofs.text.put_number.Given as goal
 
 pub record Filled (out₀ : List ℕ) (at n : ℕ) (out : List ℕ) (left i : ℕ) : Type 0 where

@@ -1,6 +1,5 @@
 -- `listing::text::put_short` meets its contract: a number of 16 bits has at most five digits. Assumes nothing.
 use native.Mathlib.Omega.{arith}
-use borrow.Author.Rules.{rules}
 use Rattle.listing.proofs.Numbers.{few-digits}
 use Rattle.listing.proofs.text.put_short.Goals as goal
 

@@ -1,14 +1,12 @@
 -- `listing::whole::put_lines` meets its contract: after k turns the lines of the first k slots stand in the output, and their records are counted.
 -- Assumes nothing.
 use mathlib.Core.Path.{◌≡◌, refl, sym, ap, ◌∙◌}
-use mathlib.Core.List.{List}
-use Prim.Native.Nat.{ℕ, ◌≤◌, ◌-◌, ◌+◌, ◌*◌}
+use Prim.Native.Nat.{ℕ, ◌+◌}
 use native.Mathlib.Omega.{arith}
 use lib.ListN.{length}
 use Rattle.sheet.proofs.FewRecords.{few-records}
 use Rattle.sheet.specs.Slots.{slots, list_up_to}
 use Rattle.listing.specs.Lines.{lines_up_to}
-use Rattle.putting.specs.Puts.{Puts}
 use Rattle.putting.proofs.Putting.{then, text-is, at_most, nothing_put}
 use Rattle.listing.proofs.Slotwise.{lines_more, records-more}
 use Rattle.listing.proofs.whole.put_lines.Invariants.{Listed}

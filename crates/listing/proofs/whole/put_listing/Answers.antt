@@ -8,7 +8,6 @@ use Rattle.listing.specs.Text.{ascii, in_decimal}
 use Rattle.listing.specs.Lines.{head_line, count_line}
 use Rattle.sheet.proofs.Seen.{few-slots}
 use Rattle.putting.proofs.Putting.{then, text-is, at_most}
-use borrow.Author.Rules.{rules}
 use Rattle.sheet.proofs.FewRecords.{few-records}
 use Rattle.listing.proofs.whole.put_listing.Goals as goal
 

@@ -1,5 +1,4 @@
 -- `listing::whole::records_in` meets its contract, case by case of what a slot reads as. Assumes nothing.
-use borrow.Author.Rules.{rules}
 use Rattle.listing.proofs.whole.records_in.Goals as goal
 
 pub returns-in-Record : goal.returns-in-Record
