@@ -10,7 +10,7 @@ use lib.ListN.{set, drop}
 use borrow.Author.Tests.{lt-ltb, le-ltb, eqb-true}
 use Rattle.frame.specs.declared.Reading.{Reading}
 use Rattle.frame.specs.declared.Reply.TheVariants.{Read, Refused, Unreadable}
-use Rattle.frame.specs.Faults.{Test, ◌gives◌, first_of}
+use Rattle.frame.specs.Faults.{◌gives◌, first_of}
 use Rattle.frame.specs.Line.{line, formed}
 use Rattle.frame.specs.Pick.{pick}
 use Rattle.frame.specs.Level.{Level, level_of, place_lost}

@@ -4,7 +4,7 @@
 use mathlib.Core.Path.{◌≡◌, refl, sym, ◌∙◌, ap, subst}
 use mathlib.Core.Bool.{Bool, true, false, not, ◌&&◌, ◌||◌}
 use mathlib.Core.List.{List}
-use Prim.Native.Nat.{ℕ, suc, ◌+◌, ◌<◌, ◌≤◌, min}
+use Prim.Native.Nat.{ℕ, suc, ◌+◌, ◌≤◌, min}
 use native.Mathlib.Omega.{arith}
 use lib.Dec.{eqb, ltb}
 use lib.ListN.{length}
@@ -13,8 +13,8 @@ use Rattle.frame.specs.Pick.{pick}
 use Rattle.board.specs.declared.Heard.{Heard}
 use Rattle.board.specs.declared.Looked.{Looked}
 use Rattle.board.specs.declared.Row.{Row}
-use Rattle.board.specs.Row.{is_free, is_in_use, free_row, new_row, heard_at, with_reading, with_fault, sets_fault, more, Minute, never, at}
-use Rattle.board.specs.Rows.{board_of, place_of, place_free}
+use Rattle.board.specs.Row.{is_free, is_in_use, free_row, new_row, sets_fault, more, Minute, never, at}
+use Rattle.board.specs.Rows.{board_of, place_of}
 use Rattle.board.specs.Calls.{heard_as, looked_at, minute_told}
 use Rattle.promises_order.specs.OldBoard.{OldEnrols as Enrols, OldHears as Hears, OldRemoves as Removes, OldLooksUp as LooksUp}
 use Rattle.board.proofs.Faults.{sets-some, not-0}

@@ -1,10 +1,9 @@
 -- Any sequence of calls. From an empty board no address is ever in use twice, rows past the thirtieth are never touched, and the board fills at its
 -- own size: a new address finds no row exactly when as many are on the board as it has rows.
-use Rattle.std.specs.Prelude.{◌≡◌, true, false, List, ℕ, suc, ◌+◌, ◌<◌, ◌≤◌, min, eqb, length}
+use Rattle.std.specs.Prelude.{◌≡◌, false, List, ℕ, suc, ◌+◌, ◌<◌, ◌≤◌, min, eqb, length}
 use Rattle.frame.specs.Pick.{pick}
 use Rattle.board.specs.declared.Row.{Row}
 use Rattle.board.specs.Gauge.{profile_misplaced}
-use Rattle.board.specs.Row.{is_free}
 use Rattle.promises_order.specs.Places.{Empty, OnBoard, row_at}
 use Rattle.promises_order.specs.Calls.{Records, Call, enrol, hear, remove, look_up, poll, Answer, Does}
 use Rattle.promises_board.specs.Calls.{Holds, Unknown}

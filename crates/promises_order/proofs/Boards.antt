@@ -1,10 +1,9 @@
 -- What a call asks of a board, by whether the address is on it, which row it has, and whether a row is free: two boards on which these are the same are
 -- answered alike. And the rows after a call, from what it makes of the board.
-use mathlib.Core.Path.{◌≡◌, refl, sym, ◌∙◌, ap}
-use mathlib.Core.Bool.{Bool, true, false, not}
+use mathlib.Core.Path.{◌≡◌, ◌∙◌, ap}
+use mathlib.Core.Bool.{Bool, not}
 use mathlib.Core.List.{List, [], ◌∷◌, ◌++◌}
-use Prim.Native.Nat.{ℕ, ◌<◌, ◌≤◌, min}
-use native.Mathlib.Omega.{arith}
+use Prim.Native.Nat.{ℕ}
 use lib.Dec.{eqb, ltb}
 use lib.ListN.{length, drop}
 use Rattle.frame.specs.Faults.{◌gives◌, first_of}
@@ -14,7 +13,6 @@ use Rattle.frame.specs.Line.{line, first_bytes, formed}
 use Rattle.frame.specs.Pick.{pick}
 use Rattle.frame.specs.Poll.{poll_line}
 use Rattle.frame.specs.Reply.{mode_in}
-use Rattle.board.specs.declared.Looked.{Looked}
 use Rattle.board.specs.declared.Row.{Row}
 use Rattle.board.specs.Gauge.{profile_misplaced, unmarked, at_once}
 use Rattle.board.specs.Rows.{on_board, row_of, has_free}

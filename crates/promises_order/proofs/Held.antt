@@ -1,22 +1,21 @@
 -- The rows in use that hold an address, wherever they stand: what each change of a board makes of them, and that all that a call asks of a board is
 -- said by them and by the number of rows in use. Each law goes by induction on the rows, with the tests of the first one taken apart.
-use mathlib.Core.Path.{◌≡◌, refl, sym, ◌∙◌, ap, subst}
-use mathlib.Core.Bool.{Bool, true, false, not, ◌&&◌}
+use mathlib.Core.Path.{◌≡◌, refl, sym, ◌∙◌, ap}
+use mathlib.Core.Bool.{Bool, true, false}
 use mathlib.Core.List.{List, [], ◌∷◌}
 use Prim.Native.Nat.{ℕ, zero, suc, ◌<◌, ◌≤◌}
 use native.Mathlib.Omega.{arith}
-use lib.Dec.{eqb, ltb}
-use lib.ListN.{length, get_or, set, length-set}
-use borrow.Author.Tests.{ltb-true, ltb-false, lt-ltb, le-ltb, eqb-true, eqb-false, eq-eqb, ne_eqb}
+use lib.Dec.{ltb}
+use lib.ListN.{length, get_or, set}
+use borrow.Author.Tests.{ltb-true, ltb-false, lt-ltb, le-ltb, eqb-true, ne_eqb}
 use Rattle.frame.specs.Pick.{pick}
-use Rattle.frame.proofs.Both.{both_left, both_right}
 use Rattle.board.specs.declared.Row.{Row}
 use Rattle.board.specs.Row.{is_free, free_row}
 use Rattle.board.specs.Rows.{holds, place_by, place_of, row_of, on_board, place_free, has_free}
-use Rattle.board.specs.Order.{all_free, in_address_order_from, in_address_order, pushed, insert_row, closed_up, without_row}
-use Rattle.board.proofs.Order.{neither, free-holds, used-holds, holds-used, off_head, room-tail, free_off, low-off, First, first_free, first_used, first-of, Put, put_free, put_here, put_behind, put_of, without-by, closed-by}
+use Rattle.board.specs.Order.{in_address_order_from, pushed, insert_row, closed_up, without_row}
+use Rattle.board.proofs.Order.{neither, free-holds, used-holds, holds-used, off_head, room-tail, free_off, low-off, First, first_free, first_used, first-of, Put, put_free, put_here, put_behind, put_of}
 use Rattle.promises_order.specs.OldBoard.{rows_held_by}
-use Rattle.promises_order.proofs.Count.{used, used-none, used-full, used-room}
+use Rattle.promises_order.proofs.Count.{used, used-full, used-room}
 
 module _ (a : ℕ) (row : Row) (rows : List Row) where
   pub held_by : (t : Bool) → holds a row ≡ t → rows_held_by a (row ∷ rows) ≡ pick t (row ∷ rows_held_by a rows) (rows_held_by a rows)

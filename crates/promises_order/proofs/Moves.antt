@@ -1,22 +1,22 @@
 -- Which rows move. A row put in or taken out is a row carried over a run of places (the board's own `Carried`), of the lent rows as of the board; what
 -- then stands at each place goes by induction on the run. The run's ends are the places that the promise names.
 use mathlib.Core.Path.{◌≡◌, refl, sym, ◌∙◌, ap, subst}
-use mathlib.Core.Bool.{Bool, true, false, not, ◌&&◌, ◌||◌}
-use mathlib.Core.List.{List, [], ◌∷◌, ◌++◌}
+use mathlib.Core.Bool.{Bool, true, false, not, ◌||◌}
+use mathlib.Core.List.{List, ◌++◌}
 use Prim.Native.Nat.{ℕ, zero, suc, ◌+◌, ◌-◌, ◌<◌, ◌≤◌, min}
 use native.Mathlib.Omega.{arith}
-use lib.Dec.{eqb, leb, ltb}
+use lib.Dec.{eqb, leb}
 use lib.ListN.{length, get_or, set, length-set, length-take, take-append-drop}
 use lib.Seq.{get_or-take, get_or-set_same, get_or-set_other}
-use borrow.Author.Tests.{ltb-true, ltb-false, leb-true, leb-false, le-leb, lt-leb, eqb-true, eqb-false, ne_eqb, eq-eqb, not-true}
+use borrow.Author.Tests.{leb-true, leb-false, le-leb, lt-leb, eqb-true, eqb-false, ne_eqb, eq-eqb, not-true}
 use Rattle.board.specs.declared.Row.{Row}
 use Rattle.board.specs.Row.{is_free, is_in_use, free_row}
-use Rattle.board.specs.Rows.{board_of, beyond, holds, place_by, place_of, place_free}
+use Rattle.board.specs.Rows.{board_of, beyond, holds, place_of, place_free}
 use Rattle.board.specs.Order.{in_address_order, insert_row, without_row}
-use Rattle.board.specs.Inside.ByValue.{reaches, place_for, carry, Within, onward, backward}
+use Rattle.board.specs.Inside.ByValue.{reaches, place_for, carry, onward, backward}
 use Rattle.board.proofs.Places.{place_is, place-le, place-before, place_at}
-use Rattle.board.proofs.Order.{neither, used-holds}
-use Rattle.board.proofs.Carried.{carry-none, carry-step, carry-front, insert-carry, without-carry, for-le}
+use Rattle.board.proofs.Order.{used-holds}
+use Rattle.board.proofs.Carried.{carry-step, carry-front, insert-carry, without-carry, for-le}
 use Rattle.promises_frame.proofs.Cases.{by-lt}
 use Rattle.promises_order.specs.Places.{row_at, OnBoard}
 use Rattle.promises_order.specs.Order.{SoKept, Front, IsPlaceFor, Inserted, Closed, HasFront, front_of, HasPlace, place-for, held-at}

@@ -2,14 +2,14 @@
 -- rows, and the new one so kept. Then all that a call asks is the same of both (`Held`, `Boards`), and each call keeps it, one case for each.
 use mathlib.Core.Path.{◌≡◌, refl, sym, ◌∙◌, ap, subst}
 use mathlib.Core.Bool.{Bool, true, false, not, ◌&&◌}
-use mathlib.Core.List.{List, [], ◌∷◌, ◌++◌}
+use mathlib.Core.List.{List, []}
 use Prim.Native.Nat.{ℕ, suc, ◌<◌, ◌≤◌}
 use native.Mathlib.Omega.{arith}
 use lib.Dec.{eqb, ltb}
 use lib.ListN.{length, get_or, set, length-set}
 use lib.Seq.{set_out}
 use borrow.Author.Tests.{ltb-true, lt-ltb, eqb-true, eqb-false}
-use Rattle.frame.specs.Line.{line, formed}
+use Rattle.frame.specs.Line.{line}
 use Rattle.frame.specs.Pick.{pick}
 use Rattle.frame.specs.Reply.{reading_at}
 use Rattle.board.specs.declared.Row.{Row}
@@ -19,7 +19,7 @@ use Rattle.board.specs.Rows.{holds, place_of, row_of, on_board, place_free, has_
 use Rattle.board.specs.Order.{in_address_order, insert_row, without_row}
 use Rattle.board.specs.Calls.{enrol_number, enrol_rows, hear_number, hear_place, hear_rows, find_number, remove_rows}
 use Rattle.board.proofs.Places.{place_at}
-use Rattle.board.proofs.Order.{neither, free-holds, used-holds, holds-used, insert-kept, without-kept, set-kept}
+use Rattle.board.proofs.Order.{neither, used-holds, holds-used, insert-kept, without-kept, set-kept}
 use Rattle.board.proofs.Numbers.{enrol-10, enrol-11, enrol-27, enrol-18, enrol-19, find-11, find-17}
 use Rattle.promises_frame.proofs.Cases.{by-lt}
 use Rattle.promises_order.specs.OldBoard.{old_enrol_rows, old_remove_rows, rows_held_by}
