@@ -1,5 +1,4 @@
 -- `export_listing::sisal_slot_line` meets its contract: what `slot_line` answers is told.
-use borrow.Author.Rules.{rules}
 use Rattle.export_listing.proofs.sisal_slot_line.Goals as goal
 
 pub returns : goal.returns
