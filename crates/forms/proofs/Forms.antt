@@ -9,7 +9,7 @@ use native.Mathlib.Numerals.{add-one}
 use native.Mathlib.Omega.{arith}
 use borrow.Author.Tests.{lt-ltb, le-ltb, ltb-true}
 use lib.Dec.{eqb, ltb}
-use lib.ListN.{length, get_or, drop, take, length-drop, length-append}
+use lib.ListN.{length, get_or, drop, take, length-drop}
 use lib.Seq.{drop-cons, get_or-drop, drop-drop}
 use Rattle.frame.specs.Pick.{pick}
 use Rattle.listing.specs.Text.{in_decimal}

@@ -1,9 +1,7 @@
 -- `forms::days::put_date` meets its contract: its parts are put one after another. Assumes nothing.
-use mathlib.Core.Path.{◌≡◌, refl, sym, ap, ◌∙◌}
 use native.Mathlib.Omega.{arith}
-use Rattle.putting.proofs.Putting.{then, text-is, at_most}
+use Rattle.putting.proofs.Putting.{then, at_most}
 use Rattle.forms.specs.Days.{date_text}
-use borrow.Author.Rules.{rules}
 use Rattle.forms.proofs.days.put_date.Goals as goal
 
 pub returns : goal.returns

@@ -1,8 +1,8 @@
 -- `forms::days::put_day` meets its contract, by its test. Assumes nothing.
-use mathlib.Core.Path.{◌≡◌, refl, sym, ap, ◌∙◌}
+use mathlib.Core.Path.{◌≡◌, ap, ◌∙◌}
 use native.Mathlib.Omega.{arith}
-use Rattle.putting.proofs.Putting.{then, text-is, at_most}
-use mathlib.Core.List.{List, [], ◌∷◌}
+use Rattle.putting.proofs.Putting.{text-is, at_most}
+use mathlib.Core.List.{[], ◌∷◌}
 use Prim.Native.Nat.{ℕ}
 use borrow.Author.Tests.{eq-eqb, ne_eqb}
 use Rattle.listing.specs.Text.{ascii}
@@ -10,7 +10,6 @@ use Rattle.calendar.specs.declared.counting.Day.{Day}
 use Rattle.calendar.specs.Days.{days_from}
 use Rattle.forms.specs.Form.{fill}
 use Rattle.forms.specs.Days.{date_text, day_text}
-use borrow.Author.Rules.{rules}
 use Rattle.forms.proofs.days.put_day.Goals as goal
 
 -- without the day of minute 0, and with it

@@ -1,9 +1,7 @@
 -- `forms::days::put_moment` meets its contract: its parts are put one after another. Assumes nothing.
-use mathlib.Core.Path.{◌≡◌, refl, sym, ap, ◌∙◌}
 use native.Mathlib.Omega.{arith}
-use Rattle.putting.proofs.Putting.{then, text-is, at_most}
+use Rattle.putting.proofs.Putting.{then, at_most}
 use Rattle.forms.specs.Days.{moment_text}
-use borrow.Author.Rules.{rules}
 use Rattle.forms.proofs.days.put_moment.Goals as goal
 
 pub returns : goal.returns

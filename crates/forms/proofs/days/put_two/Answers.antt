@@ -1,9 +1,6 @@
 -- `forms::days::put_two` meets its contract: one digit after the other. Assumes nothing.
-use mathlib.Core.Path.{◌≡◌, refl, sym, ap, ◌∙◌}
-use native.Mathlib.Omega.{arith}
-use Rattle.putting.proofs.Putting.{then, text-is, at_most}
+use Rattle.putting.proofs.Putting.{then}
 use Rattle.forms.specs.Days.{two_digits}
-use borrow.Author.Rules.{rules}
 use Rattle.forms.proofs.days.put_two.Goals as goal
 
 pub returns : goal.returns

@@ -1,14 +1,13 @@
 -- `forms::days::put_year` meets its contract, by its test: no number has more than ten digits. Assumes nothing.
-use mathlib.Core.Path.{◌≡◌, refl, sym, ap, ◌∙◌}
+use mathlib.Core.Path.{◌≡◌}
 use native.Mathlib.Omega.{arith}
 use Rattle.putting.proofs.Putting.{then, text-is, at_most}
-use mathlib.Core.List.{List, ◌++◌}
+use mathlib.Core.List.{◌++◌}
 use Prim.Native.Nat.{ℕ, ◌<◌, ◌≤◌, ◌/◌, ◌%◌}
 use borrow.Author.Tests.{lt-ltb, le-ltb}
 use Rattle.listing.specs.Text.{in_decimal}
 use Rattle.listing.proofs.Numbers.{few-digits}
 use Rattle.forms.specs.Days.{two_digits, year_text}
-use borrow.Author.Rules.{rules}
 use Rattle.forms.proofs.days.put_year.Goals as goal
 
 -- four digits, and more

@@ -1,10 +1,7 @@
 -- `forms::form::bar_from` meets its contract: no bar stands before the place. Assumes nothing.
-use mathlib.Core.Path.{◌≡◌, refl, sym, ap, ◌∙◌}
-use Prim.Native.Nat.{ℕ, ◌+◌, ◌-◌, ◌≤◌}
+use mathlib.Core.Path.{refl}
 use native.Mathlib.Omega.{arith}
 use borrow.Author.Tests.{eq-eqb, ne_eqb}
-use lib.ListN.{length, drop}
-use Rattle.forms.specs.Form.{first}
 use Rattle.forms.proofs.Forms.{first-here, first-later, first-end}
 use Rattle.forms.proofs.form.bar_from.Goals as goal
 

@@ -1,11 +1,8 @@
 -- `forms::form::bar_from` meets its contract: no bar stands before the place. Assumes nothing.
-use mathlib.Core.Path.{◌≡◌, refl, sym, ap, ◌∙◌}
-use Prim.Native.Nat.{ℕ, ◌+◌, ◌-◌, ◌≤◌}
-use native.Mathlib.Omega.{arith}
-use borrow.Author.Tests.{eq-eqb, ne_eqb}
+use mathlib.Core.Path.{◌≡◌}
+use Prim.Native.Nat.{◌+◌, ◌-◌, ◌≤◌}
 use lib.ListN.{length, drop}
 use Rattle.forms.specs.Form.{first}
-use Rattle.forms.proofs.Forms.{first-here, first-later, first-end}
 use Rattle.forms.proofs.form.bar_from.Given as goal
 
 abbrev pub invariant-loop-i : goal.invariant-loop-i

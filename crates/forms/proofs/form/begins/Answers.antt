@@ -1,9 +1,7 @@
 -- `forms::form::begins` meets its contract: what is passed over from the place on, of the forms still to pass, is the whole. Assumes nothing.
 use mathlib.Core.Path.{◌≡◌, refl, sym, ap, ◌∙◌}
-use mathlib.Core.List.{List}
-use Prim.Native.Nat.{ℕ, ◌-◌, ◌≤◌}
+use Prim.Native.Nat.{ℕ, ◌-◌}
 use native.Mathlib.Omega.{arith}
-use borrow.Author.Rules.{rules}
 use lib.ListN.{length, drop}
 use Rattle.forms.specs.Inside.Bounds.{past, passed}
 use Rattle.forms.proofs.Forms.{others-from, past-short, passed_none, passed-more}

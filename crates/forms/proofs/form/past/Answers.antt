@@ -1,5 +1,4 @@
 -- `forms::form::past` meets its contract, by its test. Assumes nothing.
-use mathlib.Core.Path.{◌≡◌, refl, sym, ap, ◌∙◌}
 use native.Mathlib.Omega.{arith}
 use borrow.Author.Tests.{lt-ltb, le-ltb}
 use Rattle.forms.proofs.form.past.Goals as goal

@@ -1,9 +1,8 @@
 -- `forms::form::put_choice` meets its contract: the part from where the form begins up to the next bar is the form. Assumes nothing.
-use mathlib.Core.Path.{◌≡◌, refl, sym, ap, ◌∙◌}
+use mathlib.Core.Path.{◌≡◌, ap, ◌∙◌}
 use mathlib.Core.List.{List}
 use Prim.Native.Nat.{ℕ, ◌+◌, ◌-◌, ◌≤◌}
 use native.Mathlib.Omega.{arith}
-use borrow.Author.Rules.{rules}
 use lib.ListN.{length, take, drop, length-drop}
 use Rattle.putting.proofs.Putting.{text-is, at_most}
 use Rattle.forms.specs.Form.{fill, first, choice}

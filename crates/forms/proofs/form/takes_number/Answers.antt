@@ -1,5 +1,4 @@
 -- `forms::form::takes_number` meets its contract: both tests, one after the other. Assumes nothing.
-use mathlib.Core.Path.{◌≡◌, refl, sym, ap, ◌∙◌}
 use borrow.Author.Tests.{eq-eqb, ne_eqb}
 use Rattle.forms.proofs.form.takes_number.Goals as goal
 

@@ -1,11 +1,10 @@
 -- `forms::words::put_degrees` meets its contract: each side of zero has its form. Assumes nothing.
-use mathlib.Core.Path.{◌≡◌, sym}
+use mathlib.Core.Path.{◌≡◌}
 use Prim.Native.Nat.{ℕ, ◌-◌, ◌<◌, ◌≤◌}
 use native.Mathlib.Omega.{arith}
 use borrow.Author.Tests.{lt-ltb, le-ltb}
 use Rattle.putting.proofs.Putting.{text-is, at_most}
 use Rattle.forms.specs.Words.{in_tenths, below_zero, degrees_text}
-use borrow.Author.Rules.{rules}
 use Rattle.forms.proofs.words.put_degrees.Goals as goal
 
 -- either side of zero

@@ -1,11 +1,10 @@
 -- `forms::words::put_level` meets its contract: each mode has its form. Assumes nothing.
-use mathlib.Core.Path.{◌≡◌, refl, sym, ap, ◌∙◌}
+use mathlib.Core.Path.{◌≡◌}
 use native.Mathlib.Omega.{arith}
 use Prim.Native.Nat.{ℕ, ◌%◌}
 use borrow.Author.Tests.{eq-eqb, ne_eqb}
-use Rattle.putting.proofs.Putting.{then, text-is, at_most, nothing_put}
+use Rattle.putting.proofs.Putting.{text-is, at_most}
 use Rattle.forms.specs.Words.{in_sixteenths, in_hundredths, in_millimetres, level_text}
-use borrow.Author.Rules.{rules}
 use Rattle.forms.proofs.words.put_level.Goals as goal
 
 -- the form of each mode
