@@ -2,19 +2,19 @@
 -- address and settings tell whether a slot can hold one of the pair. Assumes nothing.
 use mathlib.Core.Path.{◌≡◌, refl, sym, ap, ◌∙◌}
 use mathlib.Core.Bool.{Bool, true, false}
-use mathlib.Core.List.{List, [], ◌∷◌, ◌++◌, append-nil}
+use mathlib.Core.List.{List, [], ◌++◌, append-nil}
 use Prim.Native.Nat.{ℕ, zero, suc, ◌+◌, ◌*◌, ◌<◌, ◌≤◌}
 use native.Mathlib.Nat.{zero-add}
 use native.Mathlib.Numerals.{add-one}
 use native.Mathlib.Omega.{arith}
-use borrow.Author.Tests.{eqb-true, eqb-false, ltb-true, ltb-false}
+use borrow.Author.Tests.{eqb-false, ltb-true, ltb-false}
 use lib.Dec.{eqb, ltb}
 use lib.ListN.{length, get_or, take, drop, set, length-append, length-drop}
 use lib.Seq.{get_or-take, get_or-drop, get_or-set_same, get_or-set_other, length-take-le}
 use Rattle.frame.specs.Pick.{pick}
 use Rattle.sheet.specs.Bytes.{FF, all_blank, number_in}
 use Rattle.sheet.specs.Record.{Entry, is_record, fields_of}
-use Rattle.sheet.specs.Slots.{Slot, blank, spoiled, foreign, holds, slots, slot_at, slot_of, record_in, list_up_to, list_of}
+use Rattle.sheet.specs.Slots.{blank, spoiled, foreign, holds, slots, slot_at, slot_of, record_in, list_up_to}
 use Rattle.sheet.proofs.Numbers.{number_more}
 use Rattle.sheet.proofs.SlotParts.{slot-long}
 use Rattle.summary.specs.Line.{pair_by}

@@ -1,6 +1,5 @@
 -- What the records of a pair come to: the last level and its minute, the lowest and the highest temperature, and how many replies were of each kind.
 use Rattle.std.specs.Prelude.{List, [], ◌∷◌, ℕ, ◌+◌, min, max, ltb, get_or, set, replicate}
-use Rattle.frame.specs.declared.Reading.{Reading}
 use Rattle.frame.specs.declared.Reply.{Reply}
 use Rattle.frame.specs.declared.Reply.TheVariants.{Read, Refused, Unreadable}
 use Rattle.frame.specs.declared.Temperature.{Temperature}

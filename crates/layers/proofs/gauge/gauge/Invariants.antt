@@ -1,15 +1,9 @@
 -- `layers::gauge::gauge` meets its contract: after i turns it is what the pair's records in the first i noted slots come to. Assumes nothing.
-use mathlib.Core.Path.{◌≡◌, refl, sym, ap, ◌∙◌}
-use mathlib.Core.List.{List, []}
-use Prim.Native.Nat.{ℕ, ◌+◌, ◌-◌, ◌≤◌}
-use native.Mathlib.Omega.{arith}
-use lib.ListN.{length, get_or}
-use Rattle.sheet.specs.Slots.{slots}
-use Rattle.layers.specs.declared.gauge.Gauged.{Gauged}
-use Rattle.layers.specs.Gauged.{gauged_with, not_gauged, gauged_of}
-use Rattle.layers.specs.Inside.Noted.{own_in, own_up_to}
-use Rattle.layers.proofs.MoreNoted.{own-none, own-more}
-use Rattle.layers.proofs.MoreGauged.{gauged-none, gauged-append}
+use mathlib.Core.Path.{◌≡◌}
+use Prim.Native.Nat.{◌-◌, ◌≤◌}
+use lib.ListN.{length}
+use Rattle.layers.specs.Gauged.{gauged_of}
+use Rattle.layers.specs.Inside.Noted.{own_up_to}
 use Rattle.layers.proofs.gauge.gauge.Given as goal
 
 abbrev pub invariant-loop-i : goal.invariant-loop-i

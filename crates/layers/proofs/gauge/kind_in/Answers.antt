@@ -1,7 +1,6 @@
 -- `layers::gauge::kind_in` meets its contract, case by case. Assumes nothing.
-use mathlib.Core.Path.{◌≡◌, sym, ap, ◌∙◌}
+use mathlib.Core.Path.{sym, ap, ◌∙◌}
 use Rattle.layers.specs.Gauged.{reply_kind}
-use borrow.Author.Rules.{rules}
 use Rattle.layers.proofs.gauge.kind_in.Goals as goal
 
 pub returns-in-Refused : goal.returns-in-Refused

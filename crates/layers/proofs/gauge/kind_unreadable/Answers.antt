@@ -1,7 +1,6 @@
 -- `layers::gauge::kind_unreadable` meets its contract, by its test. Assumes nothing.
 use native.Mathlib.Omega.{arith}
 use borrow.Author.Tests.{lt-ltb, le-ltb}
-use borrow.Author.Rules.{rules}
 use Rattle.layers.proofs.gauge.kind_unreadable.Goals as goal
 
 pub returns-then-place-lt6 : goal.returns-then-place-lt6

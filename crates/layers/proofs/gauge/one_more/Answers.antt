@@ -1,5 +1,4 @@
 -- `layers::gauge::one_more` meets its contract: the count at the place is raised. Assumes nothing.
-use borrow.Author.Rules.{rules}
 use Rattle.layers.proofs.gauge.one_more.Goals as goal
 
 pub returns : goal.returns

@@ -8,7 +8,6 @@ use Rattle.summary.specs.Worked.{pair_in}
 use Rattle.layers.specs.Gauged.{gauged_with}
 use Rattle.layers.proofs.Drawn.{of_pair, of_other}
 use Rattle.layers.proofs.MoreGauged.{gauged-one, gauged-none}
-use borrow.Author.Rules.{rules}
 use Rattle.layers.proofs.gauge.with_own.Goals.{After-pair_of}
 use Rattle.layers.proofs.gauge.with_own.Goals as goal
 

@@ -1,11 +1,7 @@
 -- `layers::gauge::with_record` meets its contract: what the reply reads as is added. Assumes nothing.
-use mathlib.Core.Path.{◌≡◌, sym, ap, ◌∙◌}
-use native.Mathlib.Omega.{arith}
-use lib.ListN.{length}
-use lib.Seq.{length-take-le}
+use mathlib.Core.Path.{ap, ◌∙◌}
 use Rattle.frame.specs.declared.Reply.{Reply}
 use Rattle.layers.specs.Gauged.{with_reply}
-use borrow.Author.Rules.{rules}
 use Rattle.layers.proofs.gauge.with_record.Goals as goal
 
 pub returns : goal.returns

@@ -1,12 +1,10 @@
 -- `layers::gauge::with_reply` meets its contract, field by field. Assumes nothing.
-use mathlib.Core.Path.{◌≡◌, sym, ap, ◌∙◌}
+use mathlib.Core.Path.{ap, ◌∙◌}
 use mathlib.Core.List.{List}
 use Prim.Native.Nat.{ℕ}
 use Rattle.frame.specs.Pick.{pick}
 use Rattle.layers.specs.declared.parts.Value.{Value}
-use Rattle.layers.specs.Drawing.{value_in}
 use Rattle.layers.specs.Gauged.{side_in, one_more, colder, warmer}
-use borrow.Author.Rules.{rules}
 use Rattle.layers.proofs.gauge.with_reply.Goals as goal
 
 pub returns : goal.returns

@@ -10,11 +10,9 @@ use Rattle.sheet.specs.Slots.{slot_at, slot_of, record_in}
 use Rattle.sheet.specs.Look.{record_told}
 use Rattle.summary.specs.Worked.{entries_of_pair}
 use Rattle.sheet.proofs.Seen.{seen-bits, seen-record}
-use Rattle.layers.specs.declared.gauge.Gauged.{Gauged}
 use Rattle.layers.specs.Gauged.{gauged_with}
 use Rattle.layers.proofs.Drawn.{of_none}
 use Rattle.layers.proofs.MoreGauged.{gauged-none}
-use borrow.Author.Rules.{rules}
 use Rattle.layers.proofs.gauge.with_slot.Goals.{After-look-looked}
 use Rattle.layers.proofs.gauge.with_slot.Goals as goal
 

@@ -1,10 +1,9 @@
 -- `layers::noting::counted` meets its contract, by its test. Assumes nothing.
-use mathlib.Core.Path.{◌≡◌, sym, ap, ◌∙◌}
+use mathlib.Core.Path.{sym, ap, ◌∙◌}
 use mathlib.Core.Bool.{Bool}
 use Prim.Native.Nat.{◌+◌}
 use borrow.Author.Tests.{eq-eqb, ne_eqb}
 use Rattle.frame.specs.Pick.{pick}
-use borrow.Author.Rules.{rules}
 use Rattle.layers.proofs.noting.counted.Goals as goal
 
 pub returns-then-pair_at-pair : goal.returns-then-pair_at-pair

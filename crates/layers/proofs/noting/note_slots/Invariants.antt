@@ -1,11 +1,8 @@
 -- `layers::noting::note_slots` meets its contract: after k turns the row has noted what can be the pair's of the first k slots. Assumes nothing.
-use mathlib.Core.Path.{◌≡◌, refl, ap, ◌∙◌}
-use Prim.Native.Nat.{ℕ, ◌-◌, ◌<◌, ◌≤◌}
-use native.Mathlib.Omega.{arith}
-use lib.ListN.{length, length-set}
-use Rattle.sheet.specs.Slots.{slots}
-use Rattle.sheet.proofs.Seen.{few-slots}
-use Rattle.layers.proofs.MoreNoted.{NotedTo, noted-none, noted-next, noted-all}
+use mathlib.Core.Path.{◌≡◌}
+use Prim.Native.Nat.{◌-◌, ◌≤◌}
+use lib.ListN.{length}
+use Rattle.layers.proofs.MoreNoted.{NotedTo}
 use Rattle.layers.proofs.noting.note_slots.Given as goal
 
 abbrev pub invariant-loop-k : goal.invariant-loop-k

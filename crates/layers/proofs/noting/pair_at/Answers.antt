@@ -1,7 +1,6 @@
 -- `layers::noting::pair_at` meets its contract: the bytes that it reads are those of the record's fields. Assumes nothing.
-use mathlib.Core.Path.{◌≡◌, ◌∙◌}
+use mathlib.Core.Path.{◌∙◌}
 use Prim.Native.Nat.{◌+◌, ◌*◌}
-use borrow.Author.Rules.{rules}
 use Rattle.layers.proofs.MoreNoted.{pair-bytes}
 use Rattle.layers.proofs.noting.pair_at.Goals as goal
 

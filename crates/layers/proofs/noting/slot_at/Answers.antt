@@ -1,6 +1,5 @@
 -- `layers::noting::slot_at` meets its contract: a number of 16 bits fits. Assumes nothing.
 use native.Mathlib.Omega.{arith}
-use borrow.Author.Rules.{rules}
 use Rattle.layers.proofs.noting.slot_at.Goals as goal
 
 pub overflow_cast-result : goal.overflow_cast-result

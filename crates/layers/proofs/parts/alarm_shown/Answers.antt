@@ -1,7 +1,4 @@
 -- `layers::parts::alarm_shown` meets its contract, by its tests. Assumes nothing.
-use mathlib.Core.Path.{◌≡◌, refl, sym, ap, ◌∙◌}
-use native.Mathlib.Omega.{arith}
-use Rattle.putting.proofs.Putting.{then, text-is, at_most, nothing_put}
 use borrow.Author.Tests.{eq-eqb, ne_eqb}
 use Rattle.layers.proofs.parts.alarm_shown.Goals as goal
 

@@ -1,5 +1,5 @@
 -- `layers::parts::heat_value` meets its contract, case by case. Assumes nothing.
-use mathlib.Core.Path.{◌≡◌, refl, sym, ap, ◌∙◌}
+use mathlib.Core.Path.{sym, ap, ◌∙◌}
 use native.Mathlib.Omega.{arith}
 use mathlib.Core.Bool.{true, false}
 use mir.Syntax.{w16}
@@ -7,7 +7,6 @@ use mir.Val.{SFits}
 use Rattle.frame.proofs.Signs.{magnitude-small}
 use Rattle.layers.specs.Drawing.{stands, heat_value}
 use Rattle.layers.proofs.ByTests.{same, degrees-value}
-use Rattle.putting.proofs.Putting.{then, text-is, at_most, nothing_put}
 use borrow.Author.Rules.{rules}
 use Rattle.layers.proofs.parts.heat_value.Goals as goal
 

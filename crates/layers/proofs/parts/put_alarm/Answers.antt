@@ -1,11 +1,6 @@
 -- `layers::parts::put_alarm` meets its contract: a mark where the layer's alarm is on. Assumes nothing.
-use mathlib.Core.Path.{◌≡◌, refl, sym, ap, ◌∙◌}
-use native.Mathlib.Omega.{arith}
-use borrow.Author.Tests.{not-true, not-false}
 use Rattle.layers.proofs.ByTests.{no-alarm, an-alarm}
-use Rattle.putting.proofs.Putting.{then, text-is, at_most, nothing_put}
-use Rattle.layers.specs.Drawing.{alarm_mark}
-use borrow.Author.Rules.{rules}
+use Rattle.putting.proofs.Putting.{text-is, nothing_put}
 use Rattle.layers.proofs.parts.put_alarm.Goals as goal
 
 pub returns-then-not-alarm_shown : goal.returns-then-not-alarm_shown

@@ -1,10 +1,6 @@
 -- `layers::parts::put_faulty` meets its contract: one of two forms, or none, by the layer. Assumes nothing.
-use mathlib.Core.Path.{◌≡◌, refl, sym, ap, ◌∙◌}
-use native.Mathlib.Omega.{arith}
 use Rattle.layers.proofs.ByTests.{as-mark, as-words, as-nothing}
-use Rattle.putting.proofs.Putting.{then, text-is, at_most, nothing_put}
-use Rattle.layers.specs.Drawing.{fault_mark}
-use borrow.Author.Rules.{rules}
+use Rattle.putting.proofs.Putting.{text-is, nothing_put}
 use Rattle.layers.proofs.parts.put_faulty.Goals as goal
 
 pub returns-then-layer-eq2 : goal.returns-then-layer-eq2

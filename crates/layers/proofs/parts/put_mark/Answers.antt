@@ -1,9 +1,8 @@
 -- `layers::parts::put_mark` meets its contract: the text is that of the case that the match saw. Assumes nothing.
-use mathlib.Core.Path.{◌≡◌, refl, sym, ap, ◌∙◌}
+use mathlib.Core.Path.{sym, ap}
 use native.Mathlib.Omega.{arith}
-use Rattle.putting.proofs.Putting.{then, text-is, at_most, nothing_put}
+use Rattle.putting.proofs.Putting.{text-is, at_most}
 use Rattle.layers.specs.Drawing.{mark_text}
-use borrow.Author.Rules.{rules}
 use Rattle.layers.proofs.parts.put_mark.Goals as goal
 
 pub returns-in-Read : goal.returns-in-Read

@@ -1,8 +1,7 @@
 -- `layers::parts::put_part` meets its contract: a point on the two lines, a mark on the other layers. Assumes nothing.
-use mathlib.Core.Path.{◌≡◌, refl, sym, ap, ◌∙◌}
+use mathlib.Core.Path.{◌≡◌, ap}
 use native.Mathlib.Omega.{arith}
 use mathlib.Core.Bool.{Bool, false}
-use mathlib.Core.List.{List}
 use Prim.Native.Nat.{ℕ, ◌<◌, ◌≤◌}
 use borrow.Author.Tests.{lt-ltb, le-ltb}
 use lib.Dec.{ltb}
@@ -12,7 +11,6 @@ use Rattle.putting.proofs.Putting.{text-is, at_most}
 use Rattle.calendar.specs.declared.counting.Day.{Day}
 use Rattle.layers.specs.declared.parts.Value.{Value}
 use Rattle.layers.specs.Drawing.{value_in, point_text, mark_text}
-use borrow.Author.Rules.{rules}
 use Rattle.layers.proofs.parts.put_part.Goals as goal
 
 -- on the two lines, and on the other layers

@@ -1,11 +1,7 @@
 -- `layers::parts::put_point` meets its contract: a point where there is a value. Assumes nothing.
-use mathlib.Core.Path.{◌≡◌, refl, sym, ap, ◌∙◌}
-use native.Mathlib.Omega.{arith}
 use borrow.Author.Tests.{not-true, not-false}
 use Rattle.layers.proofs.ByTests.{no-point, a_point}
-use Rattle.putting.proofs.Putting.{then, text-is, at_most, nothing_put}
-use Rattle.layers.specs.Drawing.{point_text}
-use borrow.Author.Rules.{rules}
+use Rattle.putting.proofs.Putting.{text-is, nothing_put}
 use Rattle.layers.proofs.parts.put_point.Goals as goal
 
 pub returns-then-not-v : goal.returns-then-not-v

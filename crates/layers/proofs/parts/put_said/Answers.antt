@@ -1,8 +1,6 @@
 -- `layers::parts::put_said` meets its contract: its parts are put one after another. Assumes nothing.
-use mathlib.Core.Path.{◌≡◌, refl, sym, ap, ◌∙◌}
 use native.Mathlib.Omega.{arith}
-use Rattle.putting.proofs.Putting.{then, text-is, at_most, nothing_put}
-use borrow.Author.Rules.{rules}
+use Rattle.putting.proofs.Putting.{then, at_most}
 use Rattle.layers.proofs.parts.put_said.Goals as goal
 
 pub returns : goal.returns

@@ -1,13 +1,10 @@
 -- `layers::parts::value_in` meets its contract, case by case. Assumes nothing.
-use mathlib.Core.Path.{◌≡◌, refl, sym, ap, ◌∙◌}
-use mathlib.Core.Bool.{true}
+use mathlib.Core.Path.{◌≡◌, sym, ap, ◌∙◌}
 use Prim.Native.Nat.{ℕ}
-use native.Mathlib.Omega.{arith}
 use borrow.Author.Tests.{eq-eqb, ne_eqb}
 use Rattle.frame.specs.declared.Reading.{Reading}
 use Rattle.frame.specs.declared.Reply.TheVariants.{Read}
 use Rattle.layers.specs.Drawing.{stands, heat_value, value_in}
-use borrow.Author.Rules.{rules}
 use Rattle.layers.proofs.parts.value_in.Goals as goal
 
 -- a good reply, by the layer

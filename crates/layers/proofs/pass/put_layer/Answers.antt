@@ -2,14 +2,12 @@
 -- nothing.
 use mathlib.Core.Path.{◌≡◌, refl, sym, ap, ◌∙◌}
 use mathlib.Core.Bool.{Bool, false}
-use mathlib.Core.List.{List, [], ◌++◌}
-use Prim.Native.Nat.{ℕ, ◌+◌, ◌-◌, ◌*◌, ◌<◌, ◌≤◌}
+use mathlib.Core.List.{List, ◌++◌}
+use Prim.Native.Nat.{ℕ, ◌+◌, ◌-◌, ◌<◌, ◌≤◌}
 use native.Mathlib.Omega.{arith}
 use lib.ListN.{length, get_or}
-use Rattle.sheet.specs.Record.{Entry}
 use Rattle.sheet.specs.Slots.{slots, list_of}
 use Rattle.summary.specs.Worked.{entries_of_pair}
-use Rattle.putting.specs.Puts.{Puts}
 use Rattle.putting.proofs.Putting.{then, text-is, at_most, nothing_put}
 use Rattle.calendar.specs.declared.counting.Day.{Day}
 use Rattle.layers.specs.Drawing.{layer_text}
@@ -17,7 +15,6 @@ use Rattle.layers.specs.Inside.Layers.{joined_after}
 use Rattle.layers.specs.Inside.Noted.{own_in, own_up_to}
 use Rattle.layers.proofs.Drawn.{layer-append, joined-append, layer-none, joined-none}
 use Rattle.layers.proofs.MoreNoted.{own-none, own-more, own-count, own-grows}
-use Rattle.layers.proofs.pass.put_layer.Invariants.{Layered}
 use Rattle.layers.proofs.pass.put_layer.Goals as goal
 
 more : (begin : Day) (layer pair : ℕ) (s own : List ℕ) (i slot : ℕ) → slot ≡ get_or own i 0 → layer_text begin layer false (own_up_to s pair own i) ++ layer_text begin layer (joined_after layer false (own_up_to s pair own i)) (own_in s pair slot) ≡ layer_text begin layer false (own_up_to s pair own (i + 1))

@@ -1,22 +1,15 @@
 -- `layers::pass::put_layer` meets its contract: after i turns the parts of the pair's records in the first i noted slots stand in the output. Assumes
 -- nothing.
-use mathlib.Core.Path.{◌≡◌, refl, sym, ap, ◌∙◌}
+use mathlib.Core.Path.{◌≡◌}
 use mathlib.Core.Bool.{Bool, false}
-use mathlib.Core.List.{List, [], ◌++◌}
-use Prim.Native.Nat.{ℕ, ◌+◌, ◌-◌, ◌*◌, ◌<◌, ◌≤◌}
-use native.Mathlib.Omega.{arith}
-use lib.ListN.{length, get_or}
-use Rattle.sheet.specs.Record.{Entry}
-use Rattle.sheet.specs.Slots.{slots, list_of}
-use Rattle.summary.specs.Worked.{entries_of_pair}
+use mathlib.Core.List.{List}
+use Prim.Native.Nat.{ℕ, ◌-◌, ◌*◌, ◌≤◌}
+use lib.ListN.{length}
 use Rattle.putting.specs.Puts.{Puts}
-use Rattle.putting.proofs.Putting.{then, text-is, at_most, nothing_put}
 use Rattle.calendar.specs.declared.counting.Day.{Day}
 use Rattle.layers.specs.Drawing.{layer_text}
 use Rattle.layers.specs.Inside.Layers.{joined_after}
-use Rattle.layers.specs.Inside.Noted.{own_in, own_up_to}
-use Rattle.layers.proofs.Drawn.{layer-append, joined-append, layer-none, joined-none}
-use Rattle.layers.proofs.MoreNoted.{own-none, own-more, own-count, own-grows}
+use Rattle.layers.specs.Inside.Noted.{own_up_to}
 use Rattle.layers.proofs.pass.put_layer.Given as goal
 
 pub record Layered (out₀ : List ℕ) (at : ℕ) (sheet own : List ℕ) (pair layer : ℕ) (begin : Day) (out : List ℕ) (end : ℕ) (joined : Bool) (i : ℕ) : Type 0 where

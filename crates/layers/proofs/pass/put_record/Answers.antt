@@ -1,17 +1,11 @@
 -- `layers::pass::put_record` meets its contract: the part of what the reply reads as. Assumes nothing.
-use mathlib.Core.Path.{◌≡◌, refl, sym, ap, ◌∙◌}
-use native.Mathlib.Omega.{arith}
-use mathlib.Core.Bool.{Bool, false}
-use mathlib.Core.List.{List}
-use Prim.Native.Nat.{ℕ}
+use mathlib.Core.Path.{ap, ◌∙◌}
+use mathlib.Core.Bool.{false}
 use lib.Dec.{ltb}
-use lib.ListN.{length}
-use lib.Seq.{length-take-le}
 use Rattle.frame.specs.declared.Reply.{Reply}
 use Rattle.frame.specs.Pick.{pick}
 use Rattle.putting.proofs.Putting.{text-is}
 use Rattle.layers.specs.Drawing.{value_in, point_text, mark_text, part_text, line_goes_on}
-use borrow.Author.Rules.{rules}
 use Rattle.layers.proofs.pass.put_record.Goals as goal
 
 pub returns : goal.returns
