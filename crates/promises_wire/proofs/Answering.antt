@@ -63,6 +63,7 @@ record PollAt (p : Pace) (rows : List Row) (ys : List Stood) (i : ℕ) (q : Poll
   its : PollOf p row stood q
 
 poll-at : {p : Pace} {rows : List Row} {ys : List Stood} {qs : List Poll} {i : ℕ} {q : Poll} → InStep p rows ys qs → After qs i q → PollAt p rows ys i q
+poll-at none_in_step after = elim after [ ]
 poll-at (one_in_step row y q its others) at-once = record { row = row; stood = y; row_at = at-once; stood_at = at-once; its = its }
 poll-at (one_in_step row y q its others) (one_later a) =
     let r = poll-at others a in
@@ -157,6 +158,7 @@ record SentAt (p : Pace) (rows : List Row) (i : ℕ) (x : Sent) : Type 0 where
   by : SentBy row.settings row.address x
 
 sent-at : {p : Pace} {rows : List Row} {xs : List Sent} {i : ℕ} {x : Sent} → SentToAll p rows xs → After xs i x → SentAt p rows i x
+sent-at none_sent after = elim after [ ]
 sent-at (one_sent row x timely by more) at-once = record { row = row; row_at = at-once; timely = timely; by = by }
 sent-at (one_sent row x timely by more) (one_later a) =
     let r = sent-at more a in record { row = r.row; row_at = one_later r.row_at; timely = r.timely; by = r.by }
