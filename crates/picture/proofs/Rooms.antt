@@ -1,8 +1,8 @@
 -- The room of all sections: no record is of two pairs, so the records of all pairs together are no more than the list. Assumes nothing.
-use mathlib.Core.Path.{◌≡◌, refl, sym, ap, ◌∙◌}
+use mathlib.Core.Path.{◌≡◌, refl, ap}
 use mathlib.Core.Bool.{Bool, true, false}
-use mathlib.Core.List.{List, [], ◌∷◌, ◌++◌, map}
-use Prim.Native.Nat.{ℕ, zero, suc, ◌+◌, ◌*◌, ◌<◌, ◌≤◌}
+use mathlib.Core.List.{List, [], ◌∷◌, map}
+use Prim.Native.Nat.{ℕ, ◌+◌, ◌*◌, ◌≤◌}
 use native.Mathlib.Omega.{arith}
 use borrow.Author.Tests.{eq-eqb, ne_eqb}
 use lib.Dec.{eqb}
@@ -12,7 +12,7 @@ use Rattle.frame.specs.Rising.{Above, above_none, above_more, Rises, rises_none,
 use Rattle.sheet.specs.Record.{Entry}
 use Rattle.summary.specs.declared.Line.{Line}
 use Rattle.summary.specs.Line.{pair_of}
-use Rattle.summary.specs.Worked.{pair_in, entries_of_pair, line_for, in_order, kept_pairs}
+use Rattle.summary.specs.Worked.{pair_in, entries_of_pair, line_for}
 use Rattle.summary.proofs.KeptPairs.{itself, Same, is, isnt, compare}
 use Rattle.summary.proofs.PairFigures.{pair_line}
 use Rattle.picture.specs.Inside.Room.{room_of}

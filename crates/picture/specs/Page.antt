@@ -1,8 +1,8 @@
 -- The page of a card: one file of HTML, with a section for each line of its summary.
-use Rattle.std.specs.Prelude.{false, List, [], ◌∷◌, ◌++◌, map, ℕ, zero, suc, ◌+◌, ◌-◌, ◌/◌, eqb, ltb, get_or}
+use Rattle.std.specs.Prelude.{false, List, [], ◌∷◌, ◌++◌, map, ℕ, zero, suc, ◌+◌, ◌-◌, eqb, ltb, get_or}
 use Rattle.frame.specs.Pick.{pick}
 use Rattle.sheet.specs.Record.{Entry}
-use Rattle.sheet.specs.Slots.{slots, list_of}
+use Rattle.sheet.specs.Slots.{list_of}
 use Rattle.cards.specs.declared.counting.Tally.{Tally}
 use Rattle.cards.specs.Tally.{tally_of}
 use Rattle.summary.specs.declared.Line.{Line}

@@ -1,14 +1,11 @@
 -- `picture::picture` meets its contract: the page is put straight into an output that is long enough for every sheet. Assumes nothing.
-use mathlib.Core.Path.{◌≡◌, refl, sym, ap, ◌∙◌}
-use mathlib.Core.List.{List, [], ◌∷◌, ◌++◌}
-use Prim.Native.Nat.{ℕ, suc, ◌+◌, ◌-◌, ◌*◌, ◌<◌, ◌≤◌}
+use mathlib.Core.Path.{sym, ◌∙◌}
+use Prim.Native.Nat.{◌+◌, ◌*◌, ◌<◌, ◌≤◌}
 use native.Mathlib.Omega.{arith}
-use Rattle.putting.proofs.Putting.{then, text-is, at_most, nothing_put}
 use borrow.Author.Tests.{ltb-true, ltb-false}
 use lib.ListN.{length}
 use Rattle.listing.proofs.Answers.{refused-12, refused-15, written}
 use Rattle.sheet.proofs.Seen.{told-slots, told-refused, few-slots}
-use borrow.Author.Rules.{rules}
 use Rattle.picture.proofs.picture.Goals as goal
 
 pub is_short-requires : goal.is_short-requires

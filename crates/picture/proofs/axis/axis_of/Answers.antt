@@ -1,15 +1,13 @@
 -- `picture::axis::axis_of` meets its contract, field by field. Assumes nothing.
-use mathlib.Core.Path.{◌≡◌, refl, sym, ap, ◌∙◌}
-use mathlib.Core.List.{List, [], ◌∷◌, ◌++◌}
-use Prim.Native.Nat.{ℕ, suc, ◌+◌, ◌-◌, ◌*◌, ◌<◌, ◌≤◌}
+use mathlib.Core.Path.{◌≡◌, ap, ◌∙◌}
+use mathlib.Core.List.{[], ◌∷◌}
+use Prim.Native.Nat.{ℕ, ◌+◌, ◌-◌, ◌*◌, ◌<◌, ◌≤◌}
 use native.Mathlib.Omega.{arith}
-use Rattle.putting.proofs.Putting.{then, text-is, at_most, nothing_put}
 use Prim.Native.Nat.{◌/◌, min}
 use native.Mathlib.Nat.{div-lt_iff_lt-mul}
 use Rattle.calendar.specs.declared.counting.Day.{Day}
 use Rattle.picture.specs.declared.axis.Axis.{Axis}
 use Rattle.picture.specs.Axis.{axis_of, days_shown}
-use borrow.Author.Rules.{rules}
 use Rattle.picture.proofs.axis.axis_of.Goals as goal
 
 -- no more ticks than days

@@ -1,11 +1,7 @@
 -- `picture::axis::put_days` meets its contract: its parts are put one after another. Assumes nothing.
-use mathlib.Core.Path.{◌≡◌, refl, sym, ap, ◌∙◌}
-use mathlib.Core.List.{List, [], ◌∷◌, ◌++◌}
-use Prim.Native.Nat.{ℕ, suc, ◌+◌, ◌-◌, ◌*◌, ◌<◌, ◌≤◌}
 use native.Mathlib.Omega.{arith}
-use Rattle.putting.proofs.Putting.{then, text-is, at_most, nothing_put}
+use Rattle.putting.proofs.Putting.{then, at_most}
 use Rattle.picture.specs.Page.{days_text}
-use borrow.Author.Rules.{rules}
 use Rattle.picture.proofs.axis.put_days.Goals as goal
 
 pub put_word-requires : goal.put_word-requires

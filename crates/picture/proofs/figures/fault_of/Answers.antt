@@ -1,6 +1,5 @@
 -- `picture::figures::fault_of` meets its contract, by its test. Assumes nothing.
-use borrow.Author.Tests.{eq-eqb, ne_eqb, lt-ltb, le-ltb}
-use borrow.Author.Rules.{rules}
+use borrow.Author.Tests.{lt-ltb, le-ltb}
 use Rattle.picture.proofs.figures.fault_of.Goals as goal
 
 pub returns-then-k-lt10 : goal.returns-then-k-lt10

@@ -1,15 +1,13 @@
 -- `picture::figures::put_bound` meets its contract, by its test. Assumes nothing.
-use mathlib.Core.Path.{◌≡◌, refl, sym, ap, ◌∙◌}
-use mathlib.Core.List.{List, [], ◌∷◌, ◌++◌}
-use Prim.Native.Nat.{ℕ, suc, ◌+◌, ◌-◌, ◌*◌, ◌<◌, ◌≤◌}
+use mathlib.Core.Path.{◌≡◌}
+use Prim.Native.Nat.{ℕ}
 use native.Mathlib.Omega.{arith}
-use Rattle.putting.proofs.Putting.{then, text-is, at_most, nothing_put}
-use borrow.Author.Tests.{eq-eqb, ne_eqb, lt-ltb, le-ltb}
+use Rattle.putting.proofs.Putting.{text-is, at_most}
+use borrow.Author.Tests.{eq-eqb, ne_eqb}
 use Rattle.listing.specs.Text.{ascii}
 use Rattle.summary.specs.Line.{no_level}
 use Rattle.forms.specs.Words.{level_text}
 use Rattle.picture.specs.Page.{bound_text}
-use borrow.Author.Rules.{rules}
 use Rattle.picture.proofs.figures.put_bound.Goals as goal
 
 no-level : (settings n : ℕ) → n ≡ no_level → ascii "none" ≡ bound_text settings n

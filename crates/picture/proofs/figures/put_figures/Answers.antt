@@ -1,11 +1,8 @@
 -- `picture::figures::put_figures` meets its contract: its parts are put one after another. Assumes nothing.
-use mathlib.Core.Path.{◌≡◌, refl, sym, ap, ◌∙◌}
-use mathlib.Core.List.{List, [], ◌∷◌, ◌++◌}
-use Prim.Native.Nat.{ℕ, suc, ◌+◌, ◌-◌, ◌*◌, ◌<◌, ◌≤◌}
+use mathlib.Core.Path.{◌∙◌}
 use native.Mathlib.Omega.{arith}
-use Rattle.putting.proofs.Putting.{then, text-is, at_most, nothing_put}
+use Rattle.putting.proofs.Putting.{then, at_most}
 use Rattle.picture.specs.Page.{figures_text}
-use borrow.Author.Rules.{rules}
 use Rattle.picture.proofs.figures.put_figures.Goals as goal
 
 pub put_levels-levels-requires : goal.put_levels-levels-requires

@@ -1,15 +1,14 @@
 -- `picture::figures::put_heat` meets its contract, by its test. Assumes nothing.
-use mathlib.Core.Path.{◌≡◌, refl, sym, ap, ◌∙◌}
-use mathlib.Core.List.{List, [], ◌∷◌, ◌++◌}
-use Prim.Native.Nat.{ℕ, suc, ◌+◌, ◌-◌, ◌*◌, ◌<◌, ◌≤◌}
+use mathlib.Core.Path.{◌≡◌}
+use mathlib.Core.List.{◌++◌}
+use Prim.Native.Nat.{◌<◌, ◌≤◌}
 use native.Mathlib.Omega.{arith}
-use Rattle.putting.proofs.Putting.{then, text-is, at_most, nothing_put}
-use borrow.Author.Tests.{eq-eqb, ne_eqb, lt-ltb, le-ltb}
+use Rattle.putting.proofs.Putting.{then, text-is, at_most}
+use borrow.Author.Tests.{lt-ltb, le-ltb}
 use Rattle.listing.specs.Text.{ascii}
 use Rattle.layers.specs.declared.gauge.Gauged.{Gauged}
 use Rattle.forms.specs.Words.{degrees_text}
 use Rattle.picture.specs.Page.{heat_text}
-use borrow.Author.Rules.{rules}
 use Rattle.picture.proofs.figures.put_heat.Goals as goal
 
 no-heat : (g : Gauged) → g.warm < g.cold → ascii "none" ≡ heat_text g

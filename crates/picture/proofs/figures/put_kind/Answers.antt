@@ -1,17 +1,16 @@
 -- `picture::figures::put_kind` meets its contract, by its test. Assumes nothing.
-use mathlib.Core.Path.{◌≡◌, refl, sym, ap, ◌∙◌}
-use mathlib.Core.List.{List, [], ◌∷◌, ◌++◌}
-use Prim.Native.Nat.{ℕ, suc, ◌+◌, ◌-◌, ◌*◌, ◌<◌, ◌≤◌}
+use mathlib.Core.Path.{◌≡◌, ◌∙◌}
+use mathlib.Core.List.{[], ◌∷◌, ◌++◌}
+use Prim.Native.Nat.{ℕ, ◌-◌}
 use native.Mathlib.Omega.{arith}
 use Rattle.putting.proofs.Putting.{then, text-is, at_most, nothing_put}
-use borrow.Author.Tests.{eq-eqb, ne_eqb, lt-ltb, le-ltb}
+use borrow.Author.Tests.{eq-eqb, ne_eqb}
 use Rattle.listing.specs.Text.{ascii}
 use lib.Dec.{ltb}
 use Rattle.frame.specs.Pick.{pick}
 use Rattle.forms.specs.Form.{fill}
 use Rattle.forms.specs.Words.{fault_text}
 use Rattle.picture.specs.Page.{kind_text}
-use borrow.Author.Rules.{rules}
 use Rattle.picture.proofs.figures.put_kind.Goals as goal
 
 no_kind : (n k : ℕ) → n ≡ 0 → [] ≡ kind_text n k

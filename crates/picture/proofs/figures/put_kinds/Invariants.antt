@@ -1,13 +1,10 @@
 -- `picture::figures::put_kinds` meets its contract: what was put so far, and the kinds that are left, are the whole. Assumes nothing.
-use mathlib.Core.Path.{◌≡◌, refl, sym, ap, ◌∙◌}
-use mathlib.Core.List.{List, [], ◌∷◌, ◌++◌, append-nil, append_assoc}
-use Prim.Native.Nat.{ℕ, zero, suc, ◌+◌, ◌*◌, ◌-◌, ◌<◌, ◌≤◌}
-use native.Mathlib.Numerals.{add-one}
-use native.Mathlib.Omega.{arith}
-use lib.ListN.{length, get_or}
+use mathlib.Core.Path.{◌≡◌}
+use mathlib.Core.List.{List, ◌++◌}
+use Prim.Native.Nat.{ℕ, ◌*◌, ◌-◌, ◌≤◌}
+use lib.ListN.{length}
 use Rattle.putting.specs.Puts.{Puts}
-use Rattle.putting.proofs.Putting.{then, text-is, at_most, nothing_put}
-use Rattle.picture.specs.Page.{kind_text, kinds_text}
+use Rattle.picture.specs.Page.{kinds_text}
 use Rattle.picture.proofs.figures.put_kinds.Given as goal
 
 pub record Kinded (out₀ : List ℕ) (at : ℕ) (counts out : List ℕ) (end k : ℕ) : Type 0 where

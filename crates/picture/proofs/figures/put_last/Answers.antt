@@ -1,10 +1,10 @@
 -- `picture::figures::put_last` meets its contract, by its test. Assumes nothing.
-use mathlib.Core.Path.{◌≡◌, refl, sym, ap, ◌∙◌}
-use mathlib.Core.List.{List, [], ◌∷◌, ◌++◌}
-use Prim.Native.Nat.{ℕ, suc, ◌+◌, ◌-◌, ◌*◌, ◌<◌, ◌≤◌}
+use mathlib.Core.Path.{◌≡◌}
+use mathlib.Core.List.{◌++◌}
+use Prim.Native.Nat.{ℕ}
 use native.Mathlib.Omega.{arith}
-use Rattle.putting.proofs.Putting.{then, text-is, at_most, nothing_put}
-use borrow.Author.Tests.{eq-eqb, ne_eqb, lt-ltb, le-ltb}
+use Rattle.putting.proofs.Putting.{then, text-is, at_most}
+use borrow.Author.Tests.{eq-eqb, ne_eqb}
 use Rattle.listing.specs.Text.{ascii}
 use Rattle.layers.specs.declared.gauge.Gauged.{Gauged}
 use Rattle.summary.specs.Line.{no_level}
@@ -12,7 +12,6 @@ use Rattle.calendar.specs.declared.counting.Day.{Day}
 use Rattle.forms.specs.Days.{moment_text}
 use Rattle.forms.specs.Words.{level_text}
 use Rattle.picture.specs.Page.{last_text}
-use borrow.Author.Rules.{rules}
 use Rattle.picture.proofs.figures.put_last.Goals as goal
 
 no-level : (begin : Day) (settings : ℕ) (g : Gauged) → g.last ≡ no_level → ascii "none" ≡ last_text begin settings g

@@ -1,11 +1,7 @@
 -- `picture::figures::put_levels` meets its contract: its parts are put one after another. Assumes nothing.
-use mathlib.Core.Path.{◌≡◌, refl, sym, ap, ◌∙◌}
-use mathlib.Core.List.{List, [], ◌∷◌, ◌++◌}
-use Prim.Native.Nat.{ℕ, suc, ◌+◌, ◌-◌, ◌*◌, ◌<◌, ◌≤◌}
 use native.Mathlib.Omega.{arith}
-use Rattle.putting.proofs.Putting.{then, text-is, at_most, nothing_put}
+use Rattle.putting.proofs.Putting.{then, at_most}
 use Rattle.picture.specs.Page.{levels_text}
-use borrow.Author.Rules.{rules}
 use Rattle.picture.proofs.figures.put_levels.Goals as goal
 
 pub returns : goal.returns

@@ -1,14 +1,13 @@
 -- `picture::figures::put_off` meets its contract, by its test. Assumes nothing.
-use mathlib.Core.Path.{◌≡◌, refl, sym, ap, ◌∙◌}
-use mathlib.Core.List.{List, [], ◌∷◌, ◌++◌}
-use Prim.Native.Nat.{ℕ, suc, ◌+◌, ◌-◌, ◌*◌, ◌<◌, ◌≤◌}
+use mathlib.Core.Path.{◌≡◌}
+use mathlib.Core.List.{[], ◌∷◌}
+use Prim.Native.Nat.{ℕ}
 use native.Mathlib.Omega.{arith}
-use Rattle.putting.proofs.Putting.{then, text-is, at_most, nothing_put}
-use borrow.Author.Tests.{eq-eqb, ne_eqb, lt-ltb, le-ltb}
+use Rattle.putting.proofs.Putting.{text-is, at_most, nothing_put}
+use borrow.Author.Tests.{eq-eqb, ne_eqb}
 use Rattle.listing.specs.Text.{ascii}
 use Rattle.forms.specs.Form.{fill, choice}
 use Rattle.picture.specs.Page.{off_text}
-use borrow.Author.Rules.{rules}
 use Rattle.picture.proofs.figures.put_off.Goals as goal
 
 none-off : (which n : ℕ) → n ≡ 0 → [] ≡ off_text which n

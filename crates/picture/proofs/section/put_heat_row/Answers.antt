@@ -1,13 +1,12 @@
 -- `picture::section::put_heat_row` meets its contract, by its test: nothing, or the scale and the frame of the line's pair. Assumes nothing.
-use mathlib.Core.Path.{◌≡◌, refl, sym, ap, ◌∙◌}
-use mathlib.Core.List.{List, [], ◌∷◌, ◌++◌}
-use Prim.Native.Nat.{ℕ, suc, ◌+◌, ◌-◌, ◌*◌, ◌<◌, ◌≤◌}
+use mathlib.Core.Path.{◌≡◌, ◌∙◌}
+use mathlib.Core.List.{List, [], ◌++◌}
+use Prim.Native.Nat.{ℕ, ◌+◌, ◌-◌, ◌<◌, ◌≤◌}
 use native.Mathlib.Omega.{arith}
 use Rattle.putting.proofs.Putting.{then, text-is, at_most, nothing_put}
-use borrow.Author.Tests.{eq-eqb, ne_eqb, lt-ltb, le-ltb}
+use borrow.Author.Tests.{lt-ltb, le-ltb}
 use Rattle.layers.specs.declared.gauge.Gauged.{Gauged}
 use Rattle.picture.specs.Page.{scale_text, frame_text, heat_row}
-use lib.ListN.{length}
 use Rattle.sheet.specs.Record.{Entry}
 use Rattle.sheet.specs.Slots.{list_of}
 use Rattle.summary.specs.declared.Line.{Line}
@@ -15,7 +14,6 @@ use Rattle.summary.specs.Line.{pair_of}
 use Rattle.picture.specs.declared.axis.Axis.{Axis}
 use Rattle.layers.proofs.MoreNoted.{noted_of}
 use Rattle.picture.proofs.Rooms.{many-are}
-use borrow.Author.Rules.{rules}
 use Rattle.picture.proofs.section.put_heat_row.Goals as goal
 
 no-heat : (l : List Entry) (a : Axis) (x : Line) (g : Gauged) → g.warm < g.cold → [] ≡ heat_row l a x g

@@ -1,13 +1,12 @@
 -- `picture::section::put_level_row` meets its contract, by its test: the words, or the scale and the frame of the line's pair. Assumes nothing.
-use mathlib.Core.Path.{◌≡◌, refl, sym, ap, ◌∙◌}
-use mathlib.Core.List.{List, [], ◌∷◌, ◌++◌}
-use Prim.Native.Nat.{ℕ, suc, ◌+◌, ◌-◌, ◌*◌, ◌<◌, ◌≤◌}
+use mathlib.Core.Path.{◌≡◌, ◌∙◌}
+use mathlib.Core.List.{List, ◌++◌}
+use Prim.Native.Nat.{ℕ, ◌+◌, ◌-◌}
 use native.Mathlib.Omega.{arith}
-use Rattle.putting.proofs.Putting.{then, text-is, at_most, nothing_put}
-use borrow.Author.Tests.{eq-eqb, ne_eqb, lt-ltb, le-ltb}
+use Rattle.putting.proofs.Putting.{then, text-is, at_most}
+use borrow.Author.Tests.{eq-eqb, ne_eqb}
 use Rattle.listing.specs.Text.{ascii}
 use Rattle.picture.specs.Page.{scale_text, frame_text, level_row}
-use lib.ListN.{length}
 use Rattle.sheet.specs.Record.{Entry}
 use Rattle.sheet.specs.Slots.{list_of}
 use Rattle.summary.specs.declared.Line.{Line}
@@ -15,7 +14,6 @@ use Rattle.summary.specs.Line.{pair_of}
 use Rattle.picture.specs.declared.axis.Axis.{Axis}
 use Rattle.layers.proofs.MoreNoted.{noted_of}
 use Rattle.picture.proofs.Rooms.{many-are}
-use borrow.Author.Rules.{rules}
 use Rattle.picture.proofs.section.put_level_row.Goals as goal
 
 no-good : (l : List Entry) (a : Axis) (x : Line) → x.good ≡ 0 → ascii "<p>No reply was good, so no level is drawn.</p>\n" ≡ level_row l a x

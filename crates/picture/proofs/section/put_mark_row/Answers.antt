@@ -1,11 +1,10 @@
 -- `picture::section::put_mark_row` meets its contract: the scale and the frame of the line's pair. Assumes nothing.
-use mathlib.Core.Path.{◌≡◌, refl, sym, ap, ◌∙◌}
-use mathlib.Core.List.{List, [], ◌∷◌, ◌++◌}
-use Prim.Native.Nat.{ℕ, suc, ◌+◌, ◌-◌, ◌*◌, ◌<◌, ◌≤◌}
+use mathlib.Core.Path.{◌≡◌, ap}
+use mathlib.Core.List.{List, ◌++◌}
+use Prim.Native.Nat.{ℕ}
 use native.Mathlib.Omega.{arith}
-use Rattle.putting.proofs.Putting.{then, text-is, at_most, nothing_put}
+use Rattle.putting.proofs.Putting.{then, text-is, at_most}
 use Rattle.picture.specs.Page.{scale_text, frame_text, mark_row}
-use lib.ListN.{length}
 use Rattle.sheet.specs.Record.{Entry}
 use Rattle.sheet.specs.Slots.{list_of}
 use Rattle.summary.specs.declared.Line.{Line}
@@ -13,7 +12,6 @@ use Rattle.summary.specs.Line.{pair_of}
 use Rattle.picture.specs.declared.axis.Axis.{Axis}
 use Rattle.layers.proofs.MoreNoted.{noted_of}
 use Rattle.picture.proofs.Rooms.{many-are}
-use borrow.Author.Rules.{rules}
 use Rattle.picture.proofs.section.put_mark_row.Goals as goal
 
 a-row : (l : List Entry) (a : Axis) (x : Line) (layer pair : ℕ) → pair ≡ pair_of x → scale_text layer 0 0 0 ++ frame_text a.begin l pair layer x.address a.from 0 a.span 1 ≡ mark_row l a x layer

@@ -1,11 +1,10 @@
 -- `picture::section::put_noted` meets its contract: its parts are put one after another, all of the line's pair. Assumes nothing.
-use mathlib.Core.Path.{◌≡◌, refl, sym, ap, ◌∙◌}
-use mathlib.Core.List.{List, [], ◌∷◌, ◌++◌}
-use Prim.Native.Nat.{ℕ, suc, ◌+◌, ◌-◌, ◌*◌, ◌<◌, ◌≤◌}
+use mathlib.Core.Path.{◌≡◌, ap, ◌∙◌}
+use mathlib.Core.List.{List, ◌++◌}
+use Prim.Native.Nat.{ℕ}
 use native.Mathlib.Omega.{arith}
-use Rattle.putting.proofs.Putting.{then, text-is, at_most, nothing_put}
+use Rattle.putting.proofs.Putting.{then, text-is, at_most}
 use mathlib.Core.Bool.{false}
-use lib.ListN.{length}
 use Rattle.sheet.specs.Record.{Entry}
 use Rattle.sheet.specs.Slots.{list_of}
 use Rattle.summary.specs.declared.Line.{Line}
@@ -19,7 +18,6 @@ use Rattle.picture.specs.declared.axis.Axis.{Axis}
 use Rattle.picture.specs.Page.{heading_text, rows_text, figures_text, section_text}
 use Rattle.layers.proofs.MoreNoted.{noted_of}
 use Rattle.picture.proofs.Rooms.{many-are}
-use borrow.Author.Rules.{rules}
 use Rattle.picture.proofs.section.put_noted.Goals as goal
 
 section-is : (l : List Entry) (a : Axis) (x : Line) (pair : ℕ) (g : Gauged) → pair ≡ pair_of x → g ≡ gauged_of (entries_of_pair pair l) → heading_text x ++ rows_text l a x g ++ figures_text a.begin x g ++ ascii "<details><summary>faulty replies one by one</summary><ul>" ++ layer_text a.begin 5 false (entries_of_pair pair l) ++ ascii "</ul></details></section>\n" ≡ section_text l a x

@@ -1,11 +1,7 @@
 -- `picture::section::put_rows` meets its contract: its rows are put one after another. Assumes nothing.
-use mathlib.Core.Path.{◌≡◌, refl, sym, ap, ◌∙◌}
-use mathlib.Core.List.{List, [], ◌∷◌, ◌++◌}
-use Prim.Native.Nat.{ℕ, suc, ◌+◌, ◌-◌, ◌*◌, ◌<◌, ◌≤◌}
 use native.Mathlib.Omega.{arith}
-use Rattle.putting.proofs.Putting.{then, text-is, at_most, nothing_put}
+use Rattle.putting.proofs.Putting.{then, at_most}
 use Rattle.picture.specs.Page.{rows_text}
-use borrow.Author.Rules.{rules}
 use Rattle.picture.proofs.section.put_rows.Goals as goal
 
 pub put_level_row-level-requires : goal.put_level_row-level-requires

@@ -1,9 +1,8 @@
 -- `picture::section::put_section` meets its contract: the slots noted are those of the line's pair. Assumes nothing.
-use mathlib.Core.Path.{◌≡◌, sym}
+use mathlib.Core.Path.{sym}
 use native.Mathlib.Omega.{arith}
 use lib.Seq.{length-take-le}
 use Rattle.layers.proofs.MoreNoted.{noted_of}
-use borrow.Author.Rules.{rules}
 use Rattle.picture.proofs.section.put_section.Goals as goal
 
 pub slice_bounds-slots-end : goal.slice_bounds-slots-end

@@ -1,13 +1,12 @@
 -- `picture::section::put_value` meets its contract, by its tests. Assumes nothing.
-use mathlib.Core.Path.{◌≡◌, refl, sym, ap, ◌∙◌}
-use mathlib.Core.List.{List, [], ◌∷◌, ◌++◌}
-use Prim.Native.Nat.{ℕ, suc, ◌+◌, ◌-◌, ◌*◌, ◌<◌, ◌≤◌}
+use mathlib.Core.Path.{◌≡◌}
+use mathlib.Core.List.{[]}
+use Prim.Native.Nat.{ℕ}
 use native.Mathlib.Omega.{arith}
-use Rattle.putting.proofs.Putting.{then, text-is, at_most, nothing_put}
-use borrow.Author.Tests.{eq-eqb, ne_eqb, lt-ltb, le-ltb}
+use Rattle.putting.proofs.Putting.{text-is, at_most, nothing_put}
+use borrow.Author.Tests.{eq-eqb, ne_eqb}
 use Rattle.forms.specs.Words.{level_text, degrees_text}
 use Rattle.picture.specs.Page.{value_text}
-use borrow.Author.Rules.{rules}
 use Rattle.picture.proofs.section.put_value.Goals as goal
 
 module _ (layer settings n : ℕ) where

@@ -1,10 +1,6 @@
 -- `picture::top::put_rules` meets its contract: its parts are put one after another. Assumes nothing.
-use mathlib.Core.Path.{◌≡◌, refl, sym, ap, ◌∙◌}
-use mathlib.Core.List.{List, [], ◌∷◌, ◌++◌}
-use Prim.Native.Nat.{ℕ, suc, ◌+◌, ◌-◌, ◌*◌, ◌<◌, ◌≤◌}
 use native.Mathlib.Omega.{arith}
-use Rattle.putting.proofs.Putting.{then, text-is, at_most, nothing_put}
-use borrow.Author.Rules.{rules}
+use Rattle.putting.proofs.Putting.{then, at_most}
 use Rattle.picture.proofs.top.put_rules.Goals as goal
 
 pub returns : goal.returns

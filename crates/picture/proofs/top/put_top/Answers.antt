@@ -1,11 +1,7 @@
 -- `picture::top::put_top` meets its contract: its parts are put one after another. Assumes nothing.
-use mathlib.Core.Path.{◌≡◌, refl, sym, ap, ◌∙◌}
-use mathlib.Core.List.{List, [], ◌∷◌, ◌++◌}
-use Prim.Native.Nat.{ℕ, suc, ◌+◌, ◌-◌, ◌*◌, ◌<◌, ◌≤◌}
 use native.Mathlib.Omega.{arith}
-use Rattle.putting.proofs.Putting.{then, text-is, at_most, nothing_put}
+use Rattle.putting.proofs.Putting.{then, at_most}
 use Rattle.picture.specs.Page.{top_text}
-use borrow.Author.Rules.{rules}
 use Rattle.picture.proofs.top.put_top.Goals as goal
 
 pub put_form-requires : goal.put_form-requires

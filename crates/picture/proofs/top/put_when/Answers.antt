@@ -1,16 +1,14 @@
 -- `picture::top::put_when` meets its contract, by its test. Assumes nothing.
-use mathlib.Core.Path.{◌≡◌, refl, sym, ap, ◌∙◌}
-use mathlib.Core.List.{List, [], ◌∷◌, ◌++◌}
-use Prim.Native.Nat.{ℕ, suc, ◌+◌, ◌-◌, ◌*◌, ◌<◌, ◌≤◌}
+use mathlib.Core.Path.{◌≡◌}
+use mathlib.Core.List.{◌++◌}
 use native.Mathlib.Omega.{arith}
-use Rattle.putting.proofs.Putting.{then, text-is, at_most, nothing_put}
-use borrow.Author.Tests.{eq-eqb, ne_eqb, lt-ltb, le-ltb}
+use Rattle.putting.proofs.Putting.{then, text-is, at_most}
+use borrow.Author.Tests.{eq-eqb, ne_eqb}
 use Rattle.listing.specs.Text.{ascii}
 use Rattle.cards.specs.declared.counting.Tally.{Tally}
 use Rattle.calendar.specs.declared.counting.Day.{Day}
 use Rattle.forms.specs.Days.{moment_text}
 use Rattle.picture.specs.Page.{when_text}
-use borrow.Author.Rules.{rules}
 use Rattle.picture.proofs.top.put_when.Goals as goal
 
 no_record : (begin : Day) (t : Tally) → t.records ≡ 0 → ascii "no record" ≡ when_text begin t

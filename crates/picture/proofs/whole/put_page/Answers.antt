@@ -1,7 +1,7 @@
 -- `picture::whole::put_page` meets its contract: the summary's lines are those of the page, and no record is of two of them, so their sections have room. Assumes nothing.
-use mathlib.Core.Path.{◌≡◌, refl, sym, ap, ◌∙◌}
+use mathlib.Core.Path.{◌≡◌, refl, ap, ◌∙◌}
 use mathlib.Core.Bool.{Bool, true}
-use mathlib.Core.List.{List, ◌++◌, map}
+use mathlib.Core.List.{List, ◌++◌}
 use Prim.Native.Nat.{ℕ, zero, suc, ◌+◌, ◌-◌, ◌*◌, ◌≤◌}
 use native.Mathlib.Omega.{arith}
 use lib.ListN.{length, take, replicate, length-take, length-append}
@@ -20,7 +20,7 @@ use Rattle.summary.specs.declared.Summary.{Summary}
 use Rattle.summary.specs.declared.Made.{Made}
 use Rattle.summary.specs.Line.{blank_line, blank_summary, page}
 use Rattle.summary.specs.Handed.{lines_of}
-use Rattle.summary.specs.Worked.{line_for, pairs_of, kept_pairs, in_order, other_records, summary_of}
+use Rattle.summary.specs.Worked.{pairs_of, kept_pairs, in_order, other_records, summary_of}
 use Rattle.summary.specs.Calls.{made_of, afresh, MakesSummary}
 use Rattle.summary.proofs.KeptPairs.{once-pairs, once-take, rises-order, length-order}
 use Rattle.summary.proofs.OneRecordMore.{worked, count-worked}
@@ -34,7 +34,6 @@ use Rattle.picture.specs.Axis.{axis_of}
 use Rattle.picture.specs.Page.{style_text, top_text, sections_text, lines_for, page_of}
 use Rattle.picture.specs.Inside.Room.{room_of}
 use Rattle.picture.proofs.Rooms.{room-few}
-use borrow.Author.Rules.{rules}
 use Rattle.picture.proofs.whole.put_page.Goals as goal
 
 -- the summary that was made is a page of the lines

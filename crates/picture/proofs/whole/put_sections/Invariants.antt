@@ -1,20 +1,14 @@
 -- `picture::whole::put_sections` meets its contract: what was put so far, and the sections of the lines that are left, are the whole; so is their room.
 -- Assumes nothing.
-use mathlib.Core.Path.{◌≡◌, refl, sym, ap, ◌∙◌}
-use mathlib.Core.List.{List, [], ◌∷◌, ◌++◌, append-nil, append_assoc}
-use Prim.Native.Nat.{ℕ, zero, suc, ◌+◌, ◌*◌, ◌-◌, ◌<◌, ◌≤◌}
-use native.Mathlib.Numerals.{add-one}
-use native.Mathlib.Omega.{arith}
-use borrow.Author.Rules.{rules}
-use lib.ListN.{length, get_or, drop, take}
+use mathlib.Core.Path.{◌≡◌}
+use mathlib.Core.List.{List, ◌++◌}
+use Prim.Native.Nat.{ℕ, ◌+◌, ◌-◌, ◌≤◌}
+use lib.ListN.{length, drop, take}
 use Rattle.sheet.specs.Record.{Entry}
 use Rattle.sheet.specs.Slots.{list_of}
 use Rattle.summary.specs.declared.Line.{Line}
-use Rattle.summary.specs.Line.{pair_of, blank_line}
-use Rattle.summary.specs.Worked.{entries_of_pair}
 use Rattle.putting.specs.Puts.{Puts}
-use Rattle.putting.proofs.Putting.{then, text-is, at_most, nothing_put}
-use Rattle.picture.specs.Page.{section_text, sections_text}
+use Rattle.picture.specs.Page.{sections_text}
 use Rattle.picture.specs.Inside.Room.{room_of}
 use Rattle.picture.specs.declared.axis.Axis.{Axis}
 use Rattle.picture.proofs.whole.put_sections.Given as goal
