@@ -5,7 +5,6 @@ use borrow.Author.Tests.{not-true, not-false}
 use Rattle.round.specs.declared.Polled.{Polled}
 use Rattle.polling.specs.Inside.Boards.{begun_by}
 use Rattle.polling.proofs.UsedRows.{none_kept, all-kept}
-use borrow.Author.Rules.{rules}
 use Rattle.polling.proofs.beginning.begin.Goals as goal
 
 pub returns-then-not-found : goal.returns-then-not-found

@@ -2,7 +2,6 @@
 use mathlib.Core.Path.{ap}
 use lib.ListN.{replicate}
 use Rattle.round.specs.declared.Polled.{Polled}
-use borrow.Author.Rules.{rules}
 use Rattle.polling.proofs.beginning.no_replies.Goals as goal
 
 pub returns : goal.returns

@@ -1,15 +1,8 @@
 -- `polling::beginning::replies_of` meets its contract: after each turn so many rows have their replies, and no reply stands behind them. Assumes nothing.
-use mathlib.Core.Path.{◌≡◌, refl, sym, ap, ◌∙◌}
-use mathlib.Core.List.{List, [], ◌∷◌, ◌++◌, map}
-use Prim.Native.Nat.{ℕ, suc, ◌+◌, ◌-◌, ◌<◌, ◌≤◌}
-use native.Mathlib.Omega.{arith}
-use native.Mathlib.Numerals.{add-one}
-use lib.ListN.{length, get_or, take, set, replicate, length-map}
-use lib.Seq.{take-suc, set_at, append_snoc, length-take-le}
-use borrow.Author.Rules.{rules}
-use Rattle.board.specs.declared.Row.{Row}
-use Rattle.board.specs.Row.{free_row}
-use Rattle.round.specs.declared.Polled.{Polled}
+use mathlib.Core.Path.{◌≡◌}
+use mathlib.Core.List.{◌++◌, map}
+use Prim.Native.Nat.{◌-◌, ◌≤◌}
+use lib.ListN.{take, replicate}
 use Rattle.polling.specs.Beginning.{no_reply, reply_for}
 use Rattle.polling.proofs.beginning.replies_of.Given as goal
 

@@ -11,7 +11,6 @@ use Rattle.polling.specs.Drawing.{drew}
 use Rattle.polling.specs.Inside.Turns.{state_of, left_by_drawing}
 use Rattle.polling.proofs.Meaning.{while-over, while-listening}
 use Rattle.polling.proofs.Answers.{draws-bad, draws-none}
-use borrow.Author.Rules.{rules}
 use Rattle.polling.proofs.drawing_out.draw.Goals as goal
 
 pub returns-then-bad_pace : goal.returns-then-bad_pace

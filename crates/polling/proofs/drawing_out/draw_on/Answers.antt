@@ -16,7 +16,6 @@ use Rattle.polling.proofs.Sizes.{try-short}
 use Rattle.polling.proofs.Putting.{fits_in}
 use Rattle.polling.proofs.Answers.{draws-on}
 use Rattle.polling.proofs.Taking.{its-entry}
-use borrow.Author.Rules.{rules}
 use Rattle.polling.proofs.drawing_out.draw_on.Goals as goal
 
 pub overflow_add-passed : goal.overflow_add-passed

@@ -3,7 +3,6 @@ use Prim.Native.Nat.{◌-◌, ◌≤◌}
 use lib.ListN.{length, take, drop, length-take}
 use native.Mathlib.Omega.{arith}
 use Rattle.polling.proofs.Putting.{fits_in, two-parts}
-use borrow.Author.Rules.{rules}
 use Rattle.polling.proofs.drawing_out.draw_try.Goals as goal
 
 pub slice_bounds-poll-count : goal.slice_bounds-poll-count

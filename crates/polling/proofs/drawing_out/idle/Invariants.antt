@@ -1,13 +1,8 @@
 -- `polling::drawing_out::idle` meets its contract: after each turn so many idle samples stand before the rest of the output. Assumes nothing.
-use mathlib.Core.Path.{◌≡◌, refl, sym, ap, ◌∙◌}
-use mathlib.Core.List.{List, ◌++◌}
-use Prim.Native.Nat.{ℕ, suc, ◌+◌, ◌-◌, ◌<◌, ◌≤◌}
-use native.Mathlib.Omega.{arith}
-use native.Mathlib.Numerals.{add-one}
-use lib.ListN.{length, get_or, drop, set, replicate, length-set, length-replicate, replicate-append-replicate}
-use lib.Seq.{drop-cons, set_at, append_snoc}
-use borrow.Author.Rules.{rules}
-use Rattle.polling.proofs.Putting.{take-run}
+use mathlib.Core.Path.{◌≡◌}
+use mathlib.Core.List.{◌++◌}
+use Prim.Native.Nat.{◌-◌, ◌≤◌}
+use lib.ListN.{length, drop, replicate}
 use Rattle.polling.proofs.drawing_out.idle.Given as goal
 
 abbrev pub invariant-loop-i : goal.invariant-loop-i

@@ -1,7 +1,6 @@
 -- `polling::drawing_out::poll` meets its contract: an address above 999 puts nothing down; else `sisal_draw` draws the two bytes. Assumes nothing.
 use Rattle.polling.proofs.Paces.{good}
 use Rattle.polling.proofs.Putting.{no-poll, its-poll}
-use borrow.Author.Rules.{rules}
 use Rattle.polling.proofs.drawing_out.poll.Goals as goal
 
 pub returns-then-address-gt999 : goal.returns-then-address-gt999

@@ -10,7 +10,6 @@ use Rattle.lines.specs.SoFar.{is_rest}
 use Rattle.lines.specs.Hearing.{nothing}
 use Rattle.polling.specs.Listening.{settled_by, given_up}
 use Rattle.polling.specs.Inside.Ears.{end_of, ear_of, no_message}
-use borrow.Author.Rules.{rules}
 use Rattle.polling.proofs.listening.at_limit.Goals as goal
 
 ends : (s : SoFar) (taken : ℕ) (b : Bool) → is_rest s ≡ b → ear_of (settled_by (end_of s) taken) ≡ no_message taken (pick b 0 (pick (eqb s.fault 22) 22 21))

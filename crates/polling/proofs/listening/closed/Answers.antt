@@ -5,7 +5,6 @@ use borrow.Author.Tests.{eq-eqb, ne_eqb}
 use Rattle.frame.specs.Pick.{pick}
 use Rattle.lines.specs.SoFar.{rest_state}
 use Rattle.polling.specs.Inside.Ears.{ear_by, no_message}
-use borrow.Author.Rules.{rules}
 use Rattle.polling.proofs.listening.closed.Goals as goal
 
 pub returns-then-told-ne0 : goal.returns-then-told-ne0

@@ -1,6 +1,5 @@
 -- `polling::listening::cut` meets its contract: each return is the smaller number. Assumes nothing.
 use native.Mathlib.Omega.{arith}
-use borrow.Author.Rules.{rules}
 use Rattle.polling.proofs.listening.cut.Goals as goal
 
 pub returns-then-room-many : goal.returns-then-room-many

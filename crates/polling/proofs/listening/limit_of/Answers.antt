@@ -2,7 +2,6 @@
 use mathlib.Core.Path.{sym, ap, ◌∙◌}
 use mathlib.Core.Bool.{Bool}
 use Rattle.frame.specs.Pick.{pick}
-use borrow.Author.Rules.{rules}
 use Rattle.polling.proofs.listening.limit_of.Goals as goal
 
 pub returns-then-is_rest : goal.returns-then-is_rest

@@ -1,17 +1,15 @@
 -- `polling::listening::listen` meets its contract: at each turn the try is what its rest is from the lines as they are, i samples later; a turn hears one piece of
 -- the samples, cut at the limit (`Pieces`). Assumes nothing.
 use mathlib.Core.Path.{◌≡◌, sym, ap, ◌∙◌}
-use mathlib.Core.Bool.{true, false, true≢false}
-use borrow.Author.Rules.{rules}
-use Prim.Native.Nat.{◌+◌, ◌-◌, ◌^◌, ◌<◌, ◌≤◌}
+use mathlib.Core.Bool.{true≢false}
+use Prim.Native.Nat.{◌+◌, ◌-◌, ◌<◌, ◌≤◌}
 use native.Mathlib.Omega.{arith}
 use lib.ListN.{length, take, drop}
 use Rattle.lines.specs.declared.LinesTold.{LinesTold}
 use Rattle.lines.specs.Hearing.{hear}
 use Rattle.lines.specs.Calls.{answered}
 use Rattle.polling.specs.Pace.{timing_of}
-use Rattle.polling.specs.Listening.{later, listen}
-use Rattle.polling.specs.Inside.Ears.{Ready, limit_of, next_limit, cut_to, ear_of}
+use Rattle.polling.specs.Inside.Ears.{limit_of, next_limit, cut_to, ear_of}
 use Rattle.polling.proofs.Paces.{good}
 use Rattle.polling.proofs.OneTurn.{first, at-end, next-limit, cut_by, cut-so, limit-most, closed-settled, Turn, turn}
 use Rattle.polling.specs.declared.listening.Ear.{Ear}

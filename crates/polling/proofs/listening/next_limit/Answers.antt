@@ -4,7 +4,6 @@ use mathlib.Core.Bool.{Bool}
 use borrow.Author.Tests.{lt-ltb, le-ltb}
 use Rattle.frame.specs.Pick.{pick}
 use Rattle.polling.specs.Inside.Ears.{limit_of}
-use borrow.Author.Rules.{rules}
 use Rattle.polling.proofs.listening.next_limit.Goals as goal
 
 pub returns-then-passed-p : goal.returns-then-passed-p

@@ -1,5 +1,4 @@
 -- `polling::listening::none` meets its contract: a try left open, with two of its fields set. Assumes nothing.
-use borrow.Author.Rules.{rules}
 use Rattle.polling.proofs.listening.none.Goals as goal
 
 pub returns : goal.returns

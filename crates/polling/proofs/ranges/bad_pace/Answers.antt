@@ -1,5 +1,4 @@
 -- `polling::ranges::bad_pace` meets its contract: the tests are those of the definition, in its order. Assumes nothing.
-use borrow.Author.Rules.{rules}
 use Rattle.polling.proofs.ranges.bad_pace.Goals as goal
 
 pub returns : goal.returns

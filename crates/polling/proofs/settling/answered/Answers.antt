@@ -9,7 +9,6 @@ use Rattle.polling.specs.declared.turns.Turn.{Turn}
 use Rattle.polling.specs.Inside.Turns.{state_of, over_by, settled, outcome}
 use native.Mathlib.Omega.{arith}
 use Rattle.polling.proofs.Meaning.{not-over}
-use borrow.Author.Rules.{rules}
 use Rattle.polling.proofs.settling.answered.Goals as goal
 
 abbrev next : Turn → Polled → SoFar → Turn

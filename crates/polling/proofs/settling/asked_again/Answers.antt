@@ -4,7 +4,6 @@ use Prim.Native.Nat.{◌+◌}
 use Rattle.lines.specs.declared.SoFar.{SoFar}
 use Rattle.polling.specs.declared.turns.Turn.{Turn}
 use Rattle.polling.specs.Inside.Turns.{turn_as, settled, outcome}
-use borrow.Author.Rules.{rules}
 use Rattle.polling.proofs.settling.asked_again.Goals as goal
 
 pub returns : goal.returns

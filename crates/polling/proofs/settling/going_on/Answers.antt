@@ -2,7 +2,6 @@
 use mathlib.Core.Path.{ap, ◌∙◌}
 use Rattle.polling.specs.declared.turns.Turn.{Turn}
 use Rattle.polling.specs.Inside.Turns.{settled, outcome}
-use borrow.Author.Rules.{rules}
 use Rattle.polling.proofs.settling.going_on.Goals as goal
 
 pub returns : goal.returns

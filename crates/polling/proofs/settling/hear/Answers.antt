@@ -14,7 +14,6 @@ use Rattle.polling.specs.Calls.{heard_by}
 use Rattle.polling.specs.Inside.Turns.{place_of, state_of, over_by, Of, left_by_hearing, MeansTurn}
 use Rattle.polling.proofs.Answers.{hears-bad, hears-good, heard-over, heard-drawing, heard-listening}
 use Rattle.polling.proofs.Taking.{its-place, its-entry, kept, back, same_at, same-entry, left-alike}
-use borrow.Author.Rules.{rules}
 use Rattle.polling.proofs.settling.hear.Goals as goal
 
 -- what the turn means is not over, and has the same entry

@@ -22,7 +22,6 @@ use Rattle.polling.specs.Inside.Ears.{ear_of, stands_by}
 use Rattle.polling.specs.Inside.Turns.{state_of, turn_as, left_by_hearing}
 use Rattle.polling.proofs.Paces.{good}
 use Rattle.polling.proofs.Taking.{kept, stood}
-use borrow.Author.Rules.{rules}
 use Rattle.polling.proofs.settling.settle.Goals as goal
 
 module _ (p : Pace) (minute : ℕ) (w : Polling) where

@@ -6,7 +6,6 @@ use Rattle.polling.specs.declared.turns.Turn.{Turn}
 use Rattle.polling.specs.Inside.Ears.{Ready}
 use Rattle.polling.specs.Inside.Turns.{turn_as}
 use Rattle.polling.proofs.Resting.{meant-ready}
-use borrow.Author.Rules.{rules}
 use Rattle.polling.proofs.turns.listens.Goals as goal
 
 pub returns : goal.returns

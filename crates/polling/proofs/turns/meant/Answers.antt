@@ -12,7 +12,6 @@ use Rattle.polling.specs.Inside.Ears.{Ready}
 use Rattle.polling.specs.Inside.Turns.{state_of, turn_as}
 use Rattle.polling.proofs.Meaning.{while-listening, once-drawn, while-drawing}
 use Rattle.polling.proofs.Resting.{rest-ready}
-use borrow.Author.Rules.{rules}
 use Rattle.polling.proofs.turns.meant.Goals as goal
 
 same_turn : (t r : Turn) (s : SoFar) (passed listening : ℕ) → r ≡ turn_as t s passed t.tried listening → r ≡ turn_as t r.lines r.passed t.tried r.listening
