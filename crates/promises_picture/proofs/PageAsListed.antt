@@ -3,8 +3,7 @@
 use mathlib.Core.Path.{◌≡◌, refl, sym, ap, ◌∙◌}
 use mathlib.Core.Bool.{Bool, true, false}
 use mathlib.Core.List.{List, [], ◌∷◌, ◌++◌, map, append-nil, append_assoc}
-use Prim.Native.Nat.{ℕ, zero, suc, ◌+◌, ◌-◌, ◌/◌, ◌%◌}
-use Prim.Native.String.{String}
+use Prim.Native.Nat.{ℕ, ◌+◌, ◌-◌}
 use native.Mathlib.Omega.{arith}
 use lib.Dec.{eqb, ltb}
 use lib.ListN.{length, get_or, take, drop}
@@ -16,10 +15,10 @@ use Rattle.frame.specs.declared.Written.{Written}
 use Rattle.frame.specs.declared.Written.TheVariants as written
 use Rattle.frame.specs.Pick.{pick}
 use Rattle.sheet.specs.Record.{Entry}
-use Rattle.sheet.specs.Slots.{size_allowed, list_of}
+use Rattle.sheet.specs.Slots.{list_of}
 use Rattle.summary.specs.declared.Line.{Line}
 use Rattle.summary.specs.Line.{pair_of}
-use Rattle.summary.specs.Worked.{reply_in, entries_of_pair, good_levels, faults, lowest_of, highest_of, figures, line_for, kept_pairs, in_order, other_records}
+use Rattle.summary.specs.Worked.{reply_in, entries_of_pair, figures, line_for, kept_pairs, in_order, other_records}
 use Rattle.summary.proofs.PairFigures.{pair_line}
 use Rattle.cards.specs.declared.counting.Tally.{Tally}
 use Rattle.cards.specs.Tally.{tally_of}
@@ -29,7 +28,7 @@ use Rattle.calendar.specs.declared.counting.Day.{Day}
 use Rattle.calendar.specs.Days.{days_from}
 use Rattle.forms.specs.Form.{fill, first, others, choice}
 use Rattle.forms.specs.Days.{year_text, month_day_text, moment_text}
-use Rattle.forms.specs.Words.{mode_text, type_text, fault_text, level_text, degrees_text}
+use Rattle.forms.specs.Words.{mode_text, type_text, fault_text}
 use Rattle.layers.specs.declared.gauge.Gauged.{Gauged}
 use Rattle.layers.specs.Drawing as drawing
 use Rattle.layers.specs.Drawing.{layer_text}
@@ -39,7 +38,7 @@ use Rattle.picture.specs.Page as page
 use Rattle.picture.specs.Page.{heading_text, value_text, label_text, scale_text, begin_text, frame_text, level_row, heat_row, mark_row, tick_text, day_on_axis, days_text, rows_text, bound_text, last_text, heat_text, off_text, kinds_text, levels_text, figures_text, section_text, sections_text, style_text, legend_text, when_text, others_text, counts_text, top_text, lines_for, page_of}
 use Rattle.promises_picture.specs.Drawn.{point_in, heat_in, runs_by, lines_text, faulty_mark_text, mark_in, faulty_marks, joined, alarm_in, alarms}
 use Rattle.promises_picture.specs.Reader.{up_to, name_of, alike, one_of, closes, passed_over, read_of, plain}
-use Rattle.promises_picture.specs.OnPage.{titled, drawn, bar_of, bar_in, bars, words_of, words_in, in_words, dot_in, dots, levels_of, heats_of, pictures_of, table_of, section_of, sections_of, above_of, PageAsListed}
+use Rattle.promises_picture.specs.OnPage.{titled, drawn, bar_of, bar_in, bars, words_of, words_in, in_words, dot_in, dots, section_of, sections_of, above_of, PageAsListed}
 use Rattle.promises_picture.proofs.Read.{Part, nothing_said, then, text-is, says_is, a-tag, quiet-tag, lacks, words-first, form-next, all_words, one_number}
 use Rattle.promises_picture.proofs.PlainWords.{Plain, join, either, none, number, filled, chosen, a-year, a-month-day, a-moment, a-level, degrees, a-mode, a-type, a-fault, a-bound, a-last, a-heat, off-scale, all_kinds, all_lines}
 use Rattle.promises_picture.proofs.DrawnAsListed.{whole-line, whole-heat, marks-of, alarm1-of, alarm0-of}

@@ -16,7 +16,7 @@ use Rattle.forms.specs.Form.{fill, choice}
 use Rattle.forms.specs.Days.{two_digits, year_text, month_day_text, date_text, day_text, moment_text}
 use Rattle.forms.specs.Words.{level_text, degrees_text, mode_text, type_text, fault_text}
 use Rattle.layers.specs.declared.gauge.Gauged.{Gauged}
-use Rattle.picture.specs.Page.{bound_text, last_text, heat_text, off_text, kind_text, kinds_text, day_on_axis}
+use Rattle.picture.specs.Page.{bound_text, last_text, heat_text, off_text, kind_text, kinds_text}
 use Rattle.promises_picture.specs.Drawn.{Point, on_to, line_text, lines_text}
 use Rattle.promises_picture.specs.Reader.{plain}
 use Rattle.promises_picture.proofs.Read.{plain-both, plain-pick, plain-none, plain-digit, plain-decimal, plain-fill, plain-choice}

@@ -3,13 +3,13 @@
 use mathlib.Core.Path.{◌≡◌, refl, sym, ap, ◌∙◌}
 use mathlib.Core.Bool.{Bool, true, false, not, ◌&&◌}
 use mathlib.Core.List.{List, [], ◌∷◌, ◌++◌, append-nil, append_assoc}
-use Prim.Native.Nat.{ℕ, zero, suc, ◌+◌, ◌/◌, ◌%◌, ◌<◌}
+use Prim.Native.Nat.{ℕ, zero, suc, ◌/◌, ◌%◌, ◌<◌}
 use native.Mathlib.Omega.{arith}
 use borrow.Author.Tests.{ne_eqb, lt-ltb, ltb-true}
 use lib.Dec.{eqb, ltb}
 use lib.ListN.{length, get_or, drop}
 use Rattle.frame.specs.Pick.{pick}
-use Rattle.listing.specs.Text.{ascii, digits_up_to, in_decimal}
+use Rattle.listing.specs.Text.{digits_up_to, in_decimal}
 use Rattle.putting.specs.Digit.{digit}
 use Rattle.forms.specs.Form.{fill, first, others, choice}
 use Rattle.promises_picture.specs.Reader.{up_to, passed_over, read_of, plain}

@@ -1,6 +1,6 @@
 -- The page of a card has what its list has: for each pair of the summary, in their order, one section, and in it what is drawn of the records of that pair and said
 -- of them; and nothing else is drawn.
-use Rattle.std.specs.Prelude.{◌≡◌, Bool, true, List, [], ◌∷◌, ◌++◌, ℕ, ◌+◌, ◌/◌, ◌%◌, eqb, ltb, length, get_or, take}
+use Rattle.std.specs.Prelude.{◌≡◌, Bool, true, List, [], ◌∷◌, ◌++◌, ℕ, ◌/◌, ◌%◌, eqb, ltb, length, get_or, take}
 use Prim.Native.String.{String}
 use Rattle.frame.specs.declared.Reading.{Reading}
 use Rattle.frame.specs.declared.Reply.{Reply}
@@ -16,7 +16,6 @@ use Rattle.calendar.specs.declared.counting.Day.{Day}
 use Rattle.forms.specs.Form.{fill}
 use Rattle.forms.specs.Days.{moment_text}
 use Rattle.forms.specs.Words.{fault_text}
-use Rattle.layers.specs.declared.gauge.Gauged.{Gauged}
 use Rattle.layers.specs.Gauged.{gauged_of}
 use Rattle.picture.specs.Page.{bound_text, last_text, heat_text, off_text, kinds_text}
 use Rattle.picture.specs.Calls.{WritesPicture}
