@@ -1,5 +1,5 @@
 -- The text of a faulty reply: what the reply reads as is put into the record's text.
-use mathlib.Core.Path.{◌≡◌, sym, ap}
+use mathlib.Core.Path.{sym, ap}
 use mathlib.Core.List.{List, ◌++◌}
 use Prim.Native.Nat.{ℕ}
 use Rattle.frame.specs.declared.Reply.{Reply}

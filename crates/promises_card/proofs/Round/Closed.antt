@@ -3,14 +3,13 @@ use mathlib.Core.Path.{◌≡◌, refl, sym, ap, ◌∙◌}
 use mathlib.Core.Logic.{◌≢◌}
 use mathlib.Core.Bool.{Bool, true, false}
 use mathlib.Core.List.{List, [], ◌∷◌, map}
-use Prim.Native.Nat.{ℕ, ◌+◌, ◌-◌, ◌<◌, ◌≤◌, min}
+use Prim.Native.Nat.{ℕ, ◌+◌, ◌<◌, min}
 use native.Mathlib.Omega.{arith}
-use borrow.Author.Tests.{eqb-true, eqb-false}
+use borrow.Author.Tests.{eqb-false}
 use lib.Dec.{eqb}
 use Rattle.frame.specs.Pick.{pick}
-use Rattle.sheet.specs.declared.Saved.{Saved}
 use Rattle.sheet.specs.declared.Saved.TheVariants.{Stores, Refused}
-use Rattle.sheet.specs.Record.{Entry, length_of}
+use Rattle.sheet.specs.Record.{length_of}
 use Rattle.sheet.specs.Save.{save_fault, saved_number, stores_made}
 use Rattle.summary.specs.declared.Summary.{Summary}
 use Rattle.summary.specs.declared.Kept.{Kept}

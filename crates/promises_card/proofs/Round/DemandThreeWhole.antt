@@ -4,7 +4,7 @@ use mathlib.Core.Path.{◌≡◌, refl, sym, ap, subst, ◌∙◌}
 use mathlib.Core.Logic.{◌≢◌, ◌↔◌}
 use mathlib.Core.Bool.{Bool, true, false, ◌&&◌}
 use mathlib.Core.List.{List, [], ◌∷◌, ◌++◌, map, append-nil, append_assoc}
-use Prim.Native.Nat.{ℕ, ◌+◌, ◌-◌, ◌*◌, ◌/◌, ◌%◌, ◌≤◌, min}
+use Prim.Native.Nat.{ℕ, ◌+◌, ◌*◌, ◌/◌, ◌%◌, ◌≤◌, min}
 use native.Mathlib.Omega.{arith}
 use borrow.Author.Tests.{leb-true, leb-false, eqb-true}
 use lib.Dec.{eqb, leb, ltb}
@@ -46,7 +46,7 @@ use Rattle.promises_card.proofs.Summary.Afresh.{afresh-made}
 use Rattle.promises_card.proofs.Round.Closed.{AllReal, history-real, chain-real}
 use Rattle.promises_card.proofs.Round.OneByOne.{by-saves, by-steps}
 use Rattle.promises_card.proofs.Round.Told.{told-so}
-use Rattle.promises_card.proofs.Round.TriedRecords.{records_in, taken_in, closes, first-ones, taken-told, saves-records, saves-taken, same-on-sheet, all_own}
+use Rattle.promises_card.proofs.Round.TriedRecords.{records_in, taken_in, first-ones, taken-told, saves-records, saves-taken, same-on-sheet, all_own}
 use Rattle.promises_card.proofs.Round.DemandThree.{then, full_by}
 use Rattle.promises_card.proofs.Round.NoSlotLeft.{used-after, no_slot}
 use Rattle.promises_card.proofs.Round.AtAnyMoment.{rounds-at-any-moment}

@@ -27,7 +27,7 @@ use Rattle.round.specs.declared.Rounded.{Rounded}
 use Rattle.round.specs.declared.RoundedPage.{RoundedPage}
 use Rattle.round.specs.Replies.{lent_by, entries_of}
 use Rattle.round.specs.Saving.{Page, none, kept, save_refusal, page_with, Standing, standing, tried, saved_all}
-use Rattle.round.specs.Calls.{round_of, rounded_of, summary_in, rounded_page_of, SavesRound, SavesRoundWith}
+use Rattle.round.specs.Calls.{rounded_of, summary_in, rounded_page_of, SavesRound, SavesRoundWith}
 use Rattle.round.proofs.Turns.{not-many}
 use Rattle.promises_card.specs.Sheet.History.{Save, History}
 use Rattle.promises_card.specs.Sheet.History as history

@@ -2,8 +2,6 @@
 use mathlib.Core.Path.{◌≡◌, refl, sym, ◌∙◌}
 use mathlib.Core.List.{List}
 use Prim.Native.Nat.{ℕ}
-use Rattle.round.specs.declared.Rounded.{Rounded}
-use Rattle.round.specs.declared.RoundedPage.{RoundedPage}
 use Rattle.promises_card.specs.Round.OneOutcome.{RoundOutcome}
 
 pair : {A : Type 0} (a b : A × List ℕ) → a.0 ≡ b.0 → a.1 ≡ b.1 → a ≡ b

@@ -2,15 +2,12 @@
 use mathlib.Core.Path.{◌≡◌, refl, sym, ap, subst, ◌∙◌}
 use mathlib.Core.Logic.{◌≢◌}
 use mathlib.Core.List.{List, [], ◌∷◌, map}
-use Prim.Native.Nat.{ℕ, ◌+◌, ◌<◌, ◌≤◌}
+use Prim.Native.Nat.{ℕ, ◌+◌, ◌≤◌}
 use native.Mathlib.Omega.{arith}
 use lib.ListN.{take}
 use Rattle.sheet.specs.Record.{Entry}
-use Rattle.sheet.specs.Save.{saved_number}
 use Rattle.summary.specs.declared.Summary.{Summary}
-use Rattle.summary.specs.declared.Kept.{Kept}
 use Rattle.round.specs.declared.Round.{Round}
-use Rattle.round.specs.declared.Polled.{Polled}
 use Rattle.round.specs.declared.Rounded.{Rounded}
 use Rattle.round.specs.declared.RoundedPage.{RoundedPage}
 use Rattle.round.specs.Replies.{entry_in, entries_of}
@@ -25,11 +22,10 @@ use Rattle.promises_card.specs.Summary.Chain.{Step, Chain}
 use Rattle.promises_card.specs.Summary.Chain as chain
 use Rattle.promises_card.specs.Summary.FirstFault.{keep_table, keep_order}
 use Rattle.promises_card.specs.Round.Tries.{Try, try_save, try_step, stores_in_tries, number_of, Rules, none_yet, next, WentSo}
-use Rattle.promises_card.specs.Round.OneByOne.{BySaves, BySteps}
 use Rattle.promises_card.specs.Round.Stops.{rounded, rounded_page, StoppedBy, StoppedByWith, Stops}
 use Rattle.promises_card.proofs.Sheet.FirstFault.{sheet-fault}
 use Rattle.promises_card.proofs.Summary.FirstFault.{summary-fault}
-use Rattle.promises_card.proofs.Round.Closed.{Real, made, refused, AllReal, none_real, one_real, history-real, chain-real}
+use Rattle.promises_card.proofs.Round.Closed.{made, refused, AllReal, none_real, one_real, history-real, chain-real}
 
 -- a round that stands as it began
 module _ (s : List ℕ) (r : Round) (allowance : ℕ) (t : List ℕ) (number : ℕ) where

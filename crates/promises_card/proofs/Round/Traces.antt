@@ -2,8 +2,8 @@
 -- for its reason. Assumes nothing.
 use mathlib.Core.Path.{◌≡◌, refl, sym, ap, subst, ◌∙◌}
 use mathlib.Core.Logic.{◌≢◌, ◌⊎◌, inl, inr}
-use mathlib.Core.Bool.{Bool, true, false, ◌&&◌}
-use mathlib.Core.List.{List, [], ◌∷◌, ◌++◌, append-nil, append_assoc}
+use mathlib.Core.Bool.{Bool, true, false}
+use mathlib.Core.List.{List, [], ◌∷◌, ◌++◌, append_assoc}
 use Prim.Native.Nat.{ℕ, ◌+◌, ◌-◌, ◌^◌, ◌<◌, ◌≤◌, min}
 use native.Mathlib.Omega.{arith}
 use borrow.Author.Tests.{eq-eqb, ne_eqb, eqb-true, eqb-false, ltb-true, ltb-false, leb-true, leb-false}
@@ -15,7 +15,7 @@ use Rattle.summary.specs.Calls.{closes_record}
 use Rattle.round.specs.Saving.{Page, save_refusal, page_with, Standing, standing, with_stores, stopped_by, tried, saved_all}
 use Rattle.round.proofs.Turns.{next-tried, refused-stays, used-stays}
 use Rattle.round.proofs.Trying.{tried-by, stores-within}
-use Rattle.promises_card.specs.Round.Tries.{Try, closed_of, stores_in_tries, number_of, replies_of, Rules, none_yet, next, Dated, none_dated, one_dated}
+use Rattle.promises_card.specs.Round.Tries.{Try, closed_of, stores_in_tries, number_of, replies_of, Rules, none_yet, next, Dated, one_dated}
 
 module _ (allowance : ℕ) where
   abbrev pub fault : Standing → Entry → ℕ

@@ -7,7 +7,7 @@ use Prim.Native.Nat.{ℕ, zero, suc, ◌+◌, ◌-◌, ◌*◌, ◌≤◌, min}
 use native.Mathlib.Omega.{arith}
 use borrow.Author.Tests.{ne_eqb}
 use lib.Dec.{eqb}
-use lib.ListN.{length, get_or, take, replicate, length-map}
+use lib.ListN.{length, get_or, replicate, length-map}
 use lib.Seq.{get_or-append-add}
 use Rattle.frame.specs.Pick.{pick}
 use Rattle.frame.proofs.Answers.{number_is}

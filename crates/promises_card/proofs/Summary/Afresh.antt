@@ -3,7 +3,7 @@
 use mathlib.Core.Path.{◌≡◌, refl, sym, ap, ◌∙◌}
 use mathlib.Core.Bool.{Bool, true, false}
 use mathlib.Core.List.{List, [], ◌∷◌, map}
-use Prim.Native.Nat.{ℕ, zero, suc, ◌+◌, ◌<◌, ◌≤◌, min, max}
+use Prim.Native.Nat.{ℕ, zero, suc, ◌<◌, ◌≤◌, min, max}
 use native.Mathlib.Omega.{arith}
 use borrow.Author.Tests.{leb-true, leb-false}
 use lib.Dec.{leb}
@@ -12,19 +12,18 @@ use Rattle.frame.specs.Pick.{pick}
 use Rattle.frame.specs.Rising.{held_at}
 use Rattle.sheet.specs.Record.{Entry}
 use Rattle.sheet.specs.Slots.{size_allowed, list_of}
-use Rattle.summary.specs.declared.Line.{Line}
 use Rattle.summary.specs.declared.Summary.{Summary}
 use Rattle.summary.specs.declared.Made.{Made}
-use Rattle.summary.specs.Line.{no_level, pair_of, of_two, page, blank_summary}
+use Rattle.summary.specs.Line.{pair_of, of_two, blank_summary}
 use Rattle.summary.specs.Worked.{entries_of_pair, good_levels, picked_by, figures, line_for, kept_pairs, among, in_order, other_records, summary_of}
 use Rattle.summary.specs.Handed.{lines_of}
-use Rattle.summary.specs.Calls.{made_of, afresh, MakesSummary}
+use Rattle.summary.specs.Calls.{made_of, afresh}
 use Rattle.summary.proofs.KeptPairs.{among-order}
 use Rattle.summary.proofs.Levels.{Picks, min-picks, max-picks, none_right, of-levels}
 use Rattle.summary.proofs.OneRecordMore.{worked, held-lines}
 use Rattle.summary.proofs.Pages.{lines-page}
 use Rattle.summary.proofs.PairFigures.{pair_line, counts-are}
-use Rattle.summary.proofs.Shaped.{Levels, levels_none, levels_more, levels-good, picked-some, told-figures}
+use Rattle.summary.proofs.Shaped.{Levels, levels_more, levels-good, picked-some, told-figures}
 use Rattle.promises_card.specs.Summary.Afresh.{TellsOf, Afresh}
 
 -- A rule that picks one of two levels, better than both.

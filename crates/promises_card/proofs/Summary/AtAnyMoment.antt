@@ -4,16 +4,15 @@ use mathlib.Core.Path.{◌≡◌, refl, sym, ap, ◌∙◌}
 use mathlib.Core.Logic.{◌≢◌}
 use mathlib.Core.Bool.{Bool, true, false}
 use mathlib.Core.List.{List, [], ◌∷◌, ◌++◌, append-nil}
-use Prim.Native.Nat.{ℕ, ◌+◌, ◌%◌, ◌<◌, ◌≤◌}
+use Prim.Native.Nat.{ℕ, ◌+◌, ◌<◌, ◌≤◌}
 use native.Mathlib.Omega.{arith}
 use borrow.Author.Tests.{eqb-true, eqb-false}
-use lib.Dec.{eqb, leb}
+use lib.Dec.{eqb}
 use lib.ListN.{length}
 use Rattle.sheet.proofs.FewRecords.{few-records}
-use Rattle.sheet.specs.Record.{Entry, length_of}
+use Rattle.sheet.specs.Record.{length_of}
 use Rattle.sheet.specs.Slots.{Slot, spoiled, holds, record_in, size_allowed, length_allowed, slots, slot_at, slot_of, list_of, next}
 use Rattle.sheet.specs.Stores.{after}
-use Rattle.sheet.specs.Save.{save_fault}
 use Rattle.summary.specs.declared.Summary.{Summary}
 use Rattle.summary.specs.declared.Kept.{Kept}
 use Rattle.summary.specs.Worked.{summary_of}

@@ -3,11 +3,11 @@
 use mathlib.Core.Path.{◌≡◌, refl, sym, ap, ◌∙◌}
 use mathlib.Core.Bool.{Bool, true, false, ◌||◌}
 use mathlib.Core.List.{List, [], ◌∷◌, ◌++◌, map}
-use Prim.Native.Nat.{ℕ, ◌+◌, ◌<◌, ◌≤◌}
+use Prim.Native.Nat.{ℕ, ◌+◌, ◌≤◌}
 use native.Mathlib.Omega.{arith}
 use borrow.Author.Tests.{eq-eqb, ne_eqb}
 use lib.Dec.{eqb}
-use lib.ListN.{length, take, length-map}
+use lib.ListN.{length, length-map}
 use lib.Seq.{take_all}
 use Rattle.frame.specs.Pick.{pick}
 use Rattle.frame.specs.Rising.{Rises, held_at}
@@ -18,7 +18,7 @@ use Rattle.summary.specs.declared.Summary.{Summary}
 use Rattle.summary.specs.Line.{pair_of, together, page}
 use Rattle.summary.specs.Worked.{pair_in, entries_of_pair, figures, line_for, without, pairs_of, kept_pairs, among, in_order, other_records, summary_of}
 use Rattle.summary.specs.Handed.{lines_of}
-use Rattle.summary.specs.Joined.{put_all, join_lines, join_page}
+use Rattle.summary.specs.Joined.{join_lines, join_page}
 use Rattle.summary.proofs.KeptPairs.{Same, is, isnt, compare, among_first, among_later, among-without, among-order, once-pairs, length-order, rises-order, all-inside, no_record, among-take}
 use Rattle.summary.proofs.OneRecordMore.{worked, rises-lines, held-lines}
 use Rattle.summary.proofs.Pages.{lines-page}

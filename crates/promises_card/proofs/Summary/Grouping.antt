@@ -10,8 +10,8 @@ use lib.Dec.{eqb, ltb}
 use lib.ListN.{length, get_or, replicate, length-append, length-replicate, get_or-replicate}
 use lib.Seq.{get_or-append-add}
 use Rattle.frame.specs.Pick.{pick}
-use Rattle.frame.specs.Rising.{Above, above_none, above_more, Rises, rises_none, rises_more, held_at}
-use Rattle.frame.proofs.Rising.{held_none, held_first, held-later, same-rising}
+use Rattle.frame.specs.Rising.{Above, above_more, Rises, rises_more, held_at}
+use Rattle.frame.proofs.Rising.{held_first, held-later, same-rising}
 use Rattle.summary.specs.declared.Line.{Line}
 use Rattle.summary.specs.declared.Summary.{Summary}
 use Rattle.summary.specs.declared.Made.{Made}
@@ -19,7 +19,7 @@ use Rattle.summary.specs.Line.{pair_of, together, page, blank_line}
 use Rattle.summary.specs.Handed.{lines_of, line_at, misshapen, most, counts_over, lines_over}
 use Rattle.summary.specs.Updated.{put_among}
 use Rattle.summary.specs.Calls.{made_of}
-use Rattle.summary.specs.Joined.{put_all, join_lines, join_page, unkept, join_over, join_fault, join_of}
+use Rattle.summary.specs.Joined.{put_all, join_lines, join_page, join_fault, join_of}
 use Rattle.summary.specs.Sound.{Sound}
 use Rattle.summary.proofs.Every.{neither, none_over, over_none}
 use Rattle.summary.proofs.HandedIn.{sound-handed, used}
@@ -27,12 +27,12 @@ use Rattle.summary.proofs.KeptPairs.{Same, is, isnt, compare}
 use Rattle.summary.proofs.Levels.{min-picks, max-picks, two-grouped}
 use Rattle.summary.proofs.LinesAdded.{count-of, line-of}
 use Rattle.summary.proofs.Pages.{lines-page, line-page}
-use Rattle.summary.proofs.PutAll.{rises-all, all-length, AllFew, few_none, few_more, few-at, at-few}
-use Rattle.summary.proofs.JoinTests.{fault-by, refused-join, made-join}
-use Rattle.summary.proofs.Shaped.{AllTold, told_none, told_more, all_told, told-put, right-told, shaped-page}
+use Rattle.summary.proofs.PutAll.{rises-all, all-length, AllFew, few_more, few-at, at-few}
+use Rattle.summary.proofs.JoinTests.{made-join}
+use Rattle.summary.proofs.Shaped.{AllTold, told_more, all_told, told-put, right-told, shaped-page}
 use Rattle.promises_card.specs.Summary.Join.{Handed, Clean, both_lines, from_left, from_right}
 use Rattle.promises_card.proofs.Summary.JoinLines.{held_all, AllNarrow, narrow_none, narrow_more, lines-turned}
-use Rattle.promises_card.proofs.Summary.JoinPassed.{number_is, Passed, passed, not-over, narrow-lines, fault-clear}
+use Rattle.promises_card.proofs.Summary.JoinPassed.{number_is, passed, not-over, narrow-lines, fault-clear}
 
 -- the lines
 together-grouped : (x y z : Line) → together (together x y) z ≡ together x (together y z)

@@ -2,13 +2,13 @@
 use mathlib.Core.Path.{◌≡◌, refl, sym, ap, ◌∙◌}
 use mathlib.Core.Bool.{Bool, true, false}
 use mathlib.Core.List.{List, [], ◌∷◌}
-use Prim.Native.Nat.{ℕ, zero, suc, ◌+◌, ◌<◌, ◌≤◌, min, max}
+use Prim.Native.Nat.{ℕ, suc, ◌+◌, ◌<◌, min, max}
 use native.Mathlib.Omega.{arith}
 use borrow.Author.Tests.{eq-eqb, ne_eqb}
 use lib.Dec.{eqb}
 use lib.ListN.{length, get_or}
 use Rattle.frame.specs.Pick.{pick}
-use Rattle.frame.specs.Rising.{Above, above_none, above_more, Rises, rises_none, rises_more, held_at}
+use Rattle.frame.specs.Rising.{Rises, rises_more, held_at}
 use Rattle.frame.proofs.Rising.{held_none, held_first, held-later, same-rising}
 use Rattle.summary.specs.declared.Line.{Line}
 use Rattle.summary.specs.Line.{pair_by, pair_of, together, blank_line}

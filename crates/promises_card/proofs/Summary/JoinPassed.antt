@@ -1,18 +1,16 @@
 -- What a join that is not refused has passed, and when it is not refused. Assumes nothing.
 use mathlib.Core.Path.{◌≡◌, refl, sym, ap, ◌∙◌}
 use mathlib.Core.Bool.{Bool, true, false, ◌||◌}
-use mathlib.Core.List.{List, [], ◌∷◌}
-use Prim.Native.Nat.{ℕ, ◌<◌, ◌≤◌}
+use Prim.Native.Nat.{◌<◌, ◌≤◌}
 use native.Mathlib.Omega.{arith}
 use borrow.Author.Tests.{eqb-true, eqb-false, ltb-false, le-ltb}
 use lib.Dec.{eqb, ltb}
-use lib.ListN.{length, get_or}
+use lib.ListN.{length}
 use lib.Seq.{get_or-take}
-use Rattle.summary.specs.declared.Line.{Line}
 use Rattle.summary.specs.declared.Summary.{Summary}
 use Rattle.summary.specs.declared.Made.{Made}
 use Rattle.summary.specs.Line.{blank_line}
-use Rattle.summary.specs.Handed.{lines_of, line_at, misshapen, lines_over}
+use Rattle.summary.specs.Handed.{lines_of, misshapen, lines_over}
 use Rattle.summary.specs.Joined.{join_lines, join_page, unkept, join_over, join_fault, join_of}
 use Rattle.summary.proofs.Every.{neither}
 use Rattle.summary.proofs.HandedIn.{sound-handed}

@@ -1,6 +1,6 @@
 -- What becomes of a save with its summary, told apart once: refused by its summary, or one of the sheet's own saves with the same answer, which brings
 -- the summary up to date exactly where it closed its record. Assumes nothing.
-use mathlib.Core.Path.{◌≡◌, refl, sym, ap, ◌∙◌}
+use mathlib.Core.Path.{◌≡◌, refl, ap, ◌∙◌}
 use mathlib.Core.Bool.{Bool, true, false, not}
 use mathlib.Core.List.{List}
 use Prim.Native.Nat.{ℕ, ◌+◌, ◌<◌, ◌≤◌, min}

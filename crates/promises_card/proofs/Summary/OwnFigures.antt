@@ -1,10 +1,9 @@
 -- Own figures: a closed record's line is put among the lines, which leaves every other pair's; by whether the pair has a line and one is free. Every other
 -- save hands the summary back. Assumes nothing.
 use mathlib.Core.Path.{◌≡◌, refl, sym, ap, ◌∙◌}
-use mathlib.Core.Logic.{◌≢◌}
-use mathlib.Core.Bool.{Bool, true, false, ◌||◌}
+use mathlib.Core.Bool.{Bool, true, false}
 use mathlib.Core.List.{List, [], ◌∷◌}
-use Prim.Native.Nat.{ℕ, suc, ◌+◌, ◌<◌, ◌≤◌}
+use Prim.Native.Nat.{ℕ, ◌+◌, ◌<◌, ◌≤◌}
 use native.Mathlib.Omega.{arith}
 use borrow.Author.Tests.{eq-eqb, ne_eqb, lt-ltb, le-ltb, ltb-true, ltb-false}
 use lib.Dec.{eqb, ltb}
@@ -15,9 +14,9 @@ use Rattle.sheet.specs.Record.{Entry, length_of}
 use Rattle.summary.specs.declared.Line.{Line}
 use Rattle.summary.specs.declared.Summary.{Summary}
 use Rattle.summary.specs.declared.Kept.{Kept}
-use Rattle.summary.specs.Line.{pair_of, together, page}
+use Rattle.summary.specs.Line.{pair_of, page}
 use Rattle.summary.specs.Worked.{pair_in}
-use Rattle.summary.specs.Handed.{lines_of, handed_fault}
+use Rattle.summary.specs.Handed.{lines_of}
 use Rattle.summary.specs.Updated.{line_of, has_line, put_among, fits, one_other, with_line, with_record}
 use Rattle.summary.specs.Sound.{Sound}
 use Rattle.summary.proofs.HandedIn.{small-not-refused}

@@ -1,5 +1,5 @@
 -- Demand 3 over rounds: each round is the saves that it tried, in order, so list, full and stays hold of them.
-use Rattle.std.specs.Prelude.{◌≡◌, ◌↔◌, true, List, [], ◌∷◌, ◌++◌, map, ℕ, ◌+◌, ◌<◌, ◌≤◌, take}
+use Rattle.std.specs.Prelude.{◌≡◌, ◌↔◌, true, List, ◌∷◌, ◌++◌, map, ℕ, ◌+◌, ◌<◌, ◌≤◌, take}
 use Rattle.sheet.specs.Record.{passes}
 use Rattle.sheet.specs.Slots.{size_allowed, list_of}
 use Rattle.round.specs.declared.Round.{Round}

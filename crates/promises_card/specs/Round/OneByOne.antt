@@ -1,6 +1,6 @@
 -- One by one: a round leaves the sheet, the store count and the answers exactly as saving its replies one by one would.
 use Rattle.std.specs.Prelude.{◌≡◌, List, map, ℕ, ◌<◌, ◌≤◌, length}
-use Rattle.sheet.specs.Record.{Entry, entry_of}
+use Rattle.sheet.specs.Record.{entry_of}
 use Rattle.sheet.specs.Save.{save_fault}
 use Rattle.summary.specs.declared.Summary.{Summary}
 use Rattle.round.specs.declared.Polled.{Polled}

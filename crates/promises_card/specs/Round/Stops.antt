@@ -1,5 +1,5 @@
 -- What stops a round: 23 before all others, an empty round, no stores; then each save's own order.
-use Rattle.std.specs.Prelude.{◌≡◌, ◌≢◌, List, [], ◌∷◌, ℕ, ◌<◌, ◌≤◌}
+use Rattle.std.specs.Prelude.{◌≡◌, ◌≢◌, List, ◌∷◌, ℕ, ◌<◌, ◌≤◌}
 use Rattle.summary.specs.declared.Summary.{Summary}
 use Rattle.round.specs.declared.Round.{Round}
 use Rattle.round.specs.declared.Rounded.{Rounded}

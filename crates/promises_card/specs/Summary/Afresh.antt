@@ -1,12 +1,12 @@
 -- Made afresh: the call answers the summary of the sheet's list; and what that summary says of each pair, in counts.
-use Rattle.std.specs.Prelude.{◌≡◌, ◌≢◌, true, false, List, [], ◌∷◌, ℕ, ◌+◌, ◌<◌, ◌≤◌, length, get_or}
+use Rattle.std.specs.Prelude.{◌≡◌, true, false, List, [], ◌∷◌, ℕ, ◌+◌, ◌<◌, ◌≤◌, length, get_or}
 use Rattle.frame.specs.Rising.{held_at}
 use Rattle.sheet.specs.Record.{Entry}
 use Rattle.sheet.specs.Slots.{size_allowed, list_of}
 use Rattle.summary.specs.declared.Line.{Line}
 use Rattle.summary.specs.declared.Made.{Made}
 use Rattle.summary.specs.Line.{no_level, pair_of, blank_summary}
-use Rattle.summary.specs.Worked.{entries_of_pair, good_levels, faults, kept_pairs, among, summary_of}
+use Rattle.summary.specs.Worked.{entries_of_pair, good_levels, kept_pairs, among, summary_of}
 use Rattle.summary.specs.Handed.{lines_of}
 use Rattle.summary.specs.Calls.{MakesSummary}
 
