@@ -21,7 +21,6 @@ use Rattle.lines.specs.Calls.{answered, lines_answer, HearsLines}
 use Rattle.lines.proofs.Cases.{of-pick, none_of}
 use Rattle.promises_lines.specs.Runs.{is_idle}
 use Rattle.frame.proofs.Both as together
-use Rattle.promises_frame.proofs.Cases as cases
 use Rattle.promises_lines.proofs.Legal.{Legal, spoilt, Closing, Stepped, on, shut, step, view}
 use Rattle.promises_lines.proofs.Quiet.{Quiet}
 

@@ -15,7 +15,7 @@ use Rattle.frame.specs.Pick.{pick}
 use Rattle.frame.specs.Line as frame
 use Rattle.lines.specs.declared.SoFar.{SoFar}
 use Rattle.lines.specs.declared.LinesTold.{LinesTold}
-use Rattle.lines.specs.Sample.{Sample, idle, mark, sample_of}
+use Rattle.lines.specs.Sample.{Sample, idle, sample_of}
 use Rattle.lines.specs.Timing.{Timing, timing, bad_timing}
 use Rattle.lines.specs.SoFar.{so_far, rest_state, spoilt_by, is_open, legal}
 use Rattle.lines.specs.Step.{with_bit, run_ended, longer_idle, after_idle, after_low, after_both, after, closes}
