@@ -1,9 +1,9 @@
 -- Drawn, then heard: what was put down is the drawing, which is pulses of the lines. By the lines' promise of batches any history of it tells what the one of
 -- `Pulses` tells; so the first call that tells something has told that, and at the same sample.
-use mathlib.Core.Path.{◌≡◌, refl, sym, ap, ap₂, subst, ◌∙◌}
-use mathlib.Core.Bool.{true, false}
+use mathlib.Core.Path.{◌≡◌, refl, sym, ap, subst, ◌∙◌}
+use mathlib.Core.Bool.{true}
 use mathlib.Core.List.{List, [], ◌∷◌, ◌++◌, map}
-use Prim.Native.Nat.{ℕ, zero, suc, ◌+◌, ◌-◌, ◌*◌, ◌<◌, ◌≤◌}
+use Prim.Native.Nat.{ℕ, zero, suc, ◌+◌, ◌-◌, ◌*◌, ◌≤◌}
 use native.Mathlib.Omega.{arith}
 use lib.ListN.{length, take, replicate, length-append}
 use lib.Seq.{take_all}
@@ -11,10 +11,10 @@ use Rattle.frame.specs.Line.{formed}
 use Rattle.lines.specs.declared.SoFar.{SoFar}
 use Rattle.lines.specs.declared.LinesTold.{LinesTold}
 use Rattle.lines.specs.Sample.{sample_of}
-use Rattle.lines.specs.Timing.{Timing, bad_timing}
+use Rattle.lines.specs.Timing.{Timing}
 use Rattle.lines.specs.SoFar.{rest_state}
 use Rattle.lines.specs.Calls.{HearsLines}
-use Rattle.drawing.specs.Pulses.{bit_after, bits_after, drawn, drawing}
+use Rattle.drawing.specs.Pulses.{bit_after, bits_after, drawn}
 use Rattle.drawing.proofs.Rest.{one, one-long, bit-first}
 use Rattle.promises_frame.proofs.BitsAreBits.{bits-are-bits}
 use Rattle.promises_lines.specs.History.{Said, bits_of, said, tellings, History, begun}

@@ -2,11 +2,11 @@
 -- holds. Only its bytes: what is left of the output stands behind the samples put.
 use mathlib.Core.Path.{◌≡◌, refl, sym, ap, ap₂, ◌∙◌}
 use mathlib.Core.Bool.{Bool, true, false, not, ◌||◌}
-use mathlib.Core.List.{List, ◌++◌}
+use mathlib.Core.List.{List}
 use Prim.Native.Nat.{ℕ, ◌+◌, ◌-◌, ◌≤◌}
 use native.Mathlib.Omega.{arith}
 use lib.Dec.{ltb}
-use lib.ListN.{length, get_or, take, drop, length-append, length-take, length-drop}
+use lib.ListN.{length, get_or, drop, length-append, length-take, length-drop}
 use lib.Seq.{get_or-append-add, get_or-drop}
 use Rattle.frame.specs.Pick.{pick}
 use Rattle.frame.specs.Line.{formed}

@@ -7,7 +7,7 @@ use Prim.Native.Nat.{ℕ, ◌≤◌}
 use native.Mathlib.Omega.{arith}
 use borrow.Author.Tests.{ltb-false}
 use lib.Dec.{eqb, ltb}
-use lib.ListN.{length, take, drop}
+use lib.ListN.{length, drop}
 use Rattle.frame.specs.declared.Poll.{Poll}
 use Rattle.frame.specs.declared.PollAnswer.{PollAnswer}
 use Rattle.frame.specs.declared.PollAnswer.TheVariants.{Asked}
@@ -23,9 +23,7 @@ use Rattle.board.specs.Gauge.{unmarked, at_once}
 use Rattle.board.specs.Rows.{board_of, on_board, row_of}
 use Rattle.board.specs.Order.{in_address_order}
 use Rattle.board.specs.Calls.{row_poll_number, row_poll_bytes, PollsRow}
-use Rattle.promises_frame.specs.Calls.{PollLeft}
 use Rattle.promises_frame.proofs.Polls.{poll-then-read}
-use Rattle.promises_lines.specs.Form.{bytes_in}
 use Rattle.promises_drawing.specs.Wire.{PollBytes, written, of_a_row, PollOnTheWire}
 use Rattle.promises_drawing.proofs.Heard.{drawn-and-heard}
 
