@@ -6,7 +6,7 @@ use mathlib.Core.List.{List, [], ◌∷◌, ◌++◌, append-nil, append_assoc}
 use Prim.Native.Nat.{ℕ, zero, suc, ◌+◌, ◌^◌, ◌<◌, ◌≤◌}
 use native.Mathlib.Omega.{arith}
 use borrow.Author.Tests.{eq-eqb, leb-false}
-use lib.Dec.{eqb, leb}
+use lib.Dec.{leb}
 use lib.ListN.{length, take, drop, replicate, length-take, length-drop, length-replicate}
 use Rattle.frame.specs.Pick.{pick}
 use Rattle.frame.specs.Line.{mark}
@@ -19,7 +19,7 @@ use Rattle.polling.specs.declared.Pace.{Pace}
 use Rattle.polling.specs.declared.Polling.{Polling}
 use Rattle.polling.specs.Settling.{LeftByHearing}
 use Rattle.polling.specs.Pace.{timing_of, bad_pace}
-use Rattle.polling.specs.Meant.{is_over, draws, listens}
+use Rattle.polling.specs.Meant.{is_over, listens}
 use Rattle.polling.specs.Drawing.{drawn_by}
 use Rattle.polling.specs.Listening.{Listened, still_going, settled_by, listen}
 use Rattle.polling.specs.Settling.{is_message, is_last, is_answered, asked_again, answered_with, settled_of, settled_at}

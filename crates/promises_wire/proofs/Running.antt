@@ -35,7 +35,7 @@ use Rattle.polling.specs.Settling.{LeftByHearing}
 use Rattle.polling.specs.Pace.{timing_of, bad_pace}
 use Rattle.polling.specs.Beginning.{no_reply, no_entry, used_rows, reply_for, begun_with, beginning, nothing_begun}
 use Rattle.polling.specs.Meant.{is_over, turn_of, try_drawn, draws, listens, meant}
-use Rattle.polling.specs.Drawing.{drawn_by, after_drawn, drew}
+use Rattle.polling.specs.Drawing.{drawn_by, after_drawn}
 use Rattle.polling.specs.Listening.{Listened, still_going, settled_by, later, listen}
 use Rattle.polling.specs.Settling.{is_answered, asked_again, replied, round_with, answered_with, settled_of, settled_at}
 use Rattle.polling.specs.Calls.{begun, BeginsPolling, heard_by}

@@ -3,7 +3,7 @@
 use mathlib.Core.Path.{◌≡◌, refl, sym, ap, ◌∙◌}
 use mathlib.Core.Bool.{Bool, true, false, ◌&&◌}
 use mathlib.Core.List.{List, [], ◌∷◌, ◌++◌, append-nil}
-use Prim.Native.Nat.{ℕ, suc, ◌+◌, ◌-◌, ◌^◌, ◌<◌, ◌≤◌}
+use Prim.Native.Nat.{ℕ, suc, ◌+◌, ◌^◌, ◌<◌, ◌≤◌}
 use native.Mathlib.Omega.{arith}
 use native.Mathlib.Nat.{add-zero, zero-add}
 use borrow.Author.Tests.{eq-eqb, ne_eqb, lt-ltb, le-ltb, le-leb, lt-leb}
@@ -18,7 +18,6 @@ use Rattle.sheet.proofs.Refusals.{clear-fault}
 use Rattle.promises_frame.proofs.Cases.{by-lt}
 use Rattle.promises_card.specs.Sheet.History.{Save, History, begun, saved, blank_sheet, all_stores}
 use Rattle.promises_card.specs.Sheet.SlotsInOrder.{has_slot, slot_of_save, slots_of_saves}
-use Rattle.promises_card.specs.Summary.Chain as chain
 use Rattle.promises_card.proofs.Sheet.Fates.{Fate, refused, idle, broken, closed, fate}
 use Rattle.promises_card.proofs.Sheet.ListAndFull.{slots-of, long-so, sized}
 use Rattle.promises_card.proofs.Sheet.SlotsInOrder.{fills}
