@@ -1,6 +1,6 @@
 // The program "desk_page": the desk summary as a page for people. With file names as arguments it reads those cards and joins their summaries into one
-// page; with none it reads one card from standard input. First it says of each card what its slots hold, then it prints the table. A program has no
-// exit status here, so its last line tells it: "status 0" after a page, "status" and the number that refuses the join where the cards cannot be joined,
+// page; with none it reads one card from standard input. First it says of each card what its slots hold, then it prints the table. Its last line tells
+// what came of it: "status 0" after a page, "status" and the number that refuses the join where the cards cannot be joined,
 // "status 1" where a card gives no page. Standard error has said why then, and what stands before that line is no page.
 #![tactic(auto)]
 

@@ -1,6 +1,6 @@
 // The program "show_csv": the records of a card for a spreadsheet. The card comes on standard input; an argument is the day of minute 0, as 2026-11-01, and
-// then times stand as dates, else as minutes. A line for each record goes to standard output, with commas between its fields. A program has no exit
-// status here, so its last line tells it: "status 0" after the records, "status 1" where the input is no card, "status 2" where the argument is no
+// then times stand as dates, else as minutes. A line for each record goes to standard output, with commas between its fields. Its last line
+// tells what came of it: "status 0" after the records, "status 1" where the input is no card, "status 2" where the argument is no
 // day. Standard error has said why then.
 #![tactic(auto)]
 

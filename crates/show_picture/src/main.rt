@@ -1,6 +1,6 @@
 // The program "show_picture": the page of a card, to look at. The card comes on standard input; the arguments are the name that the page calls it by, and
-// the day of minute 0, as 2026-11-01, where there is one. The page goes to standard output; the library makes it. A program has no exit status here, so
-// its last line tells it: "status 0" after the page, "status 1" where the input is no card, "status 2" where an argument is no day, or there is no name.
+// the day of minute 0, as 2026-11-01, where there is one. The page goes to standard output; the library makes it. Its last line
+// tells what came of it: "status 0" after the page, "status 1" where the input is no card, "status 2" where an argument is no day, or there is no name.
 // Standard error has said why then.
 #![tactic(auto)]
 
