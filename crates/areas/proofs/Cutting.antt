@@ -6,7 +6,7 @@ use Prim.Native.Nat.{ℕ, suc, ◌+◌, ◌<◌}
 use native.Mathlib.Numerals.{add-one}
 use lib.Dec.{eqb, ltb, leb}
 use lib.ListN.{length, get_or, take, drop}
-use lib.Seq.{drop-cons, drop-drop, drop-length}
+use lib.Seq.{drop-cons, drop-length}
 use Rattle.frame.specs.Pick.{pick}
 use Rattle.frame.specs.Faults.{first_of}
 use Rattle.areas.specs.Site.{is_area}
@@ -14,37 +14,35 @@ use Rattle.areas.specs.Check.{keeps, accepts, check_fault}
 use Rattle.areas.specs.Plan.{first_area, greedy, rest, plan_fault}
 
 -- The next run of a plan, by what is asked of it.
-pub keeps-step : (s p : List ℕ) (from k n : ℕ) (x y : Bool) → k < length p → get_or p k 0 ≡ n → leb n (length (drop from s)) ≡ x → is_area (take n (drop from s)) ≡ y
-    → keeps (drop from s) (drop k p) ≡ (x && y && keeps (drop (from + n) s) (drop (k + 1) p))
+pub keeps-step : (s p : List ℕ) (k n : ℕ) (x y : Bool) → k < length p → get_or p k 0 ≡ n → leb n (length s) ≡ x → is_area (take n s) ≡ y
+    → keeps s (drop k p) ≡ (x && y && keeps (drop n s) (drop (k + 1) p))
 unfolding keeps
-keeps-step s p from k n x y h e a b =
-    ap (keeps (drop from s)) (drop-cons p k 0 h) ∙ ap (λ (m : ℕ). keeps (drop from s) (m ∷ drop (suc k) p)) e
-    ∙ (λ i. (a i && b i && keeps (drop-drop n from s i) (drop (sym (add-one k) i) p)))
+keeps-step s p k n x y h e a b =
+    ap (keeps s) (drop-cons p k 0 h) ∙ ap (λ (m : ℕ). keeps s (m ∷ drop (suc k) p)) e
+    ∙ (λ i. (a i && b i && keeps (drop n s) (drop (sym (add-one k) i) p)))
 
-pub keeps-end : (s p : List ℕ) (from k : ℕ) → k ≡ length p → keeps (drop from s) (drop k p) ≡ eqb (length (drop from s)) 0
+pub keeps-end : (s p : List ℕ) (k : ℕ) → k ≡ length p → keeps s (drop k p) ≡ eqb (length s) 0
 unfolding keeps
-keeps-end s p from k e = ap (keeps (drop from s)) (ap (λ (m : ℕ). drop m p) e ∙ drop-length p)
+keeps-end s p k e = ap (keeps s) (ap (λ (m : ℕ). drop m p) e ∙ drop-length p)
 
 -- The next area that is taken, of so many that may be taken.
-pub greedy-step : (s : List ℕ) (from n j : ℕ) → n ≡ first_area (drop from s) → eqb n 0 ≡ false → greedy (suc j) (drop from s) ≡ n ∷ greedy j (drop (from + n) s)
+pub greedy-step : (s : List ℕ) (n j : ℕ) → n ≡ first_area s → eqb n 0 ≡ false → greedy (suc j) s ≡ n ∷ greedy j (drop n s)
 unfolding greedy
-greedy-step s from n j e z =
-    ap (λ (m : ℕ). pick (eqb m 0) [] (m ∷ greedy j (drop m (drop from s)))) (sym e)
-    ∙ ap (λ (b : Bool). pick b [] (n ∷ greedy j (drop n (drop from s)))) z ∙ ap (λ (l : List ℕ). n ∷ greedy j l) (drop-drop n from s)
+greedy-step s n j e z =
+    ap (λ (m : ℕ). pick (eqb m 0) [] (m ∷ greedy j (drop m s))) (sym e) ∙ ap (λ (b : Bool). pick b [] (n ∷ greedy j (drop n s))) z
 
-pub rest-step : (s : List ℕ) (from n j : ℕ) → n ≡ first_area (drop from s) → eqb n 0 ≡ false → rest (suc j) (drop from s) ≡ rest j (drop (from + n) s)
+pub rest-step : (s : List ℕ) (n j : ℕ) → n ≡ first_area s → eqb n 0 ≡ false → rest (suc j) s ≡ rest j (drop n s)
 unfolding rest
-rest-step s from n j e z =
-    ap (λ (m : ℕ). pick (eqb m 0) (drop from s) (rest j (drop m (drop from s)))) (sym e)
-    ∙ ap (λ (b : Bool). pick b (drop from s) (rest j (drop n (drop from s)))) z ∙ ap (rest j) (drop-drop n from s)
+rest-step s n j e z =
+    ap (λ (m : ℕ). pick (eqb m 0) s (rest j (drop m s))) (sym e) ∙ ap (λ (b : Bool). pick b s (rest j (drop n s))) z
 
-pub greedy-stop : (s : List ℕ) (from j : ℕ) → first_area (drop from s) ≡ 0 → greedy (suc j) (drop from s) ≡ []
+pub greedy-stop : (s : List ℕ) (j : ℕ) → first_area s ≡ 0 → greedy (suc j) s ≡ []
 unfolding greedy
-greedy-stop s from j e = ap (λ (m : ℕ). pick (eqb m 0) [] (m ∷ greedy j (drop m (drop from s)))) e
+greedy-stop s j e = ap (λ (m : ℕ). pick (eqb m 0) [] (m ∷ greedy j (drop m s))) e
 
-pub rest-stop : (s : List ℕ) (from j : ℕ) → first_area (drop from s) ≡ 0 → rest (suc j) (drop from s) ≡ drop from s
+pub rest-stop : (s : List ℕ) (j : ℕ) → first_area s ≡ 0 → rest (suc j) s ≡ s
 unfolding rest
-rest-stop s from j e = ap (λ (m : ℕ). pick (eqb m 0) (drop from s) (rest j (drop m (drop from s)))) e
+rest-stop s j e = ap (λ (m : ℕ). pick (eqb m 0) s (rest j (drop m s))) e
 
 -- Both lists of refusals, by what the tests give.
 pub check-by : (s p : List ℕ) (x y z : Bool) → ltb 120 (length s) ≡ x → leb (length p) 8 ≡ y → keeps s p ≡ z

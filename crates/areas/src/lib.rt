@@ -5,8 +5,9 @@
 mod checking;
 mod planning;
 
+ghost use Rattle.std.specs.Prelude.{◌≡◌};
 ghost use Rattle.areas.specs.Check.{ChecksAreas};
-ghost use Rattle.areas.specs.Plan.{PlansAreas};
+ghost use Rattle.areas.specs.Plan.{PlansAreas, refused};
 
 // A proposed plan: the number of transmitters of each area, 0 after the last; beside a refusal all else is 0.
 #[repr(C)]
@@ -17,14 +18,24 @@ pub struct Plan {
     pub number: u8,
 }
 
+fn refusal(number: u8) -> Plan
+    ensures { result ≡ refused number }
+{
+    Plan {
+        sizes: [0; 8],
+        areas: 0,
+        number,
+    }
+}
+
 // Proposes areas for a site, each transmitter as feet times 65,536 and tenths of an ohm. Refuses 34, 35.
 pub fn sisal_plan_areas(site: &[u32]) -> Plan
     ensures { PlansAreas site.now result }
 {
     if 120 < site.len() {
-        return planning::refusal(34);
+        return refusal(34);
     }
-    planning::propose(site)
+    planning::propose(site).unwrap_or(refusal(35))
 }
 
 // Whether a plan is accepted, made here or drawn by a fitter: 0; or 34, 36.
@@ -34,8 +45,9 @@ pub fn sisal_check_areas(site: &[u32], plan: &[u8]) -> u8
     if 120 < site.len() {
         return 34;
     }
-    if 8 < plan.len() {
-        return 36;
+    if plan.len() <= 8 && checking::is_kept(site, plan) {
+        0
+    } else {
+        36
     }
-    if checking::is_kept(site, plan) { 0 } else { 36 }
 }

@@ -1,67 +1,67 @@
 // The bench checks of the sheet.
-use crate::shown;
-use frame::Written;
-use sheet::{Found, Saved};
+use print::{FaultNumber, Hex};
+use sheet::{Found, Head};
 use std::io;
 
-// What a slot reads as.
-fn found(rt: &impl Print, f: Found) -> io::Result<()> {
-    match f {
-        Found::Blank => print::words(rt, b"blank\n"),
-        Found::Spoiled => print::words(rt, b"spoiled\n"),
-        Found::Foreign => print::words(rt, b"foreign\n"),
-        Found::Record(head) => {
-            print::words(rt, b"record, minute ")?;
-            print::number(rt, head.minute as u64)?;
-            print::words(rt, b", address ")?;
-            print::number(rt, head.address as u64)?;
-            print::words(rt, b"\n")
-        }
-        Found::Refused(n) => shown::fault(rt, n),
-    }
-}
+// The bench's record: a reply of a transmitter at address 7, polled at minute 600.
+const BENCH: Head = Head {
+    settings: 1,
+    minute: 600,
+    address: 7,
+    count: 40,
+};
+
+const REPLY: &[u8] = b"\x80\x0e\x50\x00\x00";
 
 // Looks at the first slot of a sheet.
 pub(crate) fn first(rt: &impl Print, sheet: &[u8]) -> io::Result<()> {
-    print::words(rt, b"sheet of ")?;
-    print::number(rt, sheet.len() as u64)?;
-    print::words(rt, b" bytes: slot 0 ")?;
-    let looked = sheet::look(sheet, 0);
-    let f = looked.found;
-    found(rt, f)
-}
-
-// Saves the bench reply at minute 600 with this allowance of stores, and prints the stores made, the slot's bytes and what it reads as.
-pub(crate) fn save(rt: &impl Print, sheet: &mut [u8], allowance: usize) -> io::Result<()> {
-    let reply = b"\x80\x0e\x50\x00\x00";
-    match sheet::save(sheet, 1, 600, 7, 40, reply, allowance) {
-        Saved::Stores(n) => {
-            print::number(rt, n as u64)?;
-            print::words(rt, b" stores:")?;
-        }
-        Saved::Refused(n) => shown::fault(rt, n)?,
+    print!(rt; "sheet of {} bytes: slot 0 ", sheet.len())?;
+    match sheet::look(sheet, 0).found {
+        Found::Blank => println!(rt; "blank"),
+        Found::Spoiled => println!(rt; "spoiled"),
+        Found::Foreign => println!(rt; "foreign"),
+        Found::Record(head) => println!(rt;
+            "record, minute {}, address {}",
+            head.minute, head.address
+        ),
+        Found::Refused(fault) => println!(rt; "{}", FaultNumber::from(fault)),
     }
-    print::bytes(rt, sheet)?;
-    print::words(rt, b"\n")?;
-    first(rt, sheet)
 }
 
-// Saves the bench reply on a sheet of two slots, and prints the sheet's listing.
-pub(crate) fn listing(rt: &impl Print, sheet: &mut [u8]) -> io::Result<()> {
-    sheet::save(sheet, 1, 600, 7, 40, b"\x80\x0e\x50\x00\x00", 16);
-    listed(rt, sheet)
+// Saves the bench record with this allowance of stores, and prints the stores made, the slot's bytes and what it reads as.
+pub(crate) fn save(rt: &impl Print, allowance: usize) -> io::Result<()> {
+    let mut sheet = [0xff; 32];
+    match sheet::save(&mut sheet, BENCH, REPLY, allowance) {
+        Ok(n) => print!(rt; "{n} stores:")?,
+        Err(fault) => println!(rt; "{}", FaultNumber::from(fault))?,
+    }
+    println!(rt; "{}", Hex(&sheet))?;
+    first(rt, &sheet)
+}
+
+// Saves the bench record on a sheet of two slots, and prints the sheet's listing.
+pub(crate) fn listing(rt: &impl Print) -> io::Result<()> {
+    let mut sheet = [0xff; 64];
+    let _ = sheet::save(&mut sheet, BENCH, REPLY, 16);
+    listed(rt, &sheet)
 }
 
 // A sheet that was saved before bit 42 was read: the same bytes, in which the unit itself had set the bit.
-pub(crate) fn old_sheet(rt: &impl Print, sheet: &mut [u8]) -> io::Result<()> {
-    sheet::save(sheet, 5, 600, 7, 56, b"\x80\x0e\x50\x00\x00\xc6\x00", 18);
-    listed(rt, sheet)
+pub(crate) fn old_sheet(rt: &impl Print) -> io::Result<()> {
+    let mut sheet = [0xff; 32];
+    let head = Head {
+        settings: 5,
+        count: 56,
+        ..BENCH
+    };
+    let _ = sheet::save(&mut sheet, head, b"\x80\x0e\x50\x00\x00\xc6\x00", 18);
+    listed(rt, &sheet)
 }
 
 fn listed(rt: &impl Print, sheet: &[u8]) -> io::Result<()> {
     let mut out = [0u8; 200];
     match listing::whole_listing(sheet, &mut out) {
-        Written::Bytes(k) => print::words(rt, print::first(&out, k)),
-        Written::Refused(n) => shown::fault(rt, n),
+        Ok(size) => rt.write_all(&out[..size]),
+        Err(fault) => println!(rt; "{}", FaultNumber::from(fault)),
     }
 }

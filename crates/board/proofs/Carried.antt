@@ -37,7 +37,7 @@ carry-length up down zero at row rows = refl
 carry-length up down (suc k) at row rows = carry-length up down k (at - down + up) (get_or rows (at - down) free_row) (set rows (at - down) row) ∙ length-set rows (at - down) row
 
 -- Upward.
-up-cons : (k i : ℕ) (row x : Row) (xs : List Row) → carry 1 0 k (suc i) row (x ∷ xs) ≡ x ∷ carry 1 0 k i row xs
+pub up-cons : (k i : ℕ) (row x : Row) (xs : List Row) → carry 1 0 k (suc i) row (x ∷ xs) ≡ x ∷ carry 1 0 k i row xs
 unfolding carry
 up-cons zero i row x xs = refl
 up-cons (suc k) i row x xs =
@@ -127,7 +127,7 @@ insert-carry row (next ∷ rows) f off = go (insert-carry row rows) (put_of row 
         less m n = omega arith
 
 -- Downward.
-down-cons : (k i : ℕ) (row x : Row) (xs : List Row) → k ≤ i → carry 0 1 k (suc i) row (x ∷ xs) ≡ x ∷ carry 0 1 k i row xs
+pub down-cons : (k i : ℕ) (row x : Row) (xs : List Row) → k ≤ i → carry 0 1 k (suc i) row (x ∷ xs) ≡ x ∷ carry 0 1 k i row xs
 unfolding carry
 down-cons zero i row x xs l = refl
 down-cons (suc k) zero row x xs l = absurd (omega arith)
@@ -239,8 +239,3 @@ within-turn n up down (suc k) at l w = ((within-here w).0, (within-here w).1, su
   where
     less : (n : ℕ) → n ≡ suc n - 1
     less n = omega arith
-
--- the next place is a row, or the one behind the last
-pub within-at : {n up down k at : ℕ} → Within n up down k at → at ≤ n
-within-at (onward u d l) = omega arith
-within-at (backward u d l m) = m

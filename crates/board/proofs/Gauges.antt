@@ -1,22 +1,9 @@
--- What a gauge byte says, as the code works with it: its profile by number.
+-- What is told of a gauge byte, its profile by number and its mark.
 use mathlib.Core.Path.{◌≡◌, refl}
-use mathlib.Core.Bool.{Bool, true, false, not}
-use Prim.Native.Nat.{ℕ, ◌+◌, ◌*◌, ◌≤◌}
-use native.Mathlib.Omega.{arith}
-use lib.Dec.{eqb}
+use mathlib.Core.Bool.{Bool, true, false}
+use Prim.Native.Nat.{ℕ, ◌+◌, ◌*◌}
 use Rattle.frame.specs.Line.{mark}
-use Rattle.board.specs.Gauge.{Profile, no_profile, copper, platinum, profile_of, has_profile, is6500, profile_number, gauge_told}
-
-pub profile-small : (p : Profile) → profile_number p ≤ 2
-profile-small no_profile = omega arith
-profile-small copper = omega arith
-profile-small platinum = omega arith
-
--- number 0 is no profile
-pub has-profile : (p : Profile) → has_profile p ≡ not (eqb (profile_number p) 0)
-has-profile no_profile = refl
-has-profile copper = refl
-has-profile platinum = refl
+use Rattle.board.specs.Gauge.{Profile, no_profile, copper, platinum, profile_of, is6500, profile_number, gauge_told}
 
 -- what is told of a gauge byte says the same: its profile and its mark
 profile-of : (p : Profile) (m : Bool) → profile_of (profile_number p + 4 * mark m) ≡ p

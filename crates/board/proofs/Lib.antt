@@ -4,8 +4,8 @@ pub mod Order
 pub mod Carried
 pub mod Searched
 pub mod Faults
+pub mod Named
 pub mod Gauges
-pub mod Told
 pub mod Numbers
 pub mod OneRow
 pub mod Hearing

@@ -1,20 +1,22 @@
 -- Which number each call answers, test by test in document 01's order. Each law opens the call's list of tests at the facts it is given.
 use mathlib.Core.Path.{◌≡◌, refl, sym, ◌∙◌, ap}
 use mathlib.Core.Bool.{Bool, true, false, not}
-use mathlib.Core.List.{List}
+use mathlib.Core.List.{List, [], ◌∷◌}
 use Prim.Native.Nat.{ℕ, ◌<◌, ◌≤◌}
 use lib.Dec.{eqb, ltb}
 use lib.ListN.{length}
 use native.Mathlib.Omega.{arith}
 use borrow.Author.Tests.{lt-ltb, le-ltb, eqb-true, eqb-false}
+use Rattle.frame.specs.Faults.{◌gives◌}
 use Rattle.frame.specs.Line.{formed}
 use Rattle.frame.specs.Pick.{pick}
 use Rattle.frame.specs.Poll.{write_poll_fault}
+use Rattle.frame.proofs.Numbers.{first_small}
 use Rattle.board.specs.declared.Row.{Row}
 use Rattle.board.specs.Gauge.{profile_misplaced, unmarked, at_once}
 use Rattle.board.specs.Rows.{place_of, on_board, place_free, row_of}
 use Rattle.board.specs.Calls.{enrol_number, fault_by, outside_at, hear_number, find_number, row_poll_number}
-use Rattle.board.specs.Inside.ByValue.{may_poll, or_poll}
+use Rattle.board.specs.Inside.ByValue.{may_poll}
 
 module _ (board : List Row) (settings address gauge : ℕ) where
   abbrev number : ℕ
@@ -106,6 +108,10 @@ module _ (board : List Row) (address : ℕ) where
   unfolding find_number
   find-0 a b = simp (le-ltb 999 address a, lt-ltb (place_of address board) (length board) b)
 
+-- A number that refused already, or what writing the poll answers.
+abbrev pub or_poll : (number address : ℕ) → List ℕ → ℕ
+or_poll number address out = pick (eqb number 0) (write_poll_fault address out) number
+
 module _ (board : List Row) (address raise reset : ℕ) where
   pub may-11 : 999 < address → may_poll board address raise reset ≡ 11
   unfolding may_poll
@@ -132,6 +138,11 @@ module _ (board : List Row) (address raise reset : ℕ) where
 
   pub may-0 : address ≤ 999 → place_of address board < length board → denied ≡ false → at_once raise reset ≡ false → may_poll board address raise reset ≡ 0
   may-0 a b c d = may-by a b ∙ ap (λ (t : Bool). pick t 28 (pick (at_once raise reset) 28 0)) c ∙ ap (λ (t : Bool). pick t 28 0) d
+
+  pub may-small : may_poll board address raise reset ≤ 38
+  unfolding may_poll
+  may-small =
+      first_small (ltb 999 address gives 11 ∷ not (on_board address board) gives 17 ∷ denied gives 28 ∷ at_once raise reset gives 28 ∷ []) tt
 
   -- that a row may be polled, and what the writer then answers, is the number of the call
   pub polled : (out : List ℕ) → or_poll (may_poll board address raise reset) address out ≡ row_poll_number board address raise reset out

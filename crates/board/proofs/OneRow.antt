@@ -1,98 +1,122 @@
 -- What each kind of change answers, and what it makes of a board: of one not so kept nothing, by 38; else none of its rows, one of them, or a run.
 -- All go by the tests of the number.
-use mathlib.Core.Path.{◌≡◌, refl, sym, ◌∙◌, ap}
+use Rattle.std.specs.Prelude.{Option, None, Some}
+use mathlib.Core.Path.{◌≡◌, refl, sym, ◌∙◌, ap, subst}
 use mathlib.Core.Bool.{Bool, true, false, not}
 use mathlib.Core.List.{List}
-use Prim.Native.Nat.{ℕ, ◌<◌}
+use Prim.Native.Nat.{ℕ, ◌<◌, ◌≤◌}
 use native.Mathlib.Omega.{arith}
 use lib.Dec.{eqb}
 use lib.ListN.{length, set}
-use borrow.Author.Tests.{eqb-true}
+use borrow.Author.Tests.{eqb-false}
 use Rattle.frame.specs.declared.Reading.{Reading}
-use Rattle.frame.specs.declared.Reply.{Reply}
-use Rattle.frame.specs.declared.Reply.TheVariants.{Read, Refused, Unreadable}
 use Rattle.frame.specs.Level.{Level, place_lost}
 use Rattle.frame.specs.Reply.{refused_by}
 use Rattle.frame.specs.Pick.{pick}
 use Rattle.board.specs.declared.Row.{Row}
 use Rattle.board.specs.declared.value.Change.{Change}
 use Rattle.board.specs.Gauge.{outside_by}
-use Rattle.board.specs.Row.{free_row, with_reading, with_fault, sets_fault}
+use Rattle.board.specs.Row.{with_reading, with_fault, sets_fault}
 use Rattle.board.specs.Order.{in_address_order, if_in_order}
-use Rattle.board.specs.Inside.ByValue.{moved, FitsIn, onward, Changes, change_of, refusal, heard_change}
-use Rattle.board.proofs.Faults.{sets-7, sets-26}
-use Rattle.board.proofs.Carried.{carry-none, carry-one}
+use Rattle.board.specs.declared.value.Found.{Found}
+use Rattle.board.specs.declared.value.Hearing.{Hearing}
+use Rattle.board.specs.Inside.ByValue.{moved, made, FitsIn, onward, Sees, Finds, Changes, ChangesOn, change_of, faulty_hearing, hearing_of, heard_change, wrong_by, said_of}
+use Rattle.board.proofs.Faults.{sets-26}
+use Rattle.board.proofs.Named.{named-number, named-place}
+use Rattle.board.proofs.Carried.{carry-one}
+use Rattle.std.specs.Prelude.{Result, Ok, Err}
+use Rattle.frame.specs.declared.faults.Fault.{Fault}
+use Rattle.frame.specs.declared.faults.Fault.TheVariants.{OutsideProfile}
+use Rattle.frame.specs.Faults.{fault, number_of, place_named}
 
 -- On a board not so kept every call answers 38 and changes no row.
-pub out_of_order : (board : List Row) (number : ℕ) (after : List Row) (c : Change) → in_address_order board ≡ false → c ≡ refusal 38 → Changes board (if_in_order board number 38) (if_in_order board after board) c
-out_of_order board number after c k is = rw (is, k) (record { answers = refl; leaves = carry-none 1 0 0 free_row board; fits = onward refl refl (omega arith) })
+pub out_of_order : (board : List Row) (number : ℕ) (after : List Row) (n : ℕ) (c : Option Change) → in_address_order board ≡ false → n ≡ 38 → c ≡ None → Changes board (if_in_order board number 38) (if_in_order board after board) n c
+out_of_order board number after n c k is none = rw (is, none, k) (record { answers = refl; leaves = refl; fits = λ d e. cc })
 
 -- On one so kept, what the call does.
-pub so-kept : (board : List Row) (number : ℕ) (after : List Row) (c : Change) → in_address_order board ≡ true → Changes board number after c → Changes board (if_in_order board number 38) (if_in_order board after board) c
-so-kept board number after c k made = rw k made
+pub so-kept : (board : List Row) (number : ℕ) (after : List Row) (n : ℕ) (c : Option Change) → in_address_order board ≡ true → Changes board number after n c → Changes board (if_in_order board number 38) (if_in_order board after board) n c
+so-kept board number after n c k made = rw k made
 
--- What is answered by value, on one so kept and on another.
-pub answered : {A : Type 0} (board : List Row) (answer x y : A) → in_address_order board ≡ true → answer ≡ x → answer ≡ if_in_order board x y
-answered board answer x y k e = e ∙ sym (ap (λ (t : Bool). pick t x y) k)
+-- What a search found is none, or it is not.
+pub no-other : {A : Type 0} (r : Option A) → ((x : A) → r ≡ Some x → ⊥) → r ≡ None
+no-other None none = refl
+no-other (Some x) none = absurd (none x refl)
 
-pub not-answered : {A : Type 0} (board : List Row) (answer x y : A) → in_address_order board ≡ false → answer ≡ y → answer ≡ if_in_order board x y
-not-answered board answer x y k e = e ∙ sym (ap (λ (t : Bool). pick t x y) k)
+-- So of the changes of a call: where nothing was found, and where something was.
+module _ (found : Option Found) (address : ℕ) (number : List Row → ℕ) (after : List Row → List Row) (n : ℕ) (c : Option Change) where
+  pub changes-none : found ≡ None → n ≡ 38 → c ≡ None → ChangesOn found address number after n c
+  changes-none none is unchanged = record { on = λ board finds. out_of_order board _ _ n c (subst (Finds board address) none finds) is unchanged }
+
+  pub changes-some : (f : Found) → found ≡ Some f → ((board : List Row) → Sees board address f → Changes board (number board) (after board) n c) → ChangesOn found address number after n c
+  changes-some f some made =
+      record { on = λ board finds. let sees = subst (Finds board address) some finds in so-kept board _ _ n c sees.order (made board sees) }
+
+-- And of what is answered by value, where something was.
+pub answers-some : {A : Type 0} (found : Option Found) (f : Found) (address : ℕ) (answer y : A) (x : List Row → A) → found ≡ Some f → ((board : List Row) → Sees board address f → answer ≡ x board) → (board : List Row) → Finds board address found → answer ≡ if_in_order board (x board) y
+answers-some found f address answer y x some is board finds =
+    let sees = subst (Finds board address) some finds in is board sees ∙ sym (ap (λ (t : Bool). pick t (x board) y) sees.order)
 
 module _ (board : List Row) where
-  put-there : (at : ℕ) (row : Row) (number place : ℕ) → at < length board → (moved (change_of at row number place) board ≡ set board at row) × FitsIn (length board) (change_of at row number place)
-  put-there at row number place l = (carry-one at row board, onward refl refl (omega arith))
+  -- a change of one row
+  put-there : (at : ℕ) (row : Row) → at < length board → (moved (change_of at row) board ≡ set board at row) × FitsIn (length board) (change_of at row)
+  put-there at row l = (carry-one at row board, onward refl refl (omega arith))
 
-  put-nowhere : (number : ℕ) → (moved (refusal number) board ≡ board) × FitsIn (length board) (refusal number)
-  put-nowhere number = (carry-none 1 0 0 free_row board, onward refl refl (omega arith))
+  -- a change that fits is the only one that there is
+  alone : (c : Change) → FitsIn (length board) c → (d : Change) → Some c ≡ Some d → FitsIn (length board) d
+  alone c fits d e = let same : c ≡ d = cc in subst (FitsIn (length board)) same fits
 
   -- a refusal changes no row
-  pub refuses : (n number : ℕ) (changed : List Row) (c : Change) → eqb n 0 ≡ false → c ≡ refusal n → number ≡ n → Changes board number (pick (eqb number 0) changed board) c
-  refuses n number changed c z is e = rw (is, e) (rw z (record { answers = refl; leaves = (put-nowhere n).0; fits = (put-nowhere n).1 }))
+  pub refuses : (n number : ℕ) (changed : List Row) → eqb n 0 ≡ false → number ≡ n → Changes board number (pick (eqb number 0) changed board) n None
+  refuses n number changed z e = rw e (rw z (record { answers = refl; leaves = refl; fits = λ d e. cc }))
 
   -- number 0 leaves what the change makes of the board
-  pub alters : (number : ℕ) (changed : List Row) (c : Change) → c.number ≡ 0 → number ≡ 0 → moved c board ≡ changed → FitsIn (length board) c → Changes board number (pick (eqb number 0) changed board) c
-  alters number changed c z e is fits = rw e (record { answers = z; leaves = is; fits = fits })
+  pub alters : (number : ℕ) (changed : List Row) (c : Change) → number ≡ 0 → moved c board ≡ changed → FitsIn (length board) c → Changes board number (pick (eqb number 0) changed board) 0 (Some c)
+  alters number changed c e is fits = rw e (record { answers = refl; leaves = is; fits = alone c fits })
 
   module _ (at : ℕ) (row : Row) (minute : ℕ) (r : Reading) (level : Level) where
     -- what a hearing leaves, by whether the reply was good, a digit was unreadable, and the fault is set; and the place that it names
     abbrev Left : Bool → Bool → Bool → ℕ → List Row
     Left is-good is-seven is_set number = pick is-good (set board at (with_reading row r minute)) (pick is_set (set board at (with_fault row number (pick is-seven (place_lost level) 0))) board)
 
-    abbrev Hearing : Bool → Bool → Bool → ℕ → Change → Type 0
-    Hearing is-good is-seven is_set number c = Changes board number (Left is-good is-seven is_set number) c × (c.place ≡ pick is-seven (place_lost level) 0)
+    abbrev Heard : Bool → Bool → Bool → ℕ → Result Hearing Fault → Type 0
+    Heard is-good is-seven is_set number a = Changes board number (Left is-good is-seven is_set number) (said_of (wrong_by a)).number (heard_change a) × ((said_of (wrong_by a)).place ≡ pick is-seven (place_lost level) 0)
 
     -- a hearing refused before the reply is read
-    pub unheard : (n number : ℕ) (c : Change) → eqb n 0 ≡ false → eqb n 7 ≡ false → sets_fault n ≡ false → c ≡ refusal n → number ≡ n → Hearing (eqb number 0) (eqb number 7) (sets_fault number) number c
-    unheard n number c z v f is e = rw (is, e) (rw (z, v, f) (record { answers = refl; leaves = (put-nowhere n).0; fits = (put-nowhere n).1 }, refl))
+    pub unheard : (f : Fault) (number : ℕ) → eqb (number_of f) 0 ≡ false → eqb (number_of f) 7 ≡ false → sets_fault (number_of f) ≡ false → place_named f ≡ 0 → number ≡ number_of f → Heard (eqb number 0) (eqb number 7) (sets_fault number) number (Err f)
+    unheard f number z v s p e = rw (e, z, v, s) (record { answers = refl; leaves = refl; fits = λ d e. cc }, p)
 
-    abbrev Heard-as : ℕ → Change → Type 0
-    Heard-as number c = Hearing (eqb number 0) (eqb number 7) (sets_fault number) number c
+    abbrev Heard-as : ℕ → Result Hearing Fault → Type 0
+    Heard-as number a = Heard (eqb number 0) (eqb number 7) (sets_fault number) number a
 
-    -- the change that a refusal of the frame makes, whatever its number but 0
-    refused-by : (is-seven is_set : Bool) (number : ℕ) → eqb number 7 ≡ is-seven → sets_fault number ≡ is_set → at < length board
-        → Hearing false is-seven is_set number (heard_change at row minute (pick is-seven (Unreadable (place_lost level)) (Refused number)))
-    refused-by true true number v f l =
-        let e : number ≡ 7 = eqb-true number 7 v in
-        (record { answers = sym e; leaves = (put-there at (with_fault row 7 (place_lost level)) 7 (place_lost level) l).0 ∙ ap (λ (n : ℕ). set board at (with_fault row n (place_lost level))) (sym e); fits = (put-there at (with_fault row 7 (place_lost level)) 7 (place_lost level) l).1 }, refl)
-    refused-by true false number v f l =
-        let b : ◌≡◌ {A = Bool} true false = sym sets-7 ∙ ap sets_fault (sym (eqb-true number 7 v)) ∙ f in let bad : ◌≡◌ {A = ℕ} 0 1 = cc in absurd (omega arith)
-    refused-by false true number v f l = rw f (record { answers = refl; leaves = (put-there at (with_fault row number 0) number 0 l).0; fits = (put-there at (with_fault row number 0) number 0 l).1 }, refl)
-    refused-by false false number v f l = rw f (record { answers = refl; leaves = (put-nowhere number).0; fits = (put-nowhere number).1 }, refl)
+    -- a faulty reply is counted
+    counted : (f : Fault) (number p : ℕ) → number_of f ≡ number → place_named f ≡ p → at < length board
+        → Changes board number (set board at (with_fault row number p)) (said_of (Some f)).number (Some (faulty_hearing at row f).change) × ((said_of (Some f)).place ≡ p)
+    counted f number p e q l =
+        let t = put-there at (with_fault row (number_of f) (place_named f)) l in
+        (record { answers = e; leaves = t.0 ∙ ap (λ (n : ℕ). set board at (with_fault row n (place_named f))) e ∙ ap (λ (k : ℕ). set board at (with_fault row number k)) q; fits = alone _ t.1 }, q)
+
+    -- what a refusal of the frame makes, whatever its number but 0
+    refused-by : (is-seven is_set : Bool) (f : Fault) (number : ℕ) → number_of f ≡ number → place_named f ≡ pick is-seven (place_lost level) 0 → sets_fault number ≡ is_set → at < length board
+        → Heard false is-seven is_set number (hearing_of at row minute (Err f))
+    refused-by is-seven true f number e q s l = rw (ap sets_fault e ∙ s) (counted f number _ e q l)
+    refused-by is-seven false f number e q s l = rw (ap sets_fault e ∙ s) (record { answers = e; leaves = refl; fits = λ d e. cc }, q)
 
     -- whether the temperature read is outside the row's profile
     abbrev out : Bool
     out = outside_by row.settings row.gauge r.temperature
 
-    -- the change that a reading makes: it is set, or 26
-    read-by : (is-out : Bool) → at < length board → Heard-as (pick is-out 26 0) (pick is-out (change_of at (with_fault row 26 0) 26 0) (change_of at (with_reading row r minute) 0 0))
-    read-by true l = rw sets-26 (record { answers = refl; leaves = (put-there at (with_fault row 26 0) 26 0 l).0; fits = (put-there at (with_fault row 26 0) 26 0 l).1 }, refl)
-    read-by false l = (record { answers = refl; leaves = (put-there at (with_reading row r minute) 0 0 l).0; fits = (put-there at (with_reading row r minute) 0 0 l).1 }, refl)
+    -- what a reading makes: it is set, or 26
+    read-by : (is-out : Bool) → at < length board → Heard-as (pick is-out 26 0) (Ok (pick is-out (faulty_hearing at row OutsideProfile) (record { change = change_of at (with_reading row r minute); wrong = None })))
+    read-by true l = rw sets-26 (counted OutsideProfile 26 0 refl refl l)
+    read-by false l = let t = put-there at (with_reading row r minute) l in (record { answers = refl; leaves = t.0; fits = alone _ t.1 }, refl)
 
-    -- the change that the frame's answer makes, by whether it refuses
-    heard-by : (good : Bool) (fault : ℕ) → eqb fault 0 ≡ good → at < length board → Heard-as (pick (not good) fault (pick out 26 0)) (heard_change at row minute (pick good (Read r) (refused_by level fault)))
-    heard-by true fault z l = read-by out l
-    heard-by false fault z l = rw z (refused-by (eqb fault 7) (sets_fault fault) fault refl refl l)
+    -- what the frame's answer makes, by whether it refuses: the fault has the number, and the place beside 7
+    heard-by : (good : Bool) (fault : ℕ) → eqb fault 0 ≡ good → fault ≤ 38 → at < length board → Heard-as (pick (not good) fault (pick out 26 0)) (hearing_of at row minute (pick good (Ok r) (Err (refused_by level fault))))
+    heard-by true fault z s l = read-by out l
+    heard-by false fault z s l =
+        let some : fault ≡ 0 → ⊥ = eqb-false fault 0 z in
+        rw z (refused-by (eqb fault 7) (sets_fault fault) (refused_by level fault) fault (named-number level fault some s) (named-place level fault s) refl l)
 
-    pub hears : (fault number : ℕ) (c : Change) (answer : Reply) → c ≡ heard_change at row minute answer → answer ≡ pick (eqb fault 0) (Read r) (refused_by level fault)
-        → number ≡ pick (not (eqb fault 0)) fault (pick out 26 0) → at < length board → Heard-as number c
-    hears fault number c answer is e n l = rw (is, e, n) (heard-by (eqb fault 0) fault refl l)
+    pub hears : (fault number : ℕ) (answer : Result Reading Fault) → answer ≡ pick (eqb fault 0) (Ok r) (Err (refused_by level fault))
+        → number ≡ pick (not (eqb fault 0)) fault (pick out 26 0) → fault ≤ 38 → at < length board → Heard-as number (hearing_of at row minute answer)
+    hears fault number answer e n s l = rw (e, n) (heard-by (eqb fault 0) fault refl s l)

@@ -7,39 +7,39 @@ use mathlib.Core.List.{List, [], ◌∷◌, ◌++◌}
 use Prim.Native.Nat.{ℕ, zero, suc, ◌+◌, ◌-◌, ◌<◌, ◌≤◌}
 use native.Mathlib.Omega.{arith}
 use native.Mathlib.Numerals.{add-one}
+use Rattle.std.specs.Prelude.{Option, None, Some, is_some}
 use lib.Dec.{eqb, leb, ltb}
 use lib.ListN.{length, get_or, drop, replicate, length-append, length-replicate, drop_of_length-le, get_or-append}
 use lib.Seq.{drop-cons}
-use borrow.Author.Tests.{ltb-true, ltb-false, le-leb, lt-leb, lt-ltb, le-ltb, eq-eqb, ne_eqb, eqb-true, eqb-false}
+use borrow.Author.Tests.{ltb-true, ltb-false, le-leb, lt-leb, le-ltb, ne_eqb, eqb-true, eqb-false}
 use Rattle.frame.specs.Pick.{pick}
 use Rattle.frame.proofs.Both.{both_left, both_right}
 use Rattle.board.specs.declared.Row.{Row}
 use Rattle.board.specs.Row.{is_free, free_row}
-use Rattle.board.specs.Rows.{holds, place_by, place_of, row_of, place_free}
+use Rattle.board.specs.Rows.{holds, place_by, place_of, place_free}
 use Rattle.board.specs.Order.{all_free, in_address_order_from, in_address_order, insert_row, without_row}
 use Rattle.board.specs.declared.value.Found.{Found}
-use Rattle.board.specs.declared.value.Search.{Search}
-use Rattle.board.specs.Inside.ByValue.{filled, reaches, place_for, over_free, over_low, over_used, over_row, searched, unsearched, found_by, not_in_order, Finds, carry, Within, onward, backward}
+use Rattle.board.specs.Inside.ByValue.{filled, reaches, place_for, Passed, over_free, over_low, over_used, over_row, searched, unsearched, Stands, RowAt, Sees, carry, Within, onward, backward}
 use Rattle.board.proofs.Places.{place-le}
 use Rattle.board.proofs.Order.{neither, free-holds, used-holds, off_cons, free_off, low-off, First, first_free, first_used, first-of}
 use Rattle.board.proofs.Carried.{free-place, for-place, of-place, or_left, or_right, insert-carry, without-carry}
 
 -- a row passed, by its tests
-abbrev by : Search → ℕ → Bool → Bool → Bool → Search
+abbrev by : Passed → ℕ → Bool → Bool → Bool → Passed
 by s m t u v = pick t (over_free s) (pick u (over_low s) (record { vacant = s.vacant; below = pick v (s.below + 1) s.below; least = m; kept = s.kept }))
 
-bounds-by : (s : Search) (m i : ℕ) (t u v : Bool) → s.vacant + s.below ≤ i → (by s m t u v).vacant + (by s m t u v).below ≤ i + 1
+bounds-by : (s : Passed) (m i : ℕ) (t u v : Bool) → s.vacant + s.below ≤ i → (by s m t u v).vacant + (by s m t u v).below ≤ i + 1
 bounds-by s m i true u v l = omega arith
 bounds-by s m i false true v l = omega arith
 bounds-by s m i false false true l = omega arith
 bounds-by s m i false false false l = omega arith
 
-low_by : (s : Search) (m : ℕ) (t u v : Bool) → s.kept ≡ false → (by s m t u v).kept ≡ false
+low_by : (s : Passed) (m : ℕ) (t u v : Bool) → s.kept ≡ false → (by s m t u v).kept ≡ false
 low_by s m true u v e = e
 low_by s m false true v e = refl
 low_by s m false false v e = e
 
-module _ (a : ℕ) (s : Search) (row : Row) where
+module _ (a : ℕ) (s : Passed) (row : Row) where
   pass-free : is_free row ≡ true → over_row a s row ≡ over_free s
   pass-free f = ap (λ (t : Bool). pick t (over_free s) (pick (ltb row.address s.least) (over_low s) (over_used a s row))) f
 
@@ -57,53 +57,53 @@ module _ (a : ℕ) (s : Search) (row : Row) where
   pass-bounds i l = bounds-by s (row.address + 1) i (is_free row) (ltb row.address s.least) (ltb row.address a) l
 
 -- Once a row was out of order, no row behind it mends that.
-stays-low : (a : ℕ) (s : Search) (rows : List Row) → s.kept ≡ false → (searched a s rows).kept ≡ false
+stays-low : (a : ℕ) (s : Passed) (rows : List Row) → s.kept ≡ false → (searched a s rows).kept ≡ false
 unfolding searched
 stays-low a s [] e = e
 stays-low a s (row ∷ rows) e =
     stays-low a (over_row a s row) rows (low_by s (row.address + 1) (is_free row) (ltb row.address s.least) (ltb row.address a) e)
 
 -- Free rows are counted, and nothing else comes of them.
-over-free : (a : ℕ) (s : Search) (rows : List Row) → all_free rows ≡ true → ((searched a s rows).vacant ≡ s.vacant + length rows) × (((searched a s rows).below ≡ s.below) × ((searched a s rows).kept ≡ s.kept))
+over-free : (a : ℕ) (s : Passed) (rows : List Row) → all_free rows ≡ true → ((searched a s rows).vacant ≡ s.vacant + length rows) × (((searched a s rows).below ≡ s.below) × ((searched a s rows).kept ≡ s.kept))
 unfolding searched all_free
 over-free a s [] e = (omega arith, (refl, refl))
 over-free a s (row ∷ rows) e =
     let h = over-free a (over_free s) rows (both_right (is_free row) (all_free rows) e) in
     let p = pass-free a s row (both_left (is_free row) (all_free rows) e) in
-    (ap (λ (z : Search). (searched a z rows).vacant) p ∙ h.0 ∙ omega arith, (ap (λ (z : Search). (searched a z rows).below) p ∙ h.1.0, ap (λ (z : Search). (searched a z rows).kept) p ∙ h.1.1))
+    (ap (λ (z : Passed). (searched a z rows).vacant) p ∙ h.0 ∙ omega arith, (ap (λ (z : Passed). (searched a z rows).below) p ∙ h.1.0, ap (λ (z : Passed). (searched a z rows).kept) p ∙ h.1.1))
 
 -- Nor do rows from the address on count as below it.
-over-high : (a : ℕ) (s : Search) (m : ℕ) (rows : List Row) → a ≤ m → s.least ≤ m → in_address_order_from m rows ≡ true → (searched a s rows).below ≡ s.below
+over-high : (a : ℕ) (s : Passed) (m : ℕ) (rows : List Row) → a ≤ m → s.least ≤ m → in_address_order_from m rows ≡ true → (searched a s rows).below ≡ s.below
 unfolding searched
 over-high a s m [] l g k = refl
 over-high a s m (row ∷ rows) l g k = go (over-high a (over_used a s row) (suc row.address) rows) (first-of m row rows k)
   where
     go : (a ≤ suc row.address → row.address + 1 ≤ suc row.address → in_address_order_from (suc row.address) rows ≡ true → (searched a (over_used a s row) rows).below ≡ pick (ltb row.address a) (s.below + 1) s.below) → First m row rows → (searched a (over_row a s row) rows).below ≡ s.below
-    go h (first_free f e) = ap (λ (z : Search). (searched a z rows).below) (pass-free a s row f) ∙ (over-free a (over_free s) rows e).1.0
+    go h (first_free f e) = ap (λ (z : Passed). (searched a z rows).below) (pass-free a s row f) ∙ (over-free a (over_free s) rows e).1.0
     go h (first_used f n e) =
-        ap (λ (z : Search). (searched a z rows).below) (pass-used a s row f (omega arith)) ∙ h (omega arith) (omega arith) e ∙ ap (λ (t : Bool). pick t (s.below + 1) s.below) (le-ltb row.address a (omega arith))
+        ap (λ (z : Passed). (searched a z rows).below) (pass-used a s row f (omega arith)) ∙ h (omega arith) (omega arith) e ∙ ap (λ (t : Bool). pick t (s.below + 1) s.below) (le-ltb row.address a (omega arith))
 
 -- Of rows so kept: how many are not free, the place for an address, and that none is out of order.
-abbrev Placed : ℕ → Search → Search → List Row → Type 0
+abbrev Placed : ℕ → Passed → Passed → List Row → Type 0
 Placed a s z rows = (z.vacant + place_free rows ≡ s.vacant + length rows) × ((z.below ≡ s.below + place_for a rows) × (z.kept ≡ s.kept))
 
-pub searched-places : (a : ℕ) (s : Search) (rows : List Row) → in_address_order_from s.least rows ≡ true → Placed a s (searched a s rows) rows
+pub searched-places : (a : ℕ) (s : Passed) (rows : List Row) → in_address_order_from s.least rows ≡ true → Placed a s (searched a s rows) rows
 unfolding searched place_by
 searched-places a s [] k = (omega arith, (omega arith, refl))
 searched-places a s (row ∷ rows) k = go (searched-places a (over_used a s row) rows) (first-of s.least row rows k)
   where
     go : (in_address_order_from (row.address + 1) rows ≡ true → Placed a (over_used a s row) (searched a (over_used a s row) rows) rows) → First s.least row rows → Placed a s (searched a (over_row a s row) rows) (row ∷ rows)
     go h (first_free f e) =
-        let p = ap (λ (z : Search). searched a z rows) (pass-free a s row f) in
+        let p = ap (λ (z : Passed). searched a z rows) (pass-free a s row f) in
         let w = over-free a (over_free s) rows e in
         let u = free-place true row rows f in
         let v = for-place true a row rows (or_left (is_free row) (leb a row.address) f) in
-        subst (λ (z : Search). Placed a s z (row ∷ rows)) (sym p) (omega (arith, w.0, u), (w.1.0 ∙ omega (arith, v), w.1.1))
+        subst (λ (z : Passed). Placed a s z (row ∷ rows)) (sym p) (omega (arith, w.0, u), (w.1.0 ∙ omega (arith, v), w.1.1))
     go h (first_used f n e) =
-        let p = ap (λ (z : Search). searched a z rows) (pass-used a s row f (omega arith)) in
+        let p = ap (λ (z : Passed). searched a z rows) (pass-used a s row f (omega arith)) in
         let w = h (ap (λ (m : ℕ). in_address_order_from m rows) (add-one row.address) ∙ e) in
         let u = free-place false row rows f in
-        subst (λ (z : Search). Placed a s z (row ∷ rows)) (sym p) (omega (arith, w.0, u), (below (ltb row.address a) refl w.1.0, w.1.1))
+        subst (λ (z : Passed). Placed a s z (row ∷ rows)) (sym p) (omega (arith, w.0, u), (below (ltb row.address a) refl w.1.0, w.1.1))
       where
         below : (t : Bool) → ltb row.address a ≡ t → (searched a (over_used a s row) rows).below ≡ pick (ltb row.address a) (s.below + 1) s.below + place_for a rows → (searched a (over_used a s row) rows).below ≡ s.below + place_for a (row ∷ rows)
         below true l w =
@@ -128,7 +128,7 @@ high-free (row ∷ rows) low k = go (first-of 0x10000 row rows k)
     go (first_used f n e) = let l : row.address < 0x10000 = low 0 (omega arith) in absurd (omega arith)
 
 -- Where no row was out of order, the rows are so kept.
-kept_back : (a : ℕ) (s : Search) (rows : List Row) → Low rows → (searched a s rows).kept ≡ true → in_address_order_from s.least rows ≡ true
+kept_back : (a : ℕ) (s : Passed) (rows : List Row) → Low rows → (searched a s rows).kept ≡ true → in_address_order_from s.least rows ≡ true
 unfolding searched in_address_order_from
 kept_back a s [] low k = refl
 kept_back a s (row ∷ rows) low k =
@@ -138,15 +138,15 @@ kept_back a s (row ∷ rows) low k =
         → (t u : Bool) → is_free row ≡ t → ltb row.address s.least ≡ u → pick (is_free row) (all_free rows) (leb s.least row.address && in_address_order_from (suc row.address) rows) ≡ true
     go free used true u f l =
         ap (λ (t : Bool). pick t (all_free rows) (leb s.least row.address && in_address_order_from (suc row.address) rows)) f
-        ∙ high-free rows (λ i l. low (suc i) (omega arith)) (free (sym (ap (λ (z : Search). (searched a z rows).kept) (pass-free a s row f)) ∙ k))
+        ∙ high-free rows (λ i l. low (suc i) (omega arith)) (free (sym (ap (λ (z : Passed). (searched a z rows).kept) (pass-free a s row f)) ∙ k))
     go free used false true f l =
-        neither (sym (ap (λ (z : Search). (searched a z rows).kept) (pass-low a s row f l)) ∙ k) (stays-low a (over_low s) rows refl)
+        neither (sym (ap (λ (z : Passed). (searched a z rows).kept) (pass-low a s row f l)) ∙ k) (stays-low a (over_low s) rows refl)
     go free used false false f l =
         let m : s.least ≤ row.address = ltb-false row.address s.least l in
         ap (λ (t : Bool). pick t (all_free rows) (leb s.least row.address && in_address_order_from (suc row.address) rows)) f
         ∙ ap (λ (t : Bool). t && in_address_order_from (suc row.address) rows) (le-leb s.least row.address m)
         ∙ sym (ap (λ (n : ℕ). in_address_order_from n rows) (add-one row.address))
-        ∙ used (sym (ap (λ (z : Search). (searched a z rows).kept) (pass-used a s row f m)) ∙ k)
+        ∙ used (sym (ap (λ (z : Passed). (searched a z rows).kept) (pass-used a s row f m)) ∙ k)
 
 -- Free rows behind a board change nothing of it.
 all-free-rows : (k : ℕ) → all_free (replicate k free_row) ≡ true
@@ -234,24 +234,24 @@ seen_of a least (row ∷ rows) k = go (seen_of a (suc row.address) rows) (first-
         by false l = seen_here a row rows f (ltb-false row.address a l) e
 
 -- One row of the pass, and its end.
-pub search-step : (a : ℕ) (s : Search) (board : List Row) (i : ℕ) → i < length board → searched a s (drop i board) ≡ searched a (over_row a s (get_or board i free_row)) (drop (i + 1) board)
+pub search-step : (a : ℕ) (s : Passed) (board : List Row) (i : ℕ) → i < length board → searched a s (drop i board) ≡ searched a (over_row a s (get_or board i free_row)) (drop (i + 1) board)
 unfolding searched
 search-step a s board i l =
     ap (searched a s) (drop-cons board i free_row l) ∙ ap (λ (k : ℕ). searched a (over_row a s (get_or board i free_row)) (drop k board)) (sym (add-one i))
 
-pub search-end : (a : ℕ) (s : Search) (board : List Row) (i : ℕ) → length board ≤ i → searched a s (drop i board) ≡ s
+pub search-end : (a : ℕ) (s : Passed) (board : List Row) (i : ℕ) → length board ≤ i → searched a s (drop i board) ≡ s
 unfolding searched
 search-end a s board i l = ap (searched a s) (drop_of_length-le board l)
 
 -- What is known where i rows have been passed: their counts are in bounds, their addresses are words, and what the pass over all rows comes to is what
 -- it comes to from here over the rest. It is so again one row on.
-abbrev pub Passing : ℕ → List Row → Search → ℕ → Type 0
+abbrev pub Passing : ℕ → List Row → Passed → ℕ → Type 0
 Passing a held s i = (s.vacant + s.below ≤ i) × (((j : ℕ) → j < i → (get_or held j free_row).address < 0x10000) × (searched a s (drop i held) ≡ searched a unsearched held))
 
-pub passes_on : (a : ℕ) (held : List Row) (s r : Search) (i : ℕ) → i < length held → (r ≡ over_row a s (get_or held i free_row)) × ((get_or held i free_row).address < 0x10000) → Passing a held s i → Passing a held r (i + 1)
+pub passes_on : (a : ℕ) (held : List Row) (s r : Passed) (i : ℕ) → i < length held → (r ≡ over_row a s (get_or held i free_row)) × ((get_or held i free_row).address < 0x10000) → Passing a held s i → Passing a held r (i + 1)
 passes_on a held s r i l e so = (
-  subst (λ (z : Search). z.vacant + z.below ≤ i + 1) (sym e.0) (pass-bounds a s (get_or held i free_row) i so.0),
-  (λ j m. words j m (ltb j i) refl, ap (λ (z : Search). searched a z (drop (i + 1) held)) e.0 ∙ sym (search-step a s held i l) ∙ so.1.1),
+  subst (λ (z : Passed). z.vacant + z.below ≤ i + 1) (sym e.0) (pass-bounds a s (get_or held i free_row) i so.0),
+  (λ j m. words j m (ltb j i) refl, ap (λ (z : Passed). searched a z (drop (i + 1) held)) e.0 ∙ sym (search-step a s held i l) ∙ so.1.1),
 )
   where
     words : (j : ℕ) → j < i + 1 → (t : Bool) → ltb j i ≡ t → (get_or held j free_row).address < 0x10000
@@ -260,64 +260,28 @@ passes_on a held s r i l e so = (
         let same : i ≡ j = omega (arith, ltb-false j i f) in
         subst (λ (k : ℕ). (get_or held k free_row).address < 0x10000) same e.1
 
--- What was found on a board so kept, by its places.
-module _ (a : ℕ) (board : List Row) (s : Search) (row : Row) (k : in_address_order board ≡ true) (used-is : 30 - s.vacant ≡ place_free board) (below-is : s.below ≡ place_for a board) (low : s.vacant + s.below ≤ 30) (there : s.below < length board → row ≡ get_or board s.below free_row) where
-  -- the place of the row, and the row
-  abbrev At : Bool → Type 0
-  At t = (pick t s.below (length board) ≡ place_of a board) × (pick t s.below (length board) < length board → row ≡ row_of a board)
-
-  on : s.below < 30 - s.vacant → s.below < length board
-  on l = omega (arith, used-is, place-le is_free board)
-
-  seen_at : (t : Bool) → (ltb s.below (30 - s.vacant) && eqb row.address a) ≡ t → Seen a board → At t
-  seen_at true e (seen less is at) =
-      let p : s.below ≡ place_of a board = below-is ∙ sym at in
-      (p, λ l. there l ∙ ap (λ (i : ℕ). get_or board i free_row) p)
-  seen_at false e (seen less is at) =
-      let l : s.below < 30 - s.vacant = subst (λ (n : ℕ). s.below < n) (sym used-is) (subst (λ (n : ℕ). n < place_free board) (sym below-is) less) in
-      let same : row.address ≡ a = ap (λ (r : Row). r.address) (there (on l)) ∙ ap (λ (i : ℕ). (get_or board i free_row).address) below-is ∙ is in
-      neither (ap (λ (t : Bool). t && eqb row.address a) (lt-ltb s.below (30 - s.vacant) l) ∙ eq-eqb row.address a same) e
-  seen_at true e (unseen none off) =
-      let l : s.below < 30 - s.vacant = ltb-true s.below (30 - s.vacant) (both_left (ltb s.below (30 - s.vacant)) (eqb row.address a) e) in
-      let same : row.address ≡ a = eqb-true row.address a (both_right (ltb s.below (30 - s.vacant)) (eqb row.address a) e) in
-      absurd (none (subst (λ (n : ℕ). n < place_free board) below-is (subst (λ (n : ℕ). s.below < n) used-is l)) (sym (ap (λ (i : ℕ). (get_or board i free_row).address) below-is) ∙ sym (ap (λ (r : Row). r.address) (there (on l))) ∙ same))
-  seen_at false e (unseen none off) = (omega (arith, place-le (holds a) board), λ l. absurd (omega arith))
-
-  at-is : At (ltb s.below (30 - s.vacant) && eqb row.address a)
-  at-is = seen_at (ltb s.below (30 - s.vacant) && eqb row.address a) refl (seen_of a 0 board k)
-
-  spot-at : (t : Bool) → pick t s.below (length board) < length board → s.below ≡ pick t s.below (length board)
-  spot-at true l = refl
-  spot-at false l = absurd (omega arith)
-
-  found_all : Finds board a (found_by s (length board) row a)
-  found_all =
-      record {
-        count = refl;
-        bounds = record { spot_free = omega arith; free_few = omega arith };
-        order = sym k;
-        place = λ _. at-is.0;
-        there = λ _. at-is.1;
-        vacant = λ _. used-is;
-        stands = λ _. below-is;
-        found = spot-at (ltb s.below (30 - s.vacant) && eqb row.address a);
-      }
-
 length-filled : (board : List Row) → length board ≤ 30 → length (filled board) ≡ 30
 length-filled board l =
     length-append board (replicate (30 - length board) free_row) ∙ ap (λ (n : ℕ). length board + n) (length-replicate (30 - length board) free_row) ∙ omega arith
 
--- What was found on a board, once all of the array that holds it has been passed and none of its rows was out of order.
-pub found-filled : (a : ℕ) (board : List Row) (s : Search) (row : Row) → length board ≤ 30 → s ≡ searched a unsearched (filled board) → s.kept ≡ true → Low (filled board) → s.vacant + s.below ≤ 30
-    → (s.below < length board → row ≡ get_or (filled board) s.below free_row) → Finds board a (found_by s (length board) row a)
-found-filled a board s row few all sound low bound there =
-    let k : in_address_order (filled board) ≡ true = kept_back a unsearched (filled board) low (sym (ap (λ (z : Search). z.kept) all) ∙ sound) in
-    let placed = subst (λ (z : Search). Placed a unsearched z (filled board)) (sym all) (searched-places a unsearched (filled board) k) in
+-- What a pass over the array that holds a board tells of the board, where none of its rows was out of order.
+pub record Told (a : ℕ) (board : List Row) (s : Passed) : Type 0 where
+  pub kept : in_address_order board ≡ true
+  pub used : 30 - s.vacant ≡ place_free board
+  pub below : s.below ≡ place_for a board
+
+pub told-filled : (a : ℕ) (board : List Row) (s : Passed) → length board ≤ 30 → s ≡ searched a unsearched (filled board) → s.kept ≡ true → Low (filled board) → Told a board s
+told-filled a board s few all sound low =
+    let k : in_address_order (filled board) ≡ true = kept_back a unsearched (filled board) low (sym (ap (λ (z : Passed). z.kept) all) ∙ sound) in
+    let placed = subst (λ (z : Passed). Placed a unsearched z (filled board)) (sym all) (searched-places a unsearched (filled board) k) in
     let free-is = place-more is_free refl board (30 - length board) in
     let for-is = place-more (reaches a) refl board (30 - length board) in
     let long = length-filled board few in
-    found_all a board s row (sym (kept_more 0 board (30 - length board)) ∙ k) (vacant-is s.vacant (place_free (filled board)) (place_free board) (length (filled board)) placed.0 free-is long) (below-is s.below (place_for a (filled board)) (place_for a board) placed.1.0 for-is) bound
-    (λ l. there l ∙ get_or-append board (replicate (30 - length board) free_row) free_row s.below l)
+    record {
+      kept = sym (kept_more 0 board (30 - length board)) ∙ k;
+      used = vacant-is s.vacant (place_free (filled board)) (place_free board) (length (filled board)) placed.0 free-is long;
+      below = below-is s.below (place_for a (filled board)) (place_for a board) placed.1.0 for-is;
+    }
   where
     vacant-is : (v p q n : ℕ) → v + p ≡ 0 + n → p ≡ q → n ≡ 30 → 30 - v ≡ q
     vacant-is v p q n e f g = omega arith
@@ -326,41 +290,70 @@ found-filled a board s row few all sound low bound there =
     below-is v p q e f = omega arith
 
 -- And where one was, the board is not so kept.
-pub found-low : (a : ℕ) (board : List Row) (s : Search) (i n : ℕ) → length board ≡ n → searched a s (drop i (filled board)) ≡ searched a unsearched (filled board) → s.kept ≡ false → Finds board a (not_in_order n)
-found-low a board s i n count all low =
-    record {
-      count = sym count;
-      bounds = record { spot_free = omega arith; free_few = omega arith };
-      order = sym (not-kept (in_address_order board) refl);
-      place = λ k. neither k (not-kept (in_address_order board) refl);
-      there = λ k. neither k (not-kept (in_address_order board) refl);
-      vacant = λ k. neither k (not-kept (in_address_order board) refl);
-      stands = λ k. neither k (not-kept (in_address_order board) refl);
-      found = λ l. absurd (omega arith);
-    }
+pub found-low : (a : ℕ) (board : List Row) (s : Passed) (i : ℕ) → searched a s (drop i (filled board)) ≡ searched a unsearched (filled board) → s.kept ≡ false → in_address_order board ≡ false
+found-low a board s i all low = not-kept (in_address_order board) refl
   where
     not-kept : (t : Bool) → in_address_order board ≡ t → in_address_order board ≡ false
     not-kept false e = e
     not-kept true e =
-        neither (searched-places a unsearched (filled board) (kept_more 0 board (30 - length board) ∙ e)).1.1 (sym (ap (λ (z : Search). z.kept) all) ∙ stays-low a s (drop i (filled board)) low)
+        neither (searched-places a unsearched (filled board) (kept_more 0 board (30 - length board) ∙ e)).1.1 (sym (ap (λ (z : Passed). z.kept) all) ∙ stays-low a s (drop i (filled board)) low)
+
+-- The row at the place for an address is its own where it is in use and has the address; else the address has none.
+module _ (a : ℕ) (board : List Row) (s : Passed) (told : Told a board s) where
+  abbrev here : Row
+  here = get_or (filled board) s.below free_row
+
+  there : s.below < length board → here ≡ get_or board s.below free_row
+  there l = get_or-append board (replicate (30 - length board) free_row) free_row s.below l
+
+  placed : here ≡ get_or board s.below free_row → here.address ≡ (get_or board (place_for a board) free_row).address
+  placed e = ap (λ (r : Row). r.address) e ∙ ap (λ (i : ℕ). (get_or board i free_row).address) told.below
+
+  pub row-own : s.below < 30 - s.vacant → here.address ≡ a → Stands board a s.below here
+  row-own less same = go (seen_of a 0 board told.kept)
+    where
+      on : s.below < length board
+      on = omega (arith, told.used, place-le is_free board)
+
+      go : Seen a board → Stands board a s.below here
+      go (seen l is at) =
+          let p : s.below ≡ place_of a board = told.below ∙ sym at in
+          record { place = p; on = on; there = there on ∙ ap (λ (i : ℕ). get_or board i free_row) p }
+      go (unseen none off) = absurd (none (omega (arith, told.used, told.below)) (sym (placed (there on)) ∙ same))
+
+  pub row-none : (s.below < 30 - s.vacant → here.address ≡ a → ⊥) → length board ≤ place_of a board
+  row-none other = go (seen_of a 0 board told.kept)
+    where
+      go : Seen a board → length board ≤ place_of a board
+      go (seen l is at) = absurd (other (omega (arith, told.used, told.below)) (placed (there (omega (arith, told.below, place-le is_free board))) ∙ is))
+      go (unseen none off) = off
+
+-- Whether the row of an address was found.
+pub found-none : (board : List Row) (a spot : ℕ) (r : Option Row) → is_some r ≡ false → RowAt board a spot r → length board ≤ place_of a board
+found-none board a spot None e at = at
+found-none board a spot (Some own) e at = neither refl e
+
+pub found-some : (board : List Row) (a spot : ℕ) (r : Option Row) → is_some r ≡ true → RowAt board a spot r → (spot ≡ place_of a board) × (spot < length board)
+found-some board a spot None e at = neither e refl
+found-some board a spot (Some own) e at = (at.place, at.on)
 
 -- The change that an enrolment makes of a board on which the address was not found, and that of a removal where it was.
-module _ (a : ℕ) (board : List Row) (f : Found) (finds : Finds board a f) (k : in_address_order board ≡ true) where
+module _ (a : ℕ) (board : List Row) (f : Found) (sees : Sees board a f) where
   pub moves-in : (row new : Row) → row ≡ new → new.address ≡ a → place_free board < length board → length board ≤ place_of a board → (carry 1 0 (f.free - f.spot + 1) f.spot row board ≡ insert_row new board) × Within (length board) 1 0 (f.free - f.spot + 1) f.spot
   moves-in row new is own room off = (
     ap (λ (r : Row). carry 1 0 (f.free - f.spot + 1) f.spot r board) is
-        ∙ ap (λ (i : ℕ). carry 1 0 (i - f.spot + 1) f.spot new board) (finds.vacant k)
-        ∙ ap (λ (i : ℕ). carry 1 0 (place_free board - i + 1) i new board) (finds.stands k)
+        ∙ ap (λ (i : ℕ). carry 1 0 (i - f.spot + 1) f.spot new board) sees.vacant
+        ∙ ap (λ (i : ℕ). carry 1 0 (place_free board - i + 1) i new board) sees.stands
         ∙ ap (λ (b : ℕ). carry 1 0 (place_free board - place_for b board + 1) (place_for b board) new board) (sym own)
         ∙ insert-carry new board room (subst (λ (b : ℕ). length board ≤ place_of b board) (sym own) off),
-    onward refl refl (omega (arith, finds.bounds.spot_free, finds.vacant k)),
+    onward refl refl (omega (arith, sees.bounds.spot_free, sees.vacant)),
   )
 
-  pub moves_out : (row : Row) → row ≡ free_row → f.at < f.n → (carry 0 1 (f.free - f.spot) f.free row board ≡ without_row a board) × Within (length board) 0 1 (f.free - f.spot) f.free
-  moves_out row is l = (
+  pub moves_out : (row : Row) → row ≡ free_row → f.spot ≡ place_of a board → f.spot < length board → (carry 0 1 (f.free - f.spot) f.free row board ≡ without_row a board) × Within (length board) 0 1 (f.free - f.spot) f.free
+  moves_out row is at on = (
     ap (λ (r : Row). carry 0 1 (f.free - f.spot) f.free r board) is
-        ∙ ap (λ (i : ℕ). carry 0 1 (i - f.spot) i free_row board) (finds.vacant k)
-        ∙ ap (λ (i : ℕ). carry 0 1 (place_free board - i) (place_free board) free_row board) (finds.found l ∙ finds.place k)
-        ∙ without-carry a 0 board k (omega (arith, finds.count, finds.place k)),
-    backward refl refl (omega arith) (omega (arith, finds.vacant k, place-le is_free board)),
+        ∙ ap (λ (i : ℕ). carry 0 1 (i - f.spot) i free_row board) sees.vacant
+        ∙ ap (λ (i : ℕ). carry 0 1 (place_free board - i) (place_free board) free_row board) at
+        ∙ without-carry a 0 board sees.order (omega (arith, at)),
+    backward refl refl (omega arith) (omega (arith, sees.vacant, place-le is_free board)),
   )

@@ -8,7 +8,7 @@ pub mod value;
 
 // A row as the host lends it: 24 bytes with no hole, integers alone, so that every bit pattern is a row. All zeros is a free row.
 #[repr(C)]
-#[derive(Clone, Copy)]
+#[derive(Clone, Copy, Default)]
 pub struct Row {
     pub minute: u32,
     pub address: u16,
@@ -44,7 +44,7 @@ pub struct Heard {
 // What looking answers: the refusal's number alone, or number 0 and what the row holds. It is laid out as a row is; its kind is at
 // most 4, its alarms are 0 or 1, and its gauge is the profile, 0 to 2, and 4 more with the mark.
 #[repr(C)]
-#[derive(Clone, Copy)]
+#[derive(Clone, Copy, Default)]
 pub struct Looked {
     pub minute: u32,
     pub address: u16,

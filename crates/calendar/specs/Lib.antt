@@ -1,2 +1,4 @@
 -- The calendar.
 pub mod Days
+-- What only the code needs.
+pub mod Inside

@@ -1,8 +1,9 @@
 // Days far away, counted on in leaps: to the next January, then by four hundred years, by years, and by months.
-ghost use Rattle.std.specs.Prelude.{◌≡◌, ◌-◌};
-ghost use Rattle.calendar.specs.Days.{year_days, first_of_month, days_after, days_from};
+ghost use Rattle.std.specs.Prelude.{◌≡◌, ◌≤◌, ◌<◌, MatchOption};
+ghost use Rattle.calendar.specs.Days.{days_in, year_days, days_from};
+ghost use Rattle.calendar.specs.Inside.Leaps.{day_of, LeapsTo};
 
-use crate::counting::{Day, days_in, february, from_first, next_month, year_after};
+use crate::counting::{Day, days_in, february, next_month, year_after};
 
 // A month, and how many days are left to count from its first day.
 #[derive(Clone, Copy)]
@@ -12,44 +13,90 @@ pub(crate) struct Rest {
     pub(crate) left: u64,
 }
 
-// On to the next January, or to the month where the days end before it.
-fn to_january(beginning: u32, first: u32, days: u64) -> Rest
-    ensures { days_after (first_of_month result.year result.month) result.left ≡ days_after (first_of_month beginning first) days }
-{
-    let mut year = beginning;
-    let mut month = first;
-    let mut left = days;
-    let mut size = days_in(year, month) as u64;
-    while size <= left {
-        if month == 1 {
-            return Rest { year, month, left };
-        }
-        left -= size;
-        year = year_after(year, month);
-        month = next_month(month);
-        size = days_in(year, month) as u64;
+impl Rest {
+    // The first of the next month; none where the days end in this one.
+    fn a_month_on(self) -> Option<Rest>
+        ensures { MatchOption result (self.left < days_in self.year self.month) (λ r. LeapsTo self r) }
+    {
+        let size = days_in(self.year, self.month);
+        let left = self.left.checked_sub(u64::from(size))?;
+        Some(Rest {
+            year: year_after(self.year, self.month),
+            month: next_month(self.month),
+            left,
+        })
     }
-    Rest { year, month, left }
-}
 
-// Any four hundred years have 146,097 days. Years and days so many that a sum might be too large are left to the smaller steps.
-fn by_centuries(r: Rest) -> Rest
-    ensures { days_after (first_of_month result.year result.month) result.left ≡ days_after (first_of_month r.year r.month) r.left }
-{
-    let many = r.left / 146_097;
-    if r.month != 1 {
-        return r;
+    // From one January to the next; none where the days end in this year, or it is another month.
+    fn a_year_on(self) -> Option<Rest>
+        ensures { MatchOption result Unit (λ r. LeapsTo self r) }
+    {
+        if self.month != 1 {
+            return None;
+        }
+        let left = self.left.checked_sub(days_of(self.year))?;
+        Some(Rest {
+            year: year_after(self.year, 12),
+            left,
+            ..self
+        })
     }
-    if 100_000 < many {
-        return r;
+
+    // On to the next January, or to the month where the days end before it.
+    fn to_january(self) -> Rest
+        ensures { day_of result ≡ day_of self }
+    {
+        let mut r = self;
+        // No `for` fits: how many months there are to go hangs on the days that each has.
+        while r.month != 1 {
+            let Some(next) = r.a_month_on() else {
+                return r;
+            };
+            r = next;
+        }
+        r
     }
-    if 4_000_000_000 < r.year {
-        return r;
+
+    // Any four hundred years have 146,097 days. Years and days so many that a sum might be too large are left to the smaller steps.
+    fn by_centuries(self) -> Rest
+        ensures { day_of result ≡ day_of self }
+    {
+        let many = self.left / 146_097;
+        if self.month != 1 || 100_000 < many || 4_000_000_000 < self.year {
+            return self;
+        }
+        Rest {
+            year: self.year + 400 * (many as u32),
+            left: self.left - 146_097 * many,
+            ..self
+        }
     }
-    Rest {
-        year: r.year + 400 * (many as u32),
-        month: 1,
-        left: r.left - 146_097 * many,
+
+    fn by_years(self) -> Rest
+        ensures { day_of result ≡ day_of self }
+    {
+        let mut r = self;
+        // No `for` fits: how many years there are to go hangs on the days that each has.
+        while let Some(next) = r.a_year_on() {
+            r = next;
+        }
+        r
+    }
+
+    // Month by month to the day itself.
+    fn by_months(self) -> Day
+        ensures { result ≡ day_of self }
+    {
+        let mut r = self;
+        // No `for` fits: how many months there are to go hangs on the days that each has.
+        while let Some(next) = r.a_month_on() {
+            r = next;
+        }
+        Day {
+            year: r.year,
+            month: r.month,
+            day: r.left as u32 + 1,
+        }
     }
 }
 
@@ -57,47 +104,19 @@ fn by_centuries(r: Rest) -> Rest
 fn days_of(year: u32) -> u64
     ensures { result ≡ year_days year }
 {
-    337 + february(year) as u64
+    337 + u64::from(february(year))
 }
 
-fn by_years(r: Rest) -> Rest
-    ensures { days_after (first_of_month result.year result.month) result.left ≡ days_after (first_of_month r.year r.month) r.left }
-{
-    if r.month != 1 {
-        return r;
-    }
-    let mut year = r.year;
-    let mut left = r.left;
-    let mut size = days_of(year);
-    while size <= left {
-        left -= size;
-        year = year_after(year, 12);
-        size = days_of(year);
-    }
-    Rest {
-        year,
-        month: 1,
-        left,
-    }
-}
-
-// How many days of its month are over where a day begins.
-fn days_over(day: u32) -> u64
-    ensures { result ≡ day - 1 }
-{
-    if day < 1 {
-        return 0;
-    }
-    (day - 1) as u64
-}
-
-// The day that comes so many days after another.
+// The day that comes so many days after another, whose month's days before it are counted too.
 pub fn after(begin: Day, days: u32) -> Day
     ensures { result ≡ days_from begin days }
 {
-    let left = (days as u64) + days_over(begin.day);
-    let january = to_january(begin.year, begin.month, left);
-    let year = by_centuries(january);
-    let near = by_years(year);
-    from_first(near.year, near.month, near.left)
+    let over = begin.day.saturating_sub(1);
+    let first = Rest {
+        year: begin.year,
+        month: begin.month,
+        left: u64::from(days) + u64::from(over),
+    };
+    let january = first.to_january();
+    january.by_centuries().by_years().by_months()
 }

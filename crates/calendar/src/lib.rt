@@ -5,6 +5,6 @@ mod counting;
 mod leaps;
 mod reading;
 
-pub use counting::{Day, no_day};
+pub use counting::Day;
 pub use leaps::after;
 pub use reading::day_in;

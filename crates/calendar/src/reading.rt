@@ -1,63 +1,31 @@
 // A day read from text.
-ghost use Rattle.std.specs.Prelude.{◌≤◌};
+ghost use Rattle.std.specs.Prelude.{◌≤◌, ◌<◌, IfSome};
 ghost use Rattle.calendar.specs.Days.{days_in};
 
-use crate::counting::{Day, days_in, no_day};
+use crate::counting::{Day, days_in};
 
-// What a digit says; far above any year, month or day where it is none.
-fn digit(b: u8) -> u32
-    ensures { result ≤ 100000 }
+// What two digits say; none where one is no digit.
+fn two_digits(a: u8, b: u8) -> Option<u32>
+    ensures { IfSome result (λ n. n < 100) }
 {
-    if b < b'0' {
-        return 100_000;
+    match (a, b) {
+        (b'0'..=b'9', b'0'..=b'9') => Some(10 * u32::from(a - b'0') + u32::from(b - b'0')),
+        _ => None,
     }
-    if b'9' < b {
-        return 100_000;
-    }
-    (b - b'0') as u32
-}
-
-fn two_digits(a: u8, b: u8) -> u32
-    ensures { result ≤ 1100000 }
-{
-    10 * digit(a) + digit(b)
-}
-
-// A day that the calendar has, or none.
-fn checked(year: u32, month: u32, day: u32) -> Day
-    ensures { result.day ≤ days_in result.year result.month }
-{
-    if 9999 < year {
-        return no_day();
-    }
-    if month < 1 {
-        return no_day();
-    }
-    if 12 < month {
-        return no_day();
-    }
-    if days_in(year, month) < day {
-        return no_day();
-    }
-    Day { year, month, day }
 }
 
 // The day that ten bytes write, as 2026-11-01; none where they write no day of the calendar.
-pub fn day_in(text: &[u8]) -> Day
-    ensures { result.day ≤ days_in result.year result.month }
+pub fn day_in(text: &[u8]) -> Option<Day>
+    ensures { IfSome result (λ d. (0 < d.day) × (d.day ≤ days_in d.year d.month)) }
 {
-    if text.len() != 10 {
-        return no_day();
+    let [y1, y2, y3, y4, b'-', m1, m2, b'-', d1, d2] = *text else {
+        return None;
+    };
+    let year = 100 * two_digits(y1, y2)? + two_digits(y3, y4)?;
+    let month = two_digits(m1, m2)?;
+    let day = two_digits(d1, d2)?;
+    if month < 1 || 12 < month || day < 1 || days_in(year, month) < day {
+        return None;
     }
-    if text[4] != b'-' {
-        return no_day();
-    }
-    if text[7] != b'-' {
-        return no_day();
-    }
-    checked(
-        100 * two_digits(text[0], text[1]) + two_digits(text[2], text[3]),
-        two_digits(text[5], text[6]),
-        two_digits(text[8], text[9]),
-    )
+    Some(Day { year, month, day })
 }

@@ -17,7 +17,7 @@ with_slot Spoiled t = record { slots = t.slots; records = t.records; spoiled = t
 with_slot Foreign t = record { slots = t.slots; records = t.records; spoiled = t.spoiled; foreign = t.foreign + 1; first = t.first; last = t.last }
 with_slot (Record h) t =
     record { slots = t.slots; records = t.records + 1; spoiled = t.spoiled; foreign = t.foreign; first = min t.first h.minute; last = max t.last h.minute }
-with_slot (Refused n) t = t
+with_slot (Refused f) t = t
 
 -- The first k slots, and all. Of a sheet of a size that is not allowed every look is refused, and nothing is counted.
 unfoldable pub tally_up_to : List ℕ → ℕ → Tally

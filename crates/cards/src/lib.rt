@@ -7,5 +7,5 @@ mod reading;
 mod words;
 
 pub use counting::{Tally, count};
-pub use reading::{Input, read_card};
+pub use reading::{Unread, read_card};
 pub use words::is_card;

@@ -1,6 +1,6 @@
 // What is said on standard error of an input that is no card to go by.
+use crate::Unread;
 use crate::counting::Tally;
-use crate::reading::Input;
 use std::io;
 
 fn say(err: &impl Print, name: &[u8], words: &[u8]) -> io::Result<()> {
@@ -10,7 +10,13 @@ fn say(err: &impl Print, name: &[u8], words: &[u8]) -> io::Result<()> {
 }
 
 // Words with a number in them.
-fn say_number(err: &impl Print, name: &[u8], words: &[u8], n: u64, after: &[u8]) -> io::Result<()> {
+fn say_number(
+    err: &impl Print,
+    name: &[u8],
+    words: &[u8],
+    n: usize,
+    after: &[u8],
+) -> io::Result<()> {
     say(err, name, words)?;
     err.print(n)?;
     err.write_all(after)
@@ -31,7 +37,7 @@ fn size_right(err: &impl Print, name: &[u8], size: usize) -> io::Result<bool> {
             err,
             name,
             b"fault 12: ",
-            size as u64,
+            size,
             b" bytes are no whole number of slots of 32 bytes\n",
         )?;
         return Ok(false);
@@ -43,27 +49,29 @@ fn size_right(err: &impl Print, name: &[u8], size: usize) -> io::Result<bool> {
     Ok(true)
 }
 
-// An input was read to its end, a sheet may have its size, and a recorder may have written it. No recorder wrote a sheet that has foreign slots and no
-// record: bytes by chance begin a slot with FF here and there, so a spoiled slot beside them says nothing. Where it answers false, it has said why.
-pub fn is_card(err: &impl Print, name: &[u8], input: Input, tally: Tally) -> io::Result<bool> {
-    if input.failed {
+// An input was read to its end, a sheet may have its size, and a recorder may have written it. No recorder wrote a sheet that has foreign slots and no record: bytes by chance begin
+// a slot with FF here and there, so a spoiled slot beside them says nothing. Where it answers false, it has said why.
+pub fn is_card(
+    err: &impl Print,
+    name: &[u8],
+    read: Result<usize, Unread>,
+    tally: Tally,
+) -> io::Result<bool> {
+    let Ok(size) = read else {
         say(err, name, b"cannot be read\n")?;
         return Ok(false);
-    }
-    if !size_right(err, name, input.size)? {
+    };
+    if !size_right(err, name, size)? {
         return Ok(false);
     }
-    if tally.records != 0 {
-        return Ok(true);
-    }
-    if tally.foreign == 0 {
+    if tally.records != 0 || tally.foreign == 0 {
         return Ok(true);
     }
     say_number(
         err,
         name,
         b"no recorder's card: no slot holds a record, and ",
-        tally.foreign as u64,
+        tally.foreign,
         b" of them hold something else\n",
     )?;
     Ok(false)

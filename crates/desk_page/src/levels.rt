@@ -1,20 +1,27 @@
 // A level as people say it, by the words of `forms`: 15 ft 7 8/16 in, 30.00 ft, 3.000 m.
-use crate::columns::blanks;
 use forms::words::put_level;
-use print::words;
-use std::io;
+use putting::Text;
+use std::fmt;
 
-// Wide enough for every level, and two blanks before it.
-const WIDTH: usize = 19;
+// A level by the mode of its settings; a dash where there is none.
+#[derive(Clone, Copy)]
+pub(crate) struct Level {
+    pub(crate) settings: u16,
+    pub(crate) level: u16,
+}
 
-// A level by the mode of its settings, at the right end of its column; a dash where there is none.
-pub(crate) fn level(rt: &impl Print, n: u16, settings: u16) -> io::Result<()> {
-    if n == 0xffff {
-        blanks(rt, 1, WIDTH)?;
-        return words(rt, b"-");
+impl fmt::Display for Level {
+    fn fmt<W: fmt::Write>(&self, f: &mut fmt::Formatter<W>) -> fmt::Result {
+        if self.level == 0xffff {
+            return f.pad("-");
+        }
+        let mut words = [0u8; 64];
+        let mut text = Text {
+            out: &mut words,
+            at: 0,
+        };
+        put_level(&mut text, self.settings, self.level);
+        let used = text.at;
+        f.pad(str::from_utf8(&words[..used]).unwrap_or(""))
     }
-    let mut text = [0u8; 64];
-    let used = put_level(&mut text, 0, settings, n);
-    blanks(rt, used, WIDTH)?;
-    words(rt, &text[..used])
 }

@@ -5,19 +5,21 @@
 #![tactic(auto)]
 
 mod about;
-mod columns;
 mod levels;
 mod pages;
 mod table;
 
+use print::Stop;
 use std::io;
+use std::rt::{Env, Files};
+
+fn show(rt: &(impl Env + Files + Input + Print), err: &impl Print) -> Result<(), Stop> {
+    let page = pages::read_all(rt, err)?;
+    table::print(rt, page)?;
+    Ok(())
+}
 
 fn main(rt: HostRuntime) -> io::Result<()> {
-    let page = pages::read_all(&rt, &rt.stderr())?;
-    if page.status == 0 {
-        table::print(&rt, page.summary)?;
-    }
-    print::words(&rt, b"status ")?;
-    print::number(&rt, page.status as u64)?;
-    print::words(&rt, b"\n")
+    let ended = show(&rt, &rt.stderr());
+    print::end(&rt, &rt.stderr(), ended)
 }

@@ -10,7 +10,8 @@ use native.Mathlib.Nat.{zero-add}
 use borrow.Author.Tests.{leb-true, leb-false}
 use lib.Dec.{leb}
 use lib.ListN.{length, get_or, take, drop, set, replicate, length-take, length-drop, length-replicate, get_or-replicate, get_or-append}
-use lib.Seq.{sets, set-get_or, get_or-set_other, drop_at, length-sets, take-nil}
+use lib.Seq.{sets, set-get_or, get_or-set_other, drop_at, length-sets}
+use Rattle.std.proofs.lemmas.List.{take_min}
 use Rattle.frame.proofs.Fronts.{front}
 use Rattle.frame.proofs.Parts.{sets-append}
 use Rattle.drawing.specs.Pulses.{low_sample, bit_after}
@@ -46,14 +47,6 @@ take-run (suc n) zero x = let z : min (suc n) 0 ≡ 0 = omega arith in sym (ap (
 take-run (suc n) (suc m) x =
     let s : suc (min n m) ≡ min (suc n) (suc m) = omega arith in
     ap (λ (l : List ℕ). x ∷ l) (take-run n m x) ∙ ap (λ (k : ℕ). replicate k x) s
-
--- what does not fit is not asked for
-take_min : (n : ℕ) (l : List ℕ) → take (min n (length l)) l ≡ take n l
-take_min zero l = let z : min 0 (length l) ≡ 0 = omega arith in ap (λ (k : ℕ). take k l) z
-take_min (suc n) [] = take-nil (min (suc n) 0)
-take_min (suc n) (x ∷ l) =
-    let s : min (suc n) (suc (length l)) ≡ suc (min n (length l)) = omega arith in
-    ap (λ (k : ℕ). take k (x ∷ l)) s ∙ ap (λ (t : List ℕ). x ∷ t) (take_min n l)
 
 -- where nothing is left to put, the place says nothing
 at_place : (out rest : List ℕ) (i n s : ℕ) → sets out (i + min n s) (take (n - s) rest) ≡ sets out (i + s) (take (n - s) rest)

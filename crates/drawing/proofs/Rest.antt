@@ -1,16 +1,14 @@
 -- What is left of a drawing from a sample on: whole bits are passed by their number, and the rest is the rest of one bit and the bits after it. Assumes
 -- nothing.
 use mathlib.Core.Path.{◌≡◌, refl, sym, ap, ap₂, ◌∙◌}
-use mathlib.Core.Bool.{Bool, true, false}
 use mathlib.Core.List.{List, [], ◌∷◌, ◌++◌}
-use Prim.Native.Nat.{ℕ, zero, suc, ◌+◌, ◌-◌, ◌*◌, ◌/◌, ◌%◌, ◌≤◌, ◌<◌}
+use Prim.Native.Nat.{ℕ, zero, suc, ◌+◌, ◌-◌, ◌*◌, ◌/◌, ◌%◌, ◌≤◌}
 use native.Mathlib.Omega.{arith}
 use native.Mathlib.Numerals.{unary_clauses}
 use native.Mathlib.Nat.{div-add-mod', zero-add}
-use borrow.Author.Tests.{leb-true, leb-false}
-use lib.Dec.{leb}
-use lib.ListN.{length, drop, replicate, length-append, length-replicate, length-drop}
+use lib.ListN.{length, drop, replicate, length-append, length-replicate}
 use lib.Seq.{drop-nil, drop-append-le, drop-append-add}
+use Rattle.std.proofs.lemmas.List.{drop-replicate}
 use Rattle.drawing.specs.Pulses.{low_sample, bit_after, bits_after, drawn, drawing}
 
 -- one bit drawn
@@ -45,10 +43,7 @@ drawing-long low still count message =
 
 -- a run passed in part
 pub drop-run : (p n x : ℕ) → ◌≡◌ {A = List ℕ} (drop p (replicate n x)) (replicate (n - p) x)
-drop-run zero zero x = refl
-drop-run zero (suc n) x = simp unary_clauses refl
-drop-run (suc p) zero x = let z : 0 - suc p ≡ 0 = omega arith in rw z
-drop-run (suc p) (suc n) x = simp unary_clauses (drop-run p n x)
+drop-run p n x = drop-replicate p n x
 
 pub drop-both : (p : ℕ) (xs ys : List ℕ) → drop p (xs ++ ys) ≡ drop p xs ++ drop (p - length xs) ys
 drop-both zero [] ys = refl
@@ -94,12 +89,6 @@ module _ (low still : ℕ) (message : List ℕ) where
       ap (rest_of 0 count) (sym (div-add-mod' from (low + still))) ∙ passing b 0 count (from % (low + still))
       ∙ ap (λ (k : ℕ). rest_of k (count - b) (from % (low + still))) (zero-add b)
 
-  pub samples-left : (count from : ℕ)
-      → length (rest_of (from / (low + still)) (count - from / (low + still)) (from % (low + still))) ≡ count * (low + still) - from
-  samples-left count from =
-      ap length (sym (from-sample count from)) ∙ length-drop from (drawing low still count message)
-      ∙ ap (λ (n : ℕ). n - from) (drawing-long low still count message)
-
   -- the rest of one bit, and the bits after it
   pub next_bit : (before count passed : ℕ) → 1 ≤ count → passed ≤ low + still
       → rest_of before count passed ≡ drop passed (one low still (bit_after message before)) ++ rest_of (before + 1) (count - 1) 0
@@ -112,27 +101,3 @@ module _ (low still : ℕ) (message : List ℕ) where
       ap (drop passed) (bit-first low still b (bits_after (suc before) count message))
       ∙ drop-append-le passed (one low still b) (drawn low still (bits_after (suc before) count message)) (omega (arith, one-long low still b))
       ∙ ap₂ (λ (k n : ℕ). drop passed (one low still b) ++ drawn low still (bits_after k n message)) next left
-
-  pub samples-of-bit : (bit count passed : ℕ) → bit < count → passed ≤ low + still
-      → length (rest_of bit (count - bit) passed) ≡ low + still - passed + length (rest_of (bit + 1) (count - (bit + 1)) 0)
-  samples-of-bit bit count passed more h =
-      let b = bit_after message bit in
-      let left : count - bit - 1 ≡ count - (bit + 1) = omega arith in
-      ap length (next_bit bit (count - bit) passed (omega arith) h ∙ ap (λ (n : ℕ). drop passed (one low still b) ++ rest_of (bit + 1) n 0) left)
-      ∙ length-append (drop passed (one low still b)) (rest_of (bit + 1) (count - (bit + 1)) 0)
-      ∙ ap (λ (n : ℕ). n + length (rest_of (bit + 1) (count - (bit + 1)) 0)) (length-drop passed (one low still b) ∙ ap (λ (n : ℕ). n - passed) (one-long low still b))
-
-  pub no_bits : (before count passed : ℕ) → count ≡ 0 → rest_of before count passed ≡ []
-  unfolding drawn bits_after
-  no_bits before count passed e = ap (λ (n : ℕ). rest_of before n passed) e ∙ drop-nil passed
-
-  -- where samples are left there is a bit
-  pub some-bit : (bit count passed i end : ℕ) → i < end → end ≤ i + length (rest_of bit (count - bit) passed) → bit < count
-  some-bit bit count passed i end more enough = go (leb count bit) refl
-    where
-      go : (b : Bool) → leb count bit ≡ b → bit < count
-      go true e =
-          let h = leb-true count bit e in
-          let z : count - bit ≡ 0 = omega arith in
-          absurd (omega (arith, ap length (no_bits bit (count - bit) passed z)))
-      go false e = leb-false count bit e

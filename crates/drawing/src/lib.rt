@@ -5,7 +5,6 @@
 mod pulses;
 
 ghost use Rattle.std.specs.Prelude.{◌≡◌};
-ghost use Rattle.frame.specs.Pick.{within};
 ghost use Rattle.drawing.specs.Pulses.{bad_pulse};
 ghost use Rattle.drawing.specs.Calls.{done, Draws};
 
@@ -17,25 +16,16 @@ pub struct Done {
     pub number: u8,
 }
 
-fn within(low: usize, high: usize, n: usize) -> bool
-    ensures { result ≡ within low high n }
-{
-    (low <= n) & (n <= high)
-}
-
 pub fn bad_pulse(low: usize, still: usize) -> bool
     ensures { result ≡ bad_pulse low still }
 {
-    !within(1, 1000, low) | !within(1, 10000, still)
+    !(1..=1000).contains(&low) || !(1..=10000).contains(&still)
 }
 
 fn refusal(number: u8) -> Done
     ensures { result ≡ done 0 number }
 {
-    Done {
-        count: 0,
-        number: number,
-    }
+    Done { count: 0, number }
 }
 
 // Draws the bits of a message from a sample on, as many samples as there are or fit. Refuses 20, 14.

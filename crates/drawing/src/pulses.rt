@@ -1,10 +1,9 @@
 // Pulses put into an output that was made idle: a run of equal samples is filled at once.
-ghost use Rattle.std.specs.Prelude.{◌≡◌, ◌+◌, ◌-◌, ◌/◌, ◌<◌, ◌≤◌, min, length, drop, replicate};
-ghost use Rattle.std.proofs.lemmas.List.Edits.{sets};
+ghost use Rattle.std.specs.Prelude.{◌≡◌, ◌+◌, ◌/◌, ◌<◌, ◌≤◌, length, drop};
 ghost use Rattle.drawing.specs.Pulses.{low_sample, bit_after, drawing};
 ghost use Rattle.drawing.specs.Inside.Fills.{Fills};
 
-// A mark pulls line 1 low, a space line 2.
+// A mark pulls line 1 low, a space line 2: the numbers of C's samples.
 fn line_of(message: &[u8], passed: usize) -> u8
     requires { passed / 8 < length message.now }
     ensures { result ≡ low_sample (bit_after message.now passed) }
@@ -16,33 +15,7 @@ fn line_of(message: &[u8], passed: usize) -> u8
     }
 }
 
-// What is left of so many samples after some.
-fn rest(size: usize, passed: usize) -> usize
-    ensures { result ≡ size - passed }
-{
-    if passed < size { size - passed } else { 0 }
-}
-
-fn least(m: usize, n: usize) -> usize
-    ensures { result ≡ min m n }
-{
-    if m < n { m } else { n }
-}
-
-// Fills an output with one sample, from a place up to another.
-fn fill(out: &mut [u8], from: usize, end: usize, sample: u8)
-    requires from_le_end { from ≤ end }
-    requires end_in_bounds { end ≤ length out.old }
-    ensures { out.new ≡ sets out.old from (replicate (end - from) sample) }
-{
-    let mut i = from;
-    while i < end {
-        out[i] = sample;
-        i += 1;
-    }
-}
-
-// All of it idle first, and then the pulse of each bit, the first of them from where the samples begin.
+// All of it idle first, and then the pulse of each bit that is drawn, or what is left of it from the first sample on.
 pub(crate) fn draw(
     low: usize,
     still: usize,
@@ -59,21 +32,17 @@ pub(crate) fn draw(
     ensures { Fills (drop from (drawing low still count message.now)) out.old 0 result out.new }
 {
     let size = low + still;
-    let end = least(out.len(), rest(count * size, from));
-    fill(out, 0, end, 0);
-    let mut bit = from / size;
-    let mut passed = from % size;
-    let mut i = 0;
-    while i < end {
-        fill(
-            out,
-            i,
-            least(end, i + rest(low, passed)),
-            line_of(message, bit),
-        );
-        i += size - passed;
-        bit += 1;
-        passed = 0;
+    let past = from.saturating_add(out.len()).min(count * size);
+    let end = past.saturating_sub(from);
+    out[..end].fill(0);
+    for bit in from / size..count {
+        let first = bit * size;
+        if past <= first {
+            break;
+        }
+        let begin = first.saturating_sub(from);
+        let stop = (first + low).saturating_sub(from).min(end);
+        out[begin..stop].fill(line_of(message, bit));
     }
     end
 }

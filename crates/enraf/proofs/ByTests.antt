@@ -1,17 +1,17 @@
 -- Each definition that is a chain of tests, by what the tests give: a function that asks them one after another cites its law at each return. And back:
 -- what the tests gave, by the kind that was found or the record that was accepted. Assumes nothing.
-use mathlib.Core.Path.{◌≡◌, refl}
+use mathlib.Core.Path.{◌≡◌, refl, ap}
 use mathlib.Core.Bool.{Bool, true, false, not, ◌&&◌, ◌||◌}
 use mathlib.Core.List.{List, [], ◌∷◌}
-use Prim.Native.Nat.{ℕ, ◌+◌, ◌-◌, ◌*◌, ◌≤◌}
+use Prim.Native.Nat.{ℕ, ◌+◌, ◌-◌, ◌*◌, ◌≤◌, ◌<◌}
 use native.Mathlib.Omega.{arith}
-use borrow.Author.Tests.{eqb-true, eqb-false, leb-true}
+use borrow.Author.Tests.{eqb-true, eqb-false, leb-true, lt-leb}
 use lib.Dec.{eqb, leb, ltb}
 use lib.ListN.{length, get_or, take, drop}
 use Rattle.frame.specs.Pick.{pick}
 use Rattle.frame.specs.Faults.{first_of}
 use Rattle.frame.proofs.Both.{both}
-use Rattle.enraf.specs.Item.{Item, alone, setting, setting_taken, value, failed, equals, ampersand, exclamation, is_digit, digit_at, is_letter, all_characters, is_data, has_data, kind_fits, text_fits, begins, ends, is_taken, is_error, kind_in, characters_in, error_in}
+use Rattle.enraf.specs.Item.{Item, alone, setting, setting_taken, value, failed, equals, ampersand, exclamation, is_digit, digit_at, is_letter, is_data, has_data, kind_fits, text_fits, begins, ends, is_taken, is_error, kind_in, characters_in, error_in}
 use Rattle.enraf.specs.Record.{STX, ETX, B, Z, item_record}
 use Rattle.enraf.specs.Reading.{framed, check_right, addressed, item_in, read_fault}
 use Rattle.enraf.specs.Writing.{write_fault}
@@ -33,10 +33,6 @@ characters-by t x y z a b c = λ i. pick (a i) (drop 1 t) (pick (b i) (take (len
 pub number_by : (t : List ℕ) (x : Bool) → eqb (kind_in t) failed ≡ x → error_in t ≡ pick x (digit_at t 1 * 100 + digit_at t 2 * 10 + digit_at t 3) 0
 unfolding error_in
 number_by t x a = λ i. pick (a i) (digit_at t 1 * 100 + digit_at t 2 * 10 + digit_at t 3) 0
-
-pub data-by : (t : List ℕ) (x y z : Bool) → leb 1 (length t) ≡ x → leb (length t) 16 ≡ y → all_characters t ≡ z → is_data t ≡ (x && y && z)
-unfolding is_data
-data-by t x y z a b c = λ i. (a i && b i && c i)
 
 pub kind-fits-by : (kind error : ℕ) (d : List ℕ) (x y z w : Bool) → leb alone kind ≡ x → leb kind failed ≡ y
     → pick (has_data kind) (is_data d) (eqb (length d) 0) ≡ z → pick (eqb kind failed) (leb error 999) (eqb error 0) ≡ w
@@ -212,6 +208,13 @@ module _ (s : List ℕ) (h : framed s ≡ true) where
     eqb-true (get_or s (length s - 2) 0) ETX
         (both (leb 10 (length s) && eqb (get_or s 0 0) STX && eqb (get_or s 4 0) B && eqb (get_or s 5 0) Z) (eqb (get_or s (length s - 2) 0) ETX) h).1,
   )
+
+-- fewer than ten bytes are in no frame
+pub too-short : (s : List ℕ) → length s < 10 → framed s ≡ false
+unfolding framed
+too-short s short =
+    let few : leb 10 (length s) ≡ false = lt-leb 10 (length s) short in
+    ap (λ (b : Bool). (b && eqb (get_or s 0 0) STX && eqb (get_or s 4 0) B && eqb (get_or s 5 0) Z && eqb (get_or s (length s - 2) 0) ETX)) few
 
 pub address-digits : (s : List ℕ) → addressed s ≡ true
     → (is_digit (get_or s 1 0) ≡ true) × (is_digit (get_or s 2 0) ≡ true) × (is_digit (get_or s 3 0) ≡ true)

@@ -1,8 +1,6 @@
 -- Laws that the proofs of the functions cite.
 pub mod ByTests
 pub mod Sums
-pub mod Characters
 pub mod SixKinds
 pub mod Tails
-pub mod Filling
 pub mod Written

@@ -1,8 +1,8 @@
 -- What it says of a kind that it fits its error's number and its data. Assumes nothing.
-use mathlib.Core.Path.{◌≡◌, refl}
+use mathlib.Core.Path.{◌≡◌}
 use mathlib.Core.Bool.{Bool, true, false, ◌&&◌}
 use mathlib.Core.List.{List}
-use Prim.Native.Nat.{ℕ, zero, suc, ◌≤◌}
+use Prim.Native.Nat.{ℕ, ◌≤◌}
 use native.Mathlib.Omega.{arith}
 use borrow.Author.Tests.{leb-true, eqb-true}
 use lib.Dec.{eqb, leb}
@@ -45,17 +45,6 @@ module _ (kind error : ℕ) (d : List ℕ) (h : kind_fits kind error d ≡ true)
       go : (b : Bool) → pick b (is_data d) (eqb (length d) 0) ≡ true → length d ≤ 16
       go true e = data-few d e
       go false e = let z : length d ≡ 0 = eqb-true (length d) 0 e in omega arith
-
--- a kind that is none of the other five is the first
-pub the-first : (kind : ℕ) → 1 ≤ kind → kind ≤ 6 → (kind ≡ 2 → ⊥) → (kind ≡ 3 → ⊥) → (kind ≡ 4 → ⊥) → (kind ≡ 5 → ⊥) → (kind ≡ 6 → ⊥) → kind ≡ 1
-the-first zero low high b c d e f = absurd (omega arith)
-the-first (suc zero) low high b c d e f = refl
-the-first (suc (suc zero)) low high b c d e f = absurd (b refl)
-the-first (suc (suc (suc zero))) low high b c d e f = absurd (c refl)
-the-first (suc (suc (suc (suc zero)))) low high b c d e f = absurd (d refl)
-the-first (suc (suc (suc (suc (suc zero))))) low high b c d e f = absurd (e refl)
-the-first (suc (suc (suc (suc (suc (suc zero)))))) low high b c d e f = absurd (f refl)
-the-first (suc (suc (suc (suc (suc (suc (suc k))))))) low high b c d e f = absurd (omega arith)
 
 -- an item whose text fits has a kind that fits
 pub fits-kind : (i : Item) → text_fits i ≡ true → kind_fits i.kind i.error i.characters ≡ true

@@ -10,7 +10,8 @@ use lib.ListN.{length, take, drop, set, length-append}
 use lib.Seq.{sets, sets-eq, take_at}
 use Rattle.frame.specs.Pick.{pick}
 use Rattle.putting.specs.Digit.{digit}
-use Rattle.putting.specs.Puts.{Puts}
+use Rattle.putting.specs.Adds.{Adds}
+use Rattle.putting.specs.declared.Text.{Text}
 use Rattle.enraf.specs.declared.Done.{Done}
 use Rattle.enraf.specs.Check.{block_check}
 use Rattle.enraf.specs.Item.{Item, tail_of}
@@ -80,17 +81,17 @@ module _ (front out : List ℕ) (end : ℕ) (at : end ≡ suc (length front)) (r
 abbrev pub head_of : Item → List ℕ
 head_of i = STX ∷ digit i.ciu ∷ digit (i.gauge / 10) ∷ digit (i.gauge % 10) ∷ B ∷ Z ∷ i.first ∷ i.second ∷ []
 
-pub left : (i : Item) (out o1 o2 o3 : List ℕ) (end : ℕ) → length (item_record i) ≤ length out → o1 ≡ sets out 0 (head_of i)
-    → Puts (tail_of i.kind i.error i.characters) 18 o1 8 end o2
-    → o3 ≡ sets o2 end (ETX ∷ block_check (take end (drop 1 (set o2 end ETX))) ∷ [])
-    → o3 ≡ item_record i ++ drop (length (item_record i)) out
+pub left : {m n : ℕ} (i : Item) (first second third : Text) → first.at ≡ 0 → length (item_record i) ≤ length first.out.now
+    → Adds (head_of i ++ tail_of i.kind i.error i.characters) m first second
+    → Adds (ETX ∷ block_check (take second.at (drop 1 (set second.out.now second.at ETX))) ∷ []) n second third
+    → third.out.now ≡ item_record i ++ drop (length (item_record i)) first.out.now
 unfolding item_record checked_of
-left i out o1 o2 o3 end room one two three =
-    let t = tail_of i.kind i.error i.characters in
-    let front = digit i.ciu ∷ digit (i.gauge / 10) ∷ digit (i.gauge % 10) ∷ B ∷ Z ∷ i.first ∷ i.second ∷ t in
+left i first second third at room front-added end-added =
+    let out = first.out.now in
+    let front = digit i.ciu ∷ digit (i.gauge / 10) ∷ digit (i.gauge % 10) ∷ B ∷ Z ∷ i.first ∷ i.second ∷ tail_of i.kind i.error i.characters in
     let long = record-long i in
-    let place = two.ends in
-    let both : o2 ≡ sets out 0 (STX ∷ front) =
-    two.leaves ∙ ap (λ (o : List ℕ). sets o 8 t) one ∙ sets-append (head_of i) t out 0 in
-    three ∙ ap (λ (o : List ℕ). sets o end (ETX ∷ block_check (take end (drop 1 (set o end ETX))) ∷ [])) both
+    let end = second.at in
+    let place = front-added.ends in
+    let both : second.out.now ≡ sets out 0 (STX ∷ front) = front-added.leaves ∙ ap (λ (k : ℕ). sets out k (STX ∷ front)) at in
+    end-added.leaves ∙ ap (λ (o : List ℕ). sets o end (ETX ∷ block_check (take end (drop 1 (set o end ETX))) ∷ [])) both
     ∙ stored front out end (omega arith) (omega arith) (block_check (take end (drop 1 (set (sets out 0 (STX ∷ front)) end ETX)))) refl

@@ -4,3 +4,4 @@ pub mod Item
 pub mod Record
 pub mod Reading
 pub mod Writing
+pub mod Inside

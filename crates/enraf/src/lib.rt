@@ -3,6 +3,7 @@
 #![tactic(auto)]
 
 mod check;
+mod kind;
 mod reading;
 mod text;
 mod writing;
@@ -10,6 +11,10 @@ mod writing;
 ghost use Rattle.enraf.specs.Item.{item_of};
 ghost use Rattle.enraf.specs.Reading.{ReadsItem};
 ghost use Rattle.enraf.specs.Writing.{WritesItem};
+
+use frame::Fault;
+use kind::ItemKind;
+use putting::Text;
 
 // What reading a record answers: the data's characters from the first on and 0 after them; beside a refusal all else is 0.
 #[repr(C)]
@@ -27,6 +32,19 @@ pub struct ItemTold {
     pub number: u8,
 }
 
+// What stands beside a refusal.
+const NOTHING: ItemTold = ItemTold {
+    characters: [0; 16],
+    error: 0,
+    ciu: 0,
+    gauge: 0,
+    first: 0,
+    second: 0,
+    kind: 0,
+    length: 0,
+    number: 0,
+};
+
 // What writing a record answers: the bytes written; beside a refusal 0.
 #[repr(C)]
 #[derive(Clone, Copy)]
@@ -39,11 +57,13 @@ pub struct Done {
 pub fn sisal_read_item(bytes: &[u8]) -> ItemTold
     ensures { ReadsItem bytes.now result }
 {
-    let number = reading::fault(bytes);
-    if number != 0 {
-        return reading::refusal(number);
+    match reading::read(bytes) {
+        Ok(told) => told,
+        Err(fault) => ItemTold {
+            number: fault.number(),
+            ..NOTHING
+        },
     }
-    reading::tell(bytes)
 }
 
 // Writes a record. The addresses are wide, so that a wildcard, which document 002 numbers from 100 on, arrives as it was meant. Refuses 31, 32, 33.
@@ -59,22 +79,23 @@ pub fn sisal_write_item(
 ) -> Done
     ensures { WritesItem (item_of ciu gauge first second kind error characters.now) out.old result out.new }
 {
-    if 9 < ciu {
-        return writing::refusal(31);
+    if 9 < ciu || 99 < gauge {
+        return writing::refusal(Fault::BadAddresses);
     }
-    if 99 < gauge {
-        return writing::refusal(31);
-    }
+    let Ok(kind) = ItemKind::try_from(kind) else {
+        return writing::refusal(Fault::BadItem);
+    };
     if !text::fits(first, second, kind, error, characters) {
-        return writing::refusal(32);
+        return writing::refusal(Fault::BadItem);
     }
     let size = 10 + writing::tail_size(kind, error, characters);
     if out.len() < size {
-        return writing::refusal(33);
+        return writing::refusal(Fault::ShortItem);
     }
-    writing::put_head(out, ciu, gauge, first, second);
-    let end = writing::put_tail(out, kind, error, characters);
-    writing::put_end(out, end);
+    let mut text = Text { out, at: 0 };
+    writing::put_head(&mut text, ciu, gauge, first, second);
+    writing::put_tail(&mut text, kind, error, characters);
+    writing::put_end(&mut text);
     Done {
         count: size,
         number: 0,

@@ -1,125 +1,40 @@
 // An item's text: letters, characters of data, and what may follow the letters.
-ghost use Rattle.std.specs.Prelude.{◌≡◌, eqb, leb, length};
-ghost use Rattle.frame.specs.Pick.{pick};
-ghost use Rattle.enraf.specs.Item.{failed, is_digit, is_letter, is_character, all_characters, is_data, has_data, kind_fits, item_of, text_fits};
+ghost use Rattle.std.specs.Prelude.{◌≡◌};
+ghost use Rattle.enraf.specs.Item.{is_character, is_data, kind_fits, item_of, text_fits};
+ghost use Rattle.enraf.specs.Inside.{kind_number};
 
-pub(crate) fn is_digit(b: u8) -> bool
-    ensures { result ≡ is_digit b }
-{
-    if b < b'0' {
-        return false;
-    }
-    b <= b'9'
-}
-
-fn is_letter(b: u8) -> bool
-    ensures { result ≡ is_letter b }
-{
-    if b < b'A' {
-        return false;
-    }
-    b <= b'Z'
-}
+use crate::kind::ItemKind;
 
 // A character of data: printable, and none of the three signs.
 fn is_character(b: u8) -> bool
     ensures { result ≡ is_character b }
 {
-    if b < 0x20 {
-        return false;
-    }
-    if 0x7e < b {
-        return false;
-    }
-    if b == b'&' {
-        return false;
-    }
-    if b == b'!' {
-        return false;
-    }
-    b != b'='
-}
-
-fn all_characters(part: &[u8]) -> bool
-    ensures { result ≡ all_characters part.now }
-{
-    let mut i = 0;
-    while i < part.len() {
-        if !is_character(part[i]) {
-            return false;
-        }
-        i += 1;
-    }
-    true
+    matches!(b, 0x20..=0x7e) && !matches!(b, b'&' | b'!' | b'=')
 }
 
 // Data: 1 to 16 characters. The length is asked first, so that a long part costs nothing.
 fn is_data(part: &[u8]) -> bool
     ensures { result ≡ is_data part.now }
 {
-    if part.len() < 1 {
-        return false;
-    }
-    if 16 < part.len() {
-        return false;
-    }
-    all_characters(part)
+    matches!(part.len(), 1..=16) && part.iter().all(|b| is_character(*b))
 }
 
-fn has_data(kind: u8) -> bool
-    ensures { result ≡ has_data kind }
+// Data stands in the kinds that have data, an error's number in an error, and neither elsewhere.
+#[tactic(auto, unfolding(crate::specs::Item::kind_fits))]
+fn kind_fits(kind: ItemKind, error: u16, characters: &[u8]) -> bool
+    ensures { result ≡ kind_fits (kind_number kind) error characters.now }
 {
     match kind {
-        2 => true,
-        4 => true,
-        5 => true,
-        _ => false,
+        ItemKind::Alone | ItemKind::Taken => characters.is_empty() && error == 0,
+        ItemKind::Setting | ItemKind::SettingTaken | ItemKind::Value => is_data(characters)
+            && error == 0,
+        ItemKind::Failed => characters.is_empty() && error <= 999,
     }
 }
 
-// Data stands in the kinds that have data, and in no other.
-fn data_fits(kind: u8, characters: &[u8]) -> bool
-    ensures { result ≡ pick (has_data kind) (is_data characters.now) (eqb (length characters.now) 0) }
+#[tactic(auto, unfolding(crate::specs::Item::text_fits))]
+pub(crate) fn fits(first: u8, second: u8, kind: ItemKind, error: u16, characters: &[u8]) -> bool
+    ensures { result ≡ text_fits (item_of 0 0 first second (kind_number kind) error characters.now) }
 {
-    if has_data(kind) {
-        return is_data(characters);
-    }
-    characters.len() == 0
-}
-
-// An error's number stands in an error, and in no other kind.
-fn error_fits(kind: u8, error: u16) -> bool
-    ensures { result ≡ pick (eqb kind failed) (leb error 999) (eqb error 0) }
-{
-    if kind == 6 {
-        return error <= 999;
-    }
-    error == 0
-}
-
-fn kind_fits(kind: u8, error: u16, characters: &[u8]) -> bool
-    ensures { result ≡ kind_fits kind error characters.now }
-{
-    if kind < 1 {
-        return false;
-    }
-    if 6 < kind {
-        return false;
-    }
-    if !data_fits(kind, characters) {
-        return false;
-    }
-    error_fits(kind, error)
-}
-
-pub(crate) fn fits(first: u8, second: u8, kind: u8, error: u16, characters: &[u8]) -> bool
-    ensures { result ≡ text_fits (item_of 0 0 first second kind error characters.now) }
-{
-    if !is_letter(first) {
-        return false;
-    }
-    if !is_letter(second) {
-        return false;
-    }
-    kind_fits(kind, error, characters)
+    first.is_ascii_uppercase() && second.is_ascii_uppercase() && kind_fits(kind, error, characters)
 }

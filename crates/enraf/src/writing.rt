@@ -1,103 +1,120 @@
-// Writing a record: its parts are stored one after another, straight into the output.
-ghost use Rattle.std.specs.Prelude.{◌≡◌, true, [], ◌∷◌, ◌+◌, ◌/◌, ◌%◌, ◌≤◌, ◌<◌, length, take, drop, set};
-ghost use Rattle.std.proofs.lemmas.List.Edits.{sets};
+// Writing a record: its parts are put one after another, straight into the output.
+ghost use Rattle.std.specs.Prelude.{◌≡◌, true, [], ◌∷◌, ◌+◌, ◌-◌, ◌/◌, ◌%◌, ◌≤◌, length, take, drop, set};
 ghost use Rattle.putting.specs.Digit.{digit};
-ghost use Rattle.putting.specs.Puts.{Puts};
+ghost use Rattle.putting.specs.Adds.{Adds, HasRoom};
+ghost use Rattle.frame.specs.Faults.{number_of};
 ghost use Rattle.enraf.specs.Item.{digit_characters, kind_fits, tail_of};
 ghost use Rattle.enraf.specs.Check.{block_check};
 ghost use Rattle.enraf.specs.Record.{STX, ETX, B, Z};
+ghost use Rattle.enraf.specs.Inside.{kind_number};
 ghost use Rattle.enraf.specs.Writing.{done};
 
 use crate::Done;
 use crate::check::block_check;
-use putting::{put_byte, put_word};
+use crate::kind::ItemKind;
+use frame::Fault;
+use putting::Text;
 
-pub(crate) fn refusal(number: u8) -> Done
-    ensures { result ≡ done 0 number }
+pub(crate) fn refusal(fault: Fault) -> Done
+    ensures { result ≡ done 0 (number_of fault) }
 {
     Done {
         count: 0,
-        number: number,
+        number: fault.number(),
     }
 }
 
 // The bytes that follow the letters.
-pub(crate) fn tail_size(kind: u8, error: u16, characters: &[u8]) -> usize
-    requires { kind_fits kind error characters.now ≡ true }
-    ensures { (result ≡ length (tail_of kind error characters.now)) × (result ≤ 18) }
+#[tactic(auto, unfolding(crate::specs::Item::tail_of))]
+pub(crate) fn tail_size(kind: ItemKind, error: u16, characters: &[u8]) -> usize
+    requires { kind_fits (kind_number kind) error characters.now ≡ true }
+    ensures { (result ≡ length (tail_of (kind_number kind) error characters.now)) × (result ≤ 18) }
 {
     match kind {
-        2 => characters.len() + 1,
-        3 => 1,
-        4 => characters.len() + 2,
-        5 => characters.len(),
-        6 => 4,
-        _ => 0,
+        ItemKind::Alone => 0,
+        ItemKind::Setting => characters.len() + 1,
+        ItemKind::Taken => 1,
+        ItemKind::SettingTaken => characters.len() + 2,
+        ItemKind::Value => characters.len(),
+        ItemKind::Failed => 4,
     }
 }
 
 // STX, the addresses, B, Z and the letters.
-pub(crate) fn put_head(out: &mut [u8], ciu: u16, gauge: u16, first: u8, second: u8)
-    requires in_bounds { 8 ≤ length out.old }
+pub(crate) fn put_head(text: &mut Text, ciu: u16, gauge: u16, first: u8, second: u8)
+    requires room { HasRoom text.old 8 }
     requires ciu_bound { ciu ≤ 9 }
     requires gauge_bound { gauge ≤ 99 }
-    ensures { out.new ≡ sets out.old 0 (STX ∷ digit ciu ∷ digit (gauge / 10) ∷ digit (gauge % 10) ∷ B ∷ Z ∷ first ∷ second ∷ []) }
+    ensures { Adds (STX ∷ digit ciu ∷ digit (gauge / 10) ∷ digit (gauge % 10) ∷ B ∷ Z ∷ first ∷ second ∷ []) 8 text.old text.new }
 {
-    out[0] = 0x02;
-    out[1] = b'0' + ciu as u8;
-    out[2] = b'0' + (gauge / 10) as u8;
-    out[3] = b'0' + (gauge % 10) as u8;
-    out[4] = b'B';
-    out[5] = b'Z';
-    out[6] = first;
-    out[7] = second;
+    text.word(&[
+        0x02,
+        b'0' + ciu as u8,
+        b'0' + (gauge / 10) as u8,
+        b'0' + (gauge % 10) as u8,
+        b'B',
+        b'Z',
+        first,
+        second,
+    ]);
 }
 
 // An error's number in three digits.
-fn put_three(out: &mut [u8], at: usize, n: u16) -> usize
-    requires at_in_bounds { at + 3 ≤ length out.old }
+fn put_three(text: &mut Text, n: u16)
+    requires room { HasRoom text.old 3 }
     requires n_bound { n ≤ 999 }
-    ensures { Puts (digit_characters n) 3 out.old at result out.new }
+    ensures { Adds (digit_characters n) 3 text.old text.new }
 {
-    out[at] = b'0' + (n / 100) as u8;
-    out[at + 1] = b'0' + (n / 10 % 10) as u8;
-    out[at + 2] = b'0' + (n % 10) as u8;
-    at + 3
+    text.word(&[
+        b'0' + (n / 100) as u8,
+        b'0' + (n / 10 % 10) as u8,
+        b'0' + (n % 10) as u8,
+    ]);
 }
 
-// What follows the letters, from byte 8 on.
-pub(crate) fn put_tail(out: &mut [u8], kind: u8, error: u16, characters: &[u8]) -> usize
-    requires characters_value { kind_fits kind error characters.now ≡ true }
-    requires characters_in_bounds { 8 + length (tail_of kind error characters.now) ≤ length out.old }
-    ensures { Puts (tail_of kind error characters.now) 18 out.old 8 result out.new }
+// What follows the letters.
+pub(crate) fn put_tail(text: &mut Text, kind: ItemKind, error: u16, characters: &[u8])
+    requires characters_value { kind_fits (kind_number kind) error characters.now ≡ true }
+    requires room { HasRoom text.old (length (tail_of (kind_number kind) error characters.now)) }
+    ensures { Adds (tail_of (kind_number kind) error characters.now) 18 text.old text.new }
 {
     match kind {
-        2 => {
-            let at = put_byte(out, 8, b'=');
-            put_word(out, at, characters)
+        ItemKind::Alone => {}
+        ItemKind::Setting => {
+            text.byte(b'=');
+            text.word(characters);
         }
-        3 => put_byte(out, 8, b'&'),
-        4 => {
-            let at = put_byte(out, 8, b'=');
-            let end = put_word(out, at, characters);
-            put_byte(out, end, b'&')
+        ItemKind::Taken => text.byte(b'&'),
+        ItemKind::SettingTaken => {
+            text.byte(b'=');
+            text.word(characters);
+            text.byte(b'&');
         }
-        5 => put_word(out, 8, characters),
-        6 => {
-            let at = put_byte(out, 8, b'!');
-            put_three(out, at, error)
+        ItemKind::Value => text.word(characters),
+        ItemKind::Failed => {
+            text.byte(b'!');
+            put_three(text, error);
         }
-        _ => 8,
     }
 }
 
-// ETX, and the block check of all that stands before it but the STX.
-pub(crate) fn put_end(out: &mut [u8], at: usize)
-    requires le_at { 1 ≤ at }
-    requires at_in_bounds { at + 2 ≤ length out.old }
-    ensures { out.new ≡ sets out.old at (ETX ∷ block_check (take at (drop 1 (set out.old at ETX))) ∷ []) }
+// The block check of what is put, the STX left out.
+fn check_of(text: &Text) -> u8
+    requires some { 1 ≤ text.now.at }
+    requires in_bounds { text.now.at ≤ length text.now.out.now }
+    ensures { result ≡ block_check (take (text.now.at - 1) (drop 1 text.now.out.now)) }
 {
-    out[at] = 0x03;
-    let check = block_check(&out[1..at + 1]);
-    out[at + 1] = check;
+    let end = text.at;
+    block_check(&text.out[1..end])
+}
+
+// ETX, and the block check of all that stands before it but the STX.
+pub(crate) fn put_end(text: &mut Text)
+    requires some { 1 ≤ text.old.at }
+    requires room { HasRoom text.old 2 }
+    ensures { Adds (ETX ∷ block_check (take text.old.at (drop 1 (set text.old.out.now text.old.at ETX))) ∷ []) 2 text.old text.new }
+{
+    text.byte(0x03);
+    let check = check_of(text);
+    text.byte(check);
 }

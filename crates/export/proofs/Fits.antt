@@ -7,6 +7,7 @@ use native.Mathlib.Omega.{arith}
 use lib.Dec.{eqb, ltb}
 use lib.ListN.{get_or}
 use Rattle.frame.specs.Pick.{pick}
+use Rattle.frame.specs.Faults.{fault}
 use Rattle.sheet.specs.declared.Found.TheVariants.{Refused}
 use Rattle.sheet.specs.Bytes.{FF, all_blank}
 use Rattle.sheet.specs.Record.{is_record, fields_of}
@@ -34,6 +35,6 @@ pub look-fits : (s : List ℕ) (k : ℕ) → count_fits (look_of s k).found
 unfolding look_of
 look-fits s k = go (size_allowed s && ltb k (slots s))
   where
-    go : (b : Bool) → count_fits (pick b (look_told (slot_of (slot_at s k))) (bare (Refused 12))).found
+    go : (b : Bool) → count_fits (pick b (look_told (slot_of (slot_at s k))) (bare (Refused (fault 12)))).found
     go true = slot-fits (slot_at s k)
     go false = omega arith

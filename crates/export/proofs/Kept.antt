@@ -3,20 +3,15 @@
 use mathlib.Core.Path.{◌≡◌, refl, sym, ap, subst, ◌∙◌}
 use mathlib.Core.Bool.{Bool, true, false}
 use mathlib.Core.List.{List}
-use Prim.Native.Nat.{ℕ, ◌+◌, min}
-use borrow.Author.Tests.{eqb-true}
+use Prim.Native.Nat.{ℕ, ◌+◌, ◌≤◌, min}
+use borrow.Author.Tests.{eqb-true, eqb-false}
 use lib.Dec.{eqb}
 use lib.IntN.{ℤ}
 use Rattle.frame.specs.Pick.{pick}
-use Rattle.frame.specs.declared.PollAnswer.TheVariants as asked
-use Rattle.frame.specs.declared.Reply.TheVariants as replied
-use Rattle.frame.specs.declared.Written.TheVariants as written
 use Rattle.frame.specs.Poll.{ReadsPoll, WritesPoll, poll_number, written_number, write_poll_fault}
 use Rattle.frame.specs.Reply.{ReadsReply, WritesReply, reply_number, write_reply_fault, size_for}
 use Rattle.sheet.specs.declared.Head.{Head}
 use Rattle.sheet.specs.declared.Found.TheVariants as found
-use Rattle.sheet.specs.declared.Saved.TheVariants as saved
-use Rattle.sheet.specs.declared.view.Counted.TheVariants as counted
 use Rattle.sheet.specs.Record.{entry_of, length_of}
 use Rattle.sheet.specs.Save.{Saves, save_fault, saved_number}
 use Rattle.sheet.specs.Look.{Looks, found_number}
@@ -29,6 +24,10 @@ use Rattle.export_told.specs.declared.SlotTold.{SlotTold}
 use Rattle.export_told.specs.Told.{poll_told, poll_meant, reply_told, reply_meant, written_told, written_meant, saved_told, saved_meant, counted_told, counted_meant, slot_told, slot_meant, state_meant, head_meant, poll_said}
 use Rattle.export.specs.Calls.{Tells, SisalReadPoll, SisalWritePoll, SisalReadReply, SisalWriteReply, SisalSave, SisalLook, SisalSlots}
 use Rattle.export.proofs.Back.{poll-back, reply-back, written_back, saved-back, counted_back, look-back}
+use Rattle.std.specs.Prelude.{Ok, Err}
+use Rattle.frame.specs.declared.faults.Fault.TheVariants.{InNoChart}
+use Rattle.frame.specs.Faults.{fault}
+use Rattle.frame.proofs.Numbers.{own_number}
 
 module _ {A T : Type 0} (told : A → T) (meant : T → A) where
   -- Telling loses nothing of an answer that is equal to one of which it loses nothing.
@@ -69,36 +68,37 @@ pub slots_kept : (sheet : List ℕ) (answer : Done) → SisalSlots sheet answer 
 slots_kept sheet answer =
     kept counted_told counted_meant (Counts sheet) (λ b r. from counted_told counted_meant r.answers (counted_back sheet))
 
--- The number in an answer is the paper's number of what it stands for.
-numbered : {A : Type 0} (number : A → ℕ) (good : A) (bad : ℕ → A) → number good ≡ 0 → ((n : ℕ) → number (bad n) ≡ n) → (n : ℕ) → number (pick (eqb n 0) good (bad n)) ≡ n
-numbered number good bad g b n = go (eqb n 0) refl
+-- The number in an answer is the paper's number of what it stands for, where the table has it.
+numbered : {A : Type 0} (number : A → ℕ) (good : A) (bad : ℕ → A) → number good ≡ 0 → ((n : ℕ) → (n ≡ 0 → ⊥) → n ≤ 38 → number (bad n) ≡ n)
+    → (n : ℕ) → n ≤ 38 → number (pick (eqb n 0) good (bad n)) ≡ n
+numbered number good bad g b n h = go (eqb n 0) refl
   where
     go : (t : Bool) → eqb n 0 ≡ t → number (pick t good (bad n)) ≡ n
     go true e = g ∙ sym (eqb-true n 0 e)
-    go false e = b n
+    go false e = b n (eqb-false n 0 e) h
 
-pub poll-number : (t : PollTold) → poll_number (poll_meant t) ≡ t.number
-poll-number t = numbered poll_number (asked.Asked (poll_said t)) asked.Refused refl (λ n. refl) t.number
+pub poll-number : (t : PollTold) → t.number ≤ 38 → poll_number (poll_meant t) ≡ t.number
+poll-number t = numbered poll_number (Ok (poll_said t)) (λ n. Err (fault n)) refl own_number t.number
 
-refused-number : (place n : ℕ) → reply_number (pick (eqb n 7) (replied.Unreadable place) (replied.Refused n)) ≡ n
-refused-number place n = go (eqb n 7) refl
+refused-number : (place n : ℕ) → (n ≡ 0 → ⊥) → n ≤ 38 → reply_number (pick (eqb n 7) (Err (InNoChart place)) (Err (fault n))) ≡ n
+refused-number place n some h = go (eqb n 7) refl
   where
-    go : (t : Bool) → eqb n 7 ≡ t → reply_number (pick t (replied.Unreadable place) (replied.Refused n)) ≡ n
+    go : (t : Bool) → eqb n 7 ≡ t → reply_number (pick t (Err (InNoChart place)) (Err (fault n))) ≡ n
     go true e = sym (eqb-true n 7 e)
-    go false e = refl
+    go false e = own_number n some h
 
-pub reply-number : (t : ReplyTold) → reply_number (reply_meant t) ≡ t.number
+pub reply-number : (t : ReplyTold) → t.number ≤ 38 → reply_number (reply_meant t) ≡ t.number
 reply-number t =
-    numbered reply_number (replied.Read (reading_by t.kind t.tenths t.level t.alarm1 t.alarm0)) (λ n. pick (eqb n 7) (replied.Unreadable t.place) (replied.Refused n)) refl (refused-number t.place) t.number
+    numbered reply_number (Ok (reading_by t.kind t.tenths t.level t.alarm1 t.alarm0)) (λ n. pick (eqb n 7) (Err (InNoChart t.place)) (Err (fault n))) refl (refused-number t.place) t.number
 
-pub written-number : (d : Done) → written_number (written_meant d) ≡ d.number
-written-number d = numbered written_number (written.Bytes d.count) written.Refused refl (λ n. refl) d.number
+pub written-number : (d : Done) → d.number ≤ 38 → written_number (written_meant d) ≡ d.number
+written-number d = numbered written_number (Ok d.count) (λ n. Err (fault n)) refl own_number d.number
 
-pub saved-number : (d : Done) → saved_number (saved_meant d) ≡ d.number
-saved-number d = numbered saved_number (saved.Stores d.count) saved.Refused refl (λ n. refl) d.number
+pub saved-number : (d : Done) → d.number ≤ 38 → saved_number (saved_meant d) ≡ d.number
+saved-number d = numbered saved_number (Ok d.count) (λ n. Err (fault n)) refl own_number d.number
 
-pub counted-number : (d : Done) → counted_number (counted_meant d) ≡ d.number
-counted-number d = numbered counted_number (counted.Slots d.count) counted.Refused refl (λ n. refl) d.number
+pub counted-number : (d : Done) → d.number ≤ 38 → counted_number (counted_meant d) ≡ d.number
+counted-number d = numbered counted_number (Ok d.count) (λ n. Err (fault n)) refl own_number d.number
 
 -- No state but a refusal's has a number.
 state-number : (state : ℕ) (head : Head) → found_number (state_meant state head) ≡ 0
@@ -110,6 +110,6 @@ state-number state head = go (eqb state 1) (eqb state 2) (eqb state 3)
     go false false true = refl
     go false false false = refl
 
-pub slot-number : (t : SlotTold) → found_number (slot_meant t).found ≡ t.number
+pub slot-number : (t : SlotTold) → t.number ≤ 38 → found_number (slot_meant t).found ≡ t.number
 slot-number t =
-    numbered found_number (state_meant t.state (head_meant t)) found.Refused (state-number t.state (head_meant t)) (λ n. refl) t.number
+    numbered found_number (state_meant t.state (head_meant t)) (λ n. found.Refused (fault n)) (state-number t.state (head_meant t)) own_number t.number

@@ -2,5 +2,6 @@
 pub mod Fits
 pub mod Back
 pub mod Kept
+pub mod ToldNumbers
 pub mod OneOutcome
 pub mod OneVersion

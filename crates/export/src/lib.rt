@@ -9,6 +9,7 @@ ghost use Rattle.export.specs.Calls.{SisalForm, SisalReadPoll, SisalWritePoll, S
 
 use export_told::{Done, PollTold, ReplyTold, SlotTold};
 use frame::Reading;
+use sheet::Head;
 use sheet::tell::SaveStores;
 
 // Whether a reply is lent in the right form: 0; or 14.
@@ -22,21 +23,21 @@ pub fn sisal_form(count: usize, reply: &[u8]) -> u8
 pub fn sisal_read_poll(poll: &[u8]) -> PollTold
     ensures { SisalReadPoll poll.now result }
 {
-    export_told::poll(frame::read_poll(poll))
+    PollTold::from(frame::read_poll(poll))
 }
 
 // Writes a poll into the first 2 bytes; raise and reset are set by any number but 0. Refuses 11, 15.
 pub fn sisal_write_poll(address: u16, raise: u8, reset: u8, out: &mut [u8]) -> Done
     ensures { SisalWritePoll address raise reset out.old result out.new }
 {
-    export_told::written(frame::write_poll(address, raise != 0, reset != 0, out))
+    Done::from(frame::write_poll(address, raise != 0, reset != 0, out))
 }
 
 // Reads a reply to a poll of this address. Refuses 10, 11, 14, then 1 to 9.
 pub fn sisal_read_reply(settings: u8, address: u16, count: usize, reply: &[u8]) -> ReplyTold
     ensures { SisalReadReply settings address count reply.now result }
 {
-    export_told::reply(frame::read_reply(settings, address, count, reply))
+    ReplyTold::from(frame::read_reply(settings, address, count, reply))
 }
 
 // The same answer by the second reader, which reads a level in the decimal or a metric mode two digits at a time, from a table. Refuses 10,
@@ -49,7 +50,7 @@ pub fn sisal_read_reply_by_pairs(
 ) -> ReplyTold
     ensures { SisalReadReply settings address count reply.now result }
 {
-    export_told::reply(frame::read_reply_by_pairs(settings, address, count, reply))
+    ReplyTold::from(frame::read_reply_by_pairs(settings, address, count, reply))
 }
 
 // Writes a reply: into the first 5 bytes where its temperature is absent, else into the first 7. The temperature's kind is 1 degrees,
@@ -68,12 +69,12 @@ pub fn sisal_write_reply(
 {
     let temperature = frame::kinds::temperature_by(kind, tenths);
     let reading = Reading {
-        level: level,
-        temperature: temperature,
+        level,
+        temperature,
         alarm1: alarm1 != 0,
         alarm0: alarm0 != 0,
     };
-    export_told::written(frame::write_reply(settings, address, reading, out))
+    Done::from(frame::write_reply(settings, address, reading, out))
 }
 
 // Saves a reply into the slot after the last used one, with at most so many stores. Refuses 12, 10, 11, 14, 13.
@@ -88,7 +89,13 @@ pub fn sisal_save(
 ) -> Done
     ensures { SisalSave sheet.old settings minute address count reply.now allowance result sheet.new }
 {
-    export_told::saved(sheet::save(sheet, settings, minute, address, count, reply, allowance))
+    let head = Head {
+        settings,
+        minute,
+        address,
+        count,
+    };
+    Done::from(sheet::save(sheet, head, reply, allowance))
 }
 
 // Tells the stores that `sisal_save` would make, all of them, in order, and changes nothing. Refuses 12, 10, 11, 14, 13.
@@ -102,7 +109,13 @@ pub fn sisal_save_stores(
 ) -> SaveStores
     ensures { SisalSaveStores sheet.now settings minute address count reply.now result }
 {
-    telling::save_stores(sheet, settings, minute, address, count, reply)
+    let head = Head {
+        settings,
+        minute,
+        address,
+        count,
+    };
+    telling::save_stores(sheet, head, reply)
 }
 
 // Looks at a slot. Refuses 12.
@@ -116,5 +129,5 @@ pub fn sisal_look(sheet: &[u8], slot: usize) -> SlotTold
 pub fn sisal_slots(sheet: &[u8]) -> Done
     ensures { SisalSlots sheet.now result }
 {
-    export_told::counted(sheet::view::count_slots(sheet))
+    Done::from(sheet::view::count_slots(sheet))
 }

@@ -2,38 +2,32 @@
 use Rattle.std.specs.Prelude.{List, ℕ, ◌<◌, eqb, pos}
 use Rattle.frame.specs.declared.Reading.{Reading}
 use Rattle.frame.specs.declared.Poll.{Poll}
-use Rattle.frame.specs.declared.PollAnswer.{PollAnswer}
-use Rattle.frame.specs.declared.PollAnswer.TheVariants as asked
-use Rattle.frame.specs.declared.Reply.{Reply}
-use Rattle.frame.specs.declared.Reply.TheVariants as replied
-use Rattle.frame.specs.declared.Written.{Written}
-use Rattle.frame.specs.declared.Written.TheVariants as written
 use Rattle.frame.specs.Line.{mark}
 use Rattle.frame.specs.Pick.{pick}
 use Rattle.sheet.specs.declared.Found.{Found}
 use Rattle.sheet.specs.declared.Found.TheVariants as found
 use Rattle.sheet.specs.declared.Head.{Head}
 use Rattle.sheet.specs.declared.Looked.{Looked}
-use Rattle.sheet.specs.declared.Saved.{Saved}
-use Rattle.sheet.specs.declared.Saved.TheVariants as saved
-use Rattle.sheet.specs.declared.view.Counted.{Counted}
-use Rattle.sheet.specs.declared.view.Counted.TheVariants as counted
 use Rattle.frame.specs.Kinds.{is_set, kind_of, tenths_of, reading_by}
 use Rattle.export_told.specs.declared.PollTold.{PollTold}
 use Rattle.export_told.specs.declared.ReplyTold.{ReplyTold}
 use Rattle.export_told.specs.declared.Done.{Done}
 use Rattle.export_told.specs.declared.SlotTold.{SlotTold}
+use Rattle.std.specs.Prelude.{Result, Ok, Err}
+use Rattle.frame.specs.declared.faults.Fault.{Fault}
+use Rattle.frame.specs.declared.faults.Fault.TheVariants.{InNoChart}
+use Rattle.frame.specs.Faults.{fault, number_of, place_named}
 
 -- A poll: its address, raise and reset; beside a refusal all else is 0.
-abbrev pub poll_told : PollAnswer → PollTold
-poll_told (asked.Asked p) = record { address = p.address; raise = mark p.raise; reset = mark p.reset; number = 0 }
-poll_told (asked.Refused n) = record { address = 0; raise = 0; reset = 0; number = n }
+abbrev pub poll_told : Result Poll Fault → PollTold
+poll_told (Ok p) = record { address = p.address; raise = mark p.raise; reset = mark p.reset; number = 0 }
+poll_told (Err f) = record { address = 0; raise = 0; reset = 0; number = number_of f }
 
 abbrev pub poll_said : PollTold → Poll
 poll_said t = record { address = t.address; raise = is_set t.raise; reset = is_set t.reset }
 
-abbrev pub poll_meant : PollTold → PollAnswer
-poll_meant t = pick (eqb t.number 0) (asked.Asked (poll_said t)) (asked.Refused t.number)
+abbrev pub poll_meant : PollTold → Result Poll Fault
+poll_meant t = pick (eqb t.number 0) (Ok (poll_said t)) (Err (fault t.number))
 
 -- A reply: its reading with the temperature by kind and tenths, as a row of the board keeps it; beside a refusal all else is 0.
 abbrev pub reading_told : Reading → ReplyTold
@@ -53,40 +47,39 @@ abbrev pub refused_told : ℕ → ℕ → ReplyTold
 refused_told number place =
     record { level = 0; tenths = pos 0; kind = 0; alarm1 = 0; alarm0 = 0; number = number; place = place }
 
-abbrev pub reply_told : Reply → ReplyTold
-reply_told (replied.Read r) = reading_told r
-reply_told (replied.Refused n) = refused_told n 0
-reply_told (replied.Unreadable place) = refused_told 7 place
+abbrev pub reply_told : Result Reading Fault → ReplyTold
+reply_told (Ok r) = reading_told r
+reply_told (Err f) = refused_told (number_of f) (place_named f)
 
-abbrev pub reply_meant : ReplyTold → Reply
+abbrev pub reply_meant : ReplyTold → Result Reading Fault
 reply_meant t =
-    pick (eqb t.number 0) (replied.Read (reading_by t.kind t.tenths t.level t.alarm1 t.alarm0))
-    (pick (eqb t.number 7) (replied.Unreadable t.place) (replied.Refused t.number))
+    pick (eqb t.number 0) (Ok (reading_by t.kind t.tenths t.level t.alarm1 t.alarm0))
+    (pick (eqb t.number 7) (Err (InNoChart t.place)) (Err (fault t.number)))
 
 -- The bytes written, the stores made, or the slots that there are; beside a refusal 0.
 abbrev pub done : ℕ → ℕ → Done
 done count number = record { count = count; number = number }
 
-abbrev pub written_told : Written → Done
-written_told (written.Bytes n) = done n 0
-written_told (written.Refused n) = done 0 n
+abbrev pub written_told : Result ℕ Fault → Done
+written_told (Ok n) = done n 0
+written_told (Err f) = done 0 (number_of f)
 
-abbrev pub written_meant : Done → Written
-written_meant d = pick (eqb d.number 0) (written.Bytes d.count) (written.Refused d.number)
+abbrev pub written_meant : Done → Result ℕ Fault
+written_meant d = pick (eqb d.number 0) (Ok d.count) (Err (fault d.number))
 
-abbrev pub saved_told : Saved → Done
-saved_told (saved.Stores n) = done n 0
-saved_told (saved.Refused n) = done 0 n
+abbrev pub saved_told : Result ℕ Fault → Done
+saved_told (Ok n) = done n 0
+saved_told (Err f) = done 0 (number_of f)
 
-abbrev pub saved_meant : Done → Saved
-saved_meant d = pick (eqb d.number 0) (saved.Stores d.count) (saved.Refused d.number)
+abbrev pub saved_meant : Done → Result ℕ Fault
+saved_meant d = pick (eqb d.number 0) (Ok d.count) (Err (fault d.number))
 
-abbrev pub counted_told : Counted → Done
-counted_told (counted.Slots n) = done n 0
-counted_told (counted.Refused n) = done 0 n
+abbrev pub counted_told : Result ℕ Fault → Done
+counted_told (Ok n) = done n 0
+counted_told (Err f) = done 0 (number_of f)
 
-abbrev pub counted_meant : Done → Counted
-counted_meant d = pick (eqb d.number 0) (counted.Slots d.count) (counted.Refused d.number)
+abbrev pub counted_meant : Done → Result ℕ Fault
+counted_meant d = pick (eqb d.number 0) (Ok d.count) (Err (fault d.number))
 
 -- A slot: its state is 1 blank, 2 spoiled, 3 a record, 4 foreign, and 0 beside a refusal. Only a record says more.
 abbrev pub bare_told : List ℕ → ℕ → ℕ → SlotTold
@@ -99,7 +92,7 @@ found_told found.Spoiled reply = bare_told reply 2 0
 found_told (found.Record h) reply =
     record { reply = reply; minute = h.minute; address = h.address; settings = h.settings; count = h.count; state = 3; number = 0 }
 found_told found.Foreign reply = bare_told reply 4 0
-found_told (found.Refused n) reply = bare_told reply 0 n
+found_told (found.Refused f) reply = bare_told reply 0 (number_of f)
 
 abbrev pub slot_told : Looked → SlotTold
 slot_told l = found_told l.found l.reply
@@ -113,7 +106,7 @@ state_meant state head =
 
 abbrev pub slot_meant : SlotTold → Looked
 slot_meant t =
-    record { found = pick (eqb t.number 0) (state_meant t.state (head_meant t)) (found.Refused t.number); reply = t.reply }
+    record { found = pick (eqb t.number 0) (state_meant t.state (head_meant t)) (found.Refused (fault t.number)); reply = t.reply }
 
 -- The bit count of what was found fits one byte. It does whenever `look` finds a record.
 abbrev pub count_fits : Found → Type 0
@@ -121,4 +114,4 @@ count_fits found.Blank = 0 < 256
 count_fits found.Spoiled = 0 < 256
 count_fits (found.Record h) = h.count < 256
 count_fits found.Foreign = 0 < 256
-count_fits (found.Refused n) = 0 < 256
+count_fits (found.Refused f) = 0 < 256

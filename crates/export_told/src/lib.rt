@@ -2,15 +2,15 @@
 #![tactic(auto)]
 
 ghost use Rattle.std.specs.Prelude.{◌≡◌};
+ghost use Rattle.frame.specs.Faults.{number_of, place_named};
 ghost use Rattle.export_told.specs.Told.{poll_told, reading_told, refused_told, reply_told, written_told, saved_told, counted_told, bare_told, count_fits, slot_told};
 
-use frame::{PollAnswer, Reading, Reply, Written, kinds};
-use sheet::view::Counted;
-use sheet::{Found, Looked, Saved};
+use frame::{Fault, Poll, Reading, kinds};
+use sheet::{Found, Looked};
 
 // What reading a poll answers: raise and reset are 0 or 1; beside a refusal all else is 0.
 #[repr(C)]
-#[derive(Clone, Copy)]
+#[derive(Clone, Copy, PartialEq, Eq)]
 pub struct PollTold {
     pub address: u16,
     pub raise: u8,
@@ -20,7 +20,7 @@ pub struct PollTold {
 
 // What reading a reply answers: alarms are 0 or 1; beside a refusal all else is 0, but for the place beside 7.
 #[repr(C)]
-#[derive(Clone, Copy)]
+#[derive(Clone, Copy, PartialEq, Eq)]
 pub struct ReplyTold {
     pub level: u16,
     pub tenths: i16,
@@ -35,7 +35,7 @@ pub struct ReplyTold {
 
 // What writing, saving and counting answer: the bytes written, the stores made or the slots there are; beside a refusal 0.
 #[repr(C)]
-#[derive(Clone, Copy)]
+#[derive(Clone, Copy, PartialEq, Eq)]
 pub struct Done {
     pub count: usize,
     pub number: u8,
@@ -43,7 +43,7 @@ pub struct Done {
 
 // What looking at a slot answers: of a record what it says, its reply bytes from the first on; all else is 0.
 #[repr(C)]
-#[derive(Clone, Copy)]
+#[derive(Clone, Copy, PartialEq, Eq)]
 pub struct SlotTold {
     pub reply: [u8; 8],
     pub minute: u32,
@@ -55,108 +55,88 @@ pub struct SlotTold {
     pub number: u8,
 }
 
-pub fn poll(answer: PollAnswer) -> PollTold
-    ensures { result ≡ poll_told answer }
-{
-    match answer {
-        PollAnswer::Asked(poll) => PollTold {
-            address: poll.address,
-            raise: kinds::marked(poll.raise),
-            reset: kinds::marked(poll.reset),
-            number: 0,
-        },
-        PollAnswer::Refused(number) => PollTold {
-            address: 0,
-            raise: 0,
-            reset: 0,
-            number: number,
-        },
+impl From<Result<Poll, Fault>> for PollTold {
+    ghost from_gives = { λ answer told. told ≡ poll_told answer };
+
+    fn from(answer: Result<Poll, Fault>) -> PollTold {
+        match answer {
+            Ok(poll) => PollTold {
+                address: poll.address,
+                raise: kinds::marked(poll.raise),
+                reset: kinds::marked(poll.reset),
+                number: 0,
+            },
+            Err(fault) => PollTold {
+                address: 0,
+                raise: 0,
+                reset: 0,
+                number: fault.number(),
+            },
+        }
     }
 }
 
 // A reading with the kind and the tenths of its temperature.
-fn reading(reading: Reading) -> ReplyTold
-    ensures { result ≡ reading_told reading }
-{
-    let t = reading.temperature;
-    ReplyTold {
-        level: reading.level,
-        tenths: kinds::tenths_of(t),
-        kind: kinds::kind_of(t),
-        alarm1: kinds::marked(reading.alarm1),
-        alarm0: kinds::marked(reading.alarm0),
-        number: 0,
-        place: 0,
+impl From<Reading> for ReplyTold {
+    ghost from_gives = { λ reading told. told ≡ reading_told reading };
+
+    fn from(reading: Reading) -> ReplyTold {
+        let t = reading.temperature;
+        ReplyTold {
+            level: reading.level,
+            tenths: kinds::tenths_of(t),
+            kind: kinds::kind_of(t),
+            alarm1: kinds::marked(reading.alarm1),
+            alarm0: kinds::marked(reading.alarm0),
+            number: 0,
+            place: 0,
+        }
     }
 }
 
 // A reply that was refused: its number, and the place beside 7.
-fn refused_reply(number: u8, place: u8) -> ReplyTold
-    ensures { result ≡ refused_told number place }
-{
-    ReplyTold {
-        level: 0,
-        tenths: 0,
-        kind: 0,
-        alarm1: 0,
-        alarm0: 0,
-        number: number,
-        place: place,
+impl From<Fault> for ReplyTold {
+    ghost from_gives = { λ fault told. told ≡ refused_told (number_of fault) (place_named fault) };
+
+    fn from(fault: Fault) -> ReplyTold {
+        ReplyTold {
+            level: 0,
+            tenths: 0,
+            kind: 0,
+            alarm1: 0,
+            alarm0: 0,
+            number: fault.number(),
+            place: match fault {
+                Fault::InNoChart(place) => place,
+                _ => 0,
+            },
+        }
     }
 }
 
-pub fn reply(answer: Reply) -> ReplyTold
-    ensures { result ≡ reply_told answer }
-{
-    match answer {
-        Reply::Read(r) => reading(r),
-        Reply::Refused(number) => refused_reply(number, 0),
-        Reply::Unreadable(place) => refused_reply(7, place),
+impl From<Result<Reading, Fault>> for ReplyTold {
+    ghost from_gives = { λ answer told. told ≡ reply_told answer };
+
+    fn from(answer: Result<Reading, Fault>) -> ReplyTold {
+        match answer {
+            Ok(reading) => ReplyTold::from(reading),
+            Err(fault) => ReplyTold::from(fault),
+        }
     }
 }
 
-pub fn written(answer: Written) -> Done
-    ensures { result ≡ written_told answer }
-{
-    match answer {
-        Written::Bytes(bytes) => Done {
-            count: bytes,
-            number: 0,
-        },
-        Written::Refused(number) => Done {
-            count: 0,
-            number: number,
-        },
-    }
-}
+// The bytes written, the stores made, the slots counted: what is told of them is the same in specs/Told.antt.
+impl From<Result<usize, Fault>> for Done {
+    ghost from_gives = { λ answer told. (told ≡ written_told answer) × ((told ≡ saved_told answer) × (told ≡ counted_told answer)) };
 
-pub fn saved(answer: Saved) -> Done
-    ensures { result ≡ saved_told answer }
-{
-    match answer {
-        Saved::Stores(stores) => Done {
-            count: stores,
-            number: 0,
-        },
-        Saved::Refused(number) => Done {
-            count: 0,
-            number: number,
-        },
-    }
-}
-
-pub fn counted(answer: Counted) -> Done
-    ensures { result ≡ counted_told answer }
-{
-    match answer {
-        Counted::Slots(slots) => Done {
-            count: slots,
-            number: 0,
-        },
-        Counted::Refused(number) => Done {
-            count: 0,
-            number: number,
-        },
+    fn from(answer: Result<usize, Fault>) -> Done {
+        match answer {
+            Ok(count) => Done { count, number: 0 },
+            Err(fault) => Done {
+                count: 0,
+                number: fault.number(),
+            },
+        }
     }
 }
 
@@ -165,27 +145,27 @@ fn bare(reply: [u8; 8], state: u8, number: u8) -> SlotTold
     ensures { result ≡ bare_told reply state number }
 {
     SlotTold {
-        reply: reply,
+        reply,
         minute: 0,
         address: 0,
         settings: 0,
         count: 0,
-        state: state,
-        number: number,
+        state,
+        number,
     }
 }
 
+// No `From`, which has no `requires`: a bit count has to fit its byte.
 pub fn slot(looked: Looked) -> SlotTold
     requires { count_fits looked.found }
     ensures { result ≡ slot_told looked }
 {
-    let found = looked.found;
     let reply = looked.reply;
-    match found {
+    match looked.found {
         Found::Blank => bare(reply, 1, 0),
         Found::Spoiled => bare(reply, 2, 0),
         Found::Record(head) => SlotTold {
-            reply: reply,
+            reply,
             minute: head.minute,
             address: head.address,
             settings: head.settings,
@@ -194,6 +174,6 @@ pub fn slot(looked: Looked) -> SlotTold
             number: 0,
         },
         Found::Foreign => bare(reply, 4, 0),
-        Found::Refused(number) => bare(reply, 0, number),
+        Found::Refused(fault) => bare(reply, 0, fault.number()),
     }
 }

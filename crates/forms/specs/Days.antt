@@ -1,5 +1,5 @@
 -- Days and moments in words: dates where the day of minute 0 is known, else days counted from it.
-use Rattle.std.specs.Prelude.{List, [], ◌∷◌, ◌++◌, ℕ, ◌/◌, ◌%◌, eqb, ltb}
+use Rattle.std.specs.Prelude.{Option, None, Some, List, [], ◌∷◌, ◌++◌, ℕ, ◌/◌, ◌%◌, ltb}
 use Rattle.frame.specs.Pick.{pick}
 use Rattle.putting.specs.Digit.{digit}
 use Rattle.listing.specs.Text.{ascii, in_decimal}
@@ -25,11 +25,12 @@ unfolding year_text month_day_text
 date_text d = year_text d.year ++ ascii "-" ++ month_day_text d
 
 -- A day, so many days after that of minute 0; where that is none, "day 2".
-unfoldable pub day_text : Day → ℕ → List ℕ
+unfoldable pub day_text : Option Day → ℕ → List ℕ
 unfolding date_text
-day_text begin n = pick (eqb begin.day 0) (fill (ascii "day ~") (n ∷ [])) (date_text (days_from begin n))
+day_text None n = fill (ascii "day ~") (n ∷ [])
+day_text (Some begin) n = date_text (days_from begin n)
 
 -- A minute, counted from the beginning of day 0: "2026-11-03, 06:00", or "day 2, 06:00".
-unfoldable pub moment_text : Day → ℕ → List ℕ
+unfoldable pub moment_text : Option Day → ℕ → List ℕ
 unfolding day_text two_digits
 moment_text begin m = day_text begin (m / 1440) ++ ascii ", " ++ two_digits (m / 60 % 24) ++ ascii ":" ++ two_digits (m % 60)

@@ -1,69 +1,68 @@
 // Days and moments in words: dates where the day of minute 0 is known, else days counted from it.
-ghost use Rattle.std.specs.Prelude.{◌≡◌, ◌+◌, ◌≤◌, length};
-ghost use Rattle.putting.specs.Puts.{Puts};
+ghost use Rattle.putting.specs.Adds.{Adds, HasRoom};
 ghost use Rattle.forms.specs.Days.{two_digits, year_text, month_day_text, date_text, day_text, moment_text};
 
 use crate::form::put_form;
 use calendar::Day;
 use listing::text::put_number;
-use putting::{put_byte, put_word};
+use putting::Text;
 
-fn put_two(out: &mut [u8], at: usize, n: u32) -> usize
-    requires { at + 2 ≤ length out.old }
-    ensures { Puts (two_digits n) 2 out.old at result out.new }
+fn put_two(text: &mut Text, n: u32)
+    requires { HasRoom text.old 2 }
+    ensures { Adds (two_digits n) 2 text.old text.new }
 {
-    let ten = put_byte(out, at, 48 + (n / 10 % 10) as u8);
-    put_byte(out, ten, 48 + (n % 10) as u8)
+    text.byte(b'0' + (n / 10 % 10) as u8);
+    text.byte(b'0' + (n % 10) as u8);
 }
 
-pub fn put_year(out: &mut [u8], at: usize, year: u32) -> usize
-    requires { at + 10 ≤ length out.old }
-    ensures { Puts (year_text year) 10 out.old at result out.new }
+pub fn put_year(text: &mut Text, year: u32)
+    requires { HasRoom text.old 10 }
+    ensures { Adds (year_text year) 10 text.old text.new }
 {
     if year < 10_000 {
-        let hundreds = put_two(out, at, year / 100);
-        return put_two(out, hundreds, year % 100);
+        put_two(text, year / 100);
+        put_two(text, year % 100);
+    } else {
+        put_number(text, year);
     }
-    put_number(out, at, year)
 }
 
-pub fn put_month_day(out: &mut [u8], at: usize, d: Day) -> usize
-    requires { at + 5 ≤ length out.old }
-    ensures { Puts (month_day_text d) 5 out.old at result out.new }
+pub fn put_month_day(text: &mut Text, d: Day)
+    requires { HasRoom text.old 5 }
+    ensures { Adds (month_day_text d) 5 text.old text.new }
 {
-    let month = put_two(out, at, d.month);
-    let gap = put_word(out, month, b"-");
-    put_two(out, gap, d.day)
+    put_two(text, d.month);
+    text.byte(b'-');
+    put_two(text, d.day);
 }
 
-fn put_date(out: &mut [u8], at: usize, d: Day) -> usize
-    requires { at + 16 ≤ length out.old }
-    ensures { Puts (date_text d) 16 out.old at result out.new }
+fn put_date(text: &mut Text, d: Day)
+    requires { HasRoom text.old 16 }
+    ensures { Adds (date_text d) 16 text.old text.new }
 {
-    let year = put_year(out, at, d.year);
-    let gap = put_word(out, year, b"-");
-    put_month_day(out, gap, d)
+    put_year(text, d.year);
+    text.byte(b'-');
+    put_month_day(text, d);
 }
 
 // A day, so many days after that of minute 0.
-fn put_day(out: &mut [u8], at: usize, begin: Day, n: u32) -> usize
-    requires { at + 16 ≤ length out.old }
-    ensures { Puts (day_text begin n) 16 out.old at result out.new }
+fn put_day(text: &mut Text, begin: Option<Day>, n: u32)
+    requires { HasRoom text.old 16 }
+    ensures { Adds (day_text begin n) 16 text.old text.new }
 {
-    if begin.day == 0 {
-        return put_form(out, at, b"day ~", &[n]);
+    match begin {
+        Some(day) => put_date(text, calendar::after(day, n)),
+        None => put_form(text, b"day ~", &[n]),
     }
-    let date = calendar::after(begin, n);
-    put_date(out, at, date)
 }
 
-pub fn put_moment(out: &mut [u8], at: usize, begin: Day, minute: u32) -> usize
-    requires { at + 23 ≤ length out.old }
-    ensures { Puts (moment_text begin minute) 23 out.old at result out.new }
+pub fn put_moment(text: &mut Text, begin: Option<Day>, minute: u32)
+    requires { HasRoom text.old 23 }
+    ensures { Adds (moment_text begin minute) 23 text.old text.new }
 {
-    let day = put_day(out, at, begin, minute / 1440);
-    let gap = put_word(out, day, b", ");
-    let hour = put_two(out, gap, minute / 60 % 24);
-    let colon = put_word(out, hour, b":");
-    put_two(out, colon, minute % 60)
+    put_day(text, begin, minute / 1440);
+    text.word(b", ");
+    put_two(text, minute / 60 % 24);
+    text.byte(b':');
+    put_two(text, minute % 60);
 }

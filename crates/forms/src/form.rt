@@ -1,84 +1,42 @@
 // Text with numbers in it, put by a form; and one of several forms, picked by a number.
-ghost use Rattle.std.specs.Prelude.{◌≡◌, ◌+◌, ◌*◌, ◌≤◌, length, drop};
-ghost use Rattle.putting.specs.Puts.{Puts};
-ghost use Rattle.forms.specs.Form.{fill, first, choice};
-ghost use Rattle.forms.specs.Inside.Bounds.{takes_number, passed, widest};
-ghost use Rattle.forms.specs.Inside.Bounds as said;
+ghost use Rattle.std.specs.Prelude.{◌≡◌, ◌==◌, ◌+◌, ◌*◌, length, slice_get, option_map};
+ghost use Rattle.std.specs.List.{slice_split};
+ghost use Rattle.putting.specs.Adds.{Adds, HasRoom};
+ghost use Rattle.forms.specs.Form.{fill, choice};
+ghost use Rattle.forms.specs.Inside.Bounds.{widest};
 
 use listing::text::put_number;
-use putting::put_byte;
+use putting::Text;
 
-// A "~" stands for a number while one is left.
-fn takes_number(byte: u8, n: usize, many: usize) -> bool
-    ensures { result ≡ takes_number byte n many }
+// A form with its numbers put in: each takes at most ten digits in the place of one byte. A "~" stands for a number while one is left.
+pub fn put_form(text: &mut Text, form: &[u8], numbers: &[u32])
+    requires { HasRoom text.old (length form.now + 9 * length numbers.now) }
+    ensures { Adds (fill form.now numbers.now) (length form.now + 9 * length numbers.now) text.old text.new }
 {
-    if byte == b'~' { n < many } else { false }
-}
-
-// A form with its numbers put in: each takes at most ten digits in the place of one byte.
-pub fn put_form(out: &mut [u8], at: usize, form: &[u8], numbers: &[u32]) -> usize
-    requires { at + length form.now + 9 * length numbers.now ≤ length out.old }
-    ensures { Puts (fill form.now numbers.now) (length form.now + 9 * length numbers.now)
-        out.old at result out.new }
-{
-    let mut end = at;
-    let mut n = 0;
-    let mut i = 0;
-    while i < form.len() {
-        let byte = form[i];
-        i += 1;
-        if takes_number(byte, n, numbers.len()) {
-            end = put_number(out, end, numbers[n]);
-            n += 1;
-            continue;
+    let mut left = numbers;
+    for &byte in form {
+        match left.split_first() {
+            Some((n, rest)) if byte == b'~' => {
+                left = rest;
+                put_number(text, *n);
+            }
+            _ => text.byte(byte),
         }
-        end = put_byte(out, end, byte);
     }
-    end
 }
 
-// Where the form that begins at a place ends: at the next bar, or with the text.
-fn bar_from(forms: &[u8], from: usize) -> usize
-    requires { from ≤ length forms.now }
-    ensures { result ≡ from + length (first (drop from forms.now)) }
+// One of several forms, a bar between them; none where there are fewer.
+fn form_at(forms: &[u8], n: usize) -> Option<&[u8]>
+    ensures { option_map (λ f. f.now) result ≡ slice_get (slice_split (λ b. b == 124) forms.now) n }
 {
-    let mut i = from;
-    while i < forms.len() {
-        if forms[i] == b'|' {
-            return i;
-        }
-        i += 1;
-    }
-    i
-}
-
-fn past(bar: usize, size: usize) -> usize
-    ensures { result ≡ said.past bar size }
-{
-    if bar < size { bar + 1 } else { size }
-}
-
-// Where the form begins that has so many before it.
-fn begins(forms: &[u8], n: usize) -> usize
-    ensures forms_value { drop result forms.now ≡ passed n forms.now }
-    ensures upper_bound { result ≤ length forms.now }
-{
-    let mut from = 0;
-    let mut left = n;
-    while 0 < left {
-        from = past(bar_from(forms, from), forms.len());
-        left -= 1;
-    }
-    from
+    forms.split(|b| *b == b'|').nth(n)
 }
 
 // One of several forms, with its numbers.
-pub fn put_choice(out: &mut [u8], at: usize, forms: &[u8], n: usize, numbers: &[u32]) -> usize
-    requires { at + widest forms.now + 9 * length numbers.now ≤ length out.old }
-    ensures { Puts (fill (choice n forms.now) numbers.now)
-        (widest forms.now + 9 * length numbers.now) out.old at result out.new }
+pub fn put_choice(text: &mut Text, forms: &[u8], n: usize, numbers: &[u32])
+    requires { HasRoom text.old (widest forms.now + 9 * length numbers.now) }
+    ensures { Adds (fill (choice n forms.now) numbers.now) (widest forms.now + 9 * length numbers.now) text.old text.new }
 {
-    let from = begins(forms, n);
-    let to = bar_from(forms, from);
-    put_form(out, at, &forms[from..to], numbers)
+    let form = form_at(forms, n).unwrap_or(&[]);
+    put_form(text, form, numbers);
 }

@@ -8,6 +8,7 @@ use native.Mathlib.Omega.{arith}
 use borrow.Author.Tests.{ne_eqb, eqb-true, eqb-false}
 use lib.Dec.{eqb}
 use lib.Pow.{mod-pow-add, field}
+use Rattle.frame.specs.declared.constants.Constants.{Constants}
 use Rattle.frame.specs.Inside.Constants.{fill_at, digit_bits}
 use Rattle.frame.proofs.Both.{both_left}
 
@@ -30,9 +31,6 @@ by_first P a b first low high = go (eqb first 16) refl
 pub head-is : (n first : ℕ) → 16 ≤ first → first ≤ 17 → n / 2 ^ 48 % 2 * (first - 16) ≡ n / 2 ^ (65 - first) % 2 ^ (first - 16)
 head-is n = by_first (λ (first : ℕ). n / 2 ^ 48 % 2 * (first - 16) ≡ n / 2 ^ (65 - first) % 2 ^ (first - 16)) (omega (arith, mod-one (n / 2 ^ 49))) (omega arith)
 
-pub head_small : (n first : ℕ) → 16 ≤ first → first ≤ 17 → n / 2 ^ 48 % 2 * (first - 16) ≤ 1
-head_small n = by_first (λ (first : ℕ). n / 2 ^ 48 % 2 * (first - 16) ≤ 1) (omega arith) (omega arith)
-
 none_above : (h low unit : ℕ) → h ≡ 0 → h * unit + low ≡ low
 none_above h low unit e = rw (e, zero-mul unit) (zero-add low)
 
@@ -47,7 +45,7 @@ cut-is n first after low high few clear =
     ap (λ (m : ℕ). m / 2 ^ (27 + after)) (same ∙ ap (λ (k : ℕ). n % 2 ^ k) cut) ∙ field n (digit_bits first after) (27 + after)
 
 -- so in a line whose fill is clear
-pub clear-cut : (n first after : ℕ) → (16 ≤ first) × ((first ≤ 17) × (after ≤ 6)) → fill_at n first after ≡ true
-    → n % 2 ^ 49 / 2 ^ (27 + after) ≡ n / 2 ^ (27 + after) % 2 ^ digit_bits first after
-clear-cut n first after h clear =
-    cut-is n first after h.0 h.1.0 h.1.1 (eqb-true (n / 2 ^ (65 - first) % 2 ^ (first - 16)) 0 (both_left _ (eqb (n / 2 ^ 27 % 2 ^ after) 0) clear))
+pub clear-cut : (n : ℕ) (k : Constants) → fill_at n k.first k.after ≡ true
+    → n % 2 ^ 49 / 2 ^ (27 + k.after) ≡ n / 2 ^ (27 + k.after) % 2 ^ digit_bits k.first k.after
+clear-cut n k clear =
+    cut-is n k.first k.after k.from_16 k.by_17 k.few_after (eqb-true (n / 2 ^ (65 - k.first) % 2 ^ (k.first - 16)) 0 (both_left _ (eqb (n / 2 ^ 27 % 2 ^ k.after) 0) clear))

@@ -6,11 +6,11 @@ use Prim.Native.Nat.{ℕ, zero, suc, ◌+◌, ◌-◌, ◌*◌, ◌/◌, ◌%◌
 use native.Mathlib.Nat.{pow-suc, mul-le-mul_left, mul-le-mul_right, le_trans, le_of_eq, mul_assoc, mul_comm, le-mul_of_pos_right, one-le-pow}
 use native.Mathlib.Decide.{ℕ_discrete}
 use native.Mathlib.Omega.{arith}
-use borrow.Author.Tests.{lt-ltb, le-ltb, ltb-true}
+use borrow.Author.Tests.{ltb-true}
 use lib.Dec.{ltb, lit≤}
 use Rattle.frame.specs.Charts.{Chart, size_of, is_odd, turned, place_in}
 use Rattle.frame.specs.Level.{Level, known, lost, width_of, read_row}
-use Rattle.frame.specs.Inside.Packed.{chart_of, digit_of, digit_row, read_code, Below, level_number}
+use Rattle.frame.specs.Inside.Packed.{chart_of, digit_of, digit_row, Below}
 use Rattle.frame.proofs.Tables.{size-high}
 
 -- n and n - 1
@@ -128,17 +128,3 @@ row_below row (suc k) bits odd sofar place =
           (room-step sofar (size_of c) d (digit_lt c (bits / 2 ^ (4 * k) % 16) odd e) (size-high (row % 16)) k)
           (read_row (digit_row (row / 16) k) bits (is_odd d) (sofar * size_of c + d) (suc place)) (row_below (row / 16) k bits (is_odd d) (sofar * size_of c + d) (suc place)))
     ]
-
--- the number that the code gives for a level, by the number that the digit reader gave
-module _ (largest v : ℕ) where
-  pub number-lost : (l : Level) → Below (2 ^ 32) l → v ≡ read_code l → 2 ^ 32 ≤ v → 7 * 65536 + (v - 2 ^ 32) ≡ level_number largest l
-  number-lost (known w) small e h = absurd (omega arith)
-  number-lost (lost k) small e h = omega arith
-
-  pub number-above : (l : Level) → v ≡ read_code l → v < 2 ^ 32 → largest < v → 8 * 65536 ≡ level_number largest l
-  number-above (known w) e h above = let over : largest < w = omega arith in simp (lt-ltb _ _ over)
-  number-above (lost k) e h above = absurd (omega arith)
-
-  pub number-known : (l : Level) → v ≡ read_code l → v < 2 ^ 32 → v ≤ largest → v ≡ level_number largest l
-  number-known (known w) e h within = let under : w ≤ largest = omega arith in simp (le-ltb _ _ under) e
-  number-known (lost k) e h within = absurd (omega arith)

@@ -9,7 +9,7 @@ pub mod DecimalCode
 pub mod Digits
 pub mod Upward
 pub mod Straight
-pub mod Constants
+pub mod Fitting
 pub mod Keys
 pub mod PairsAreDigits
 pub mod PairTable
@@ -18,6 +18,8 @@ pub mod SecondReader
 pub mod Signs
 pub mod Three
 pub mod Verdict
+pub mod Verdicts
+pub mod Numbers
 pub mod Refusals
 pub mod Walks
 pub mod Fronts

@@ -7,19 +7,20 @@ use mathlib.Core.Logic.{inl, inr}
 use Prim.Native.Nat.{ℕ, ◌*◌, ◌%◌, ◌^◌}
 use borrow.Author.Tests.{ne_eqb}
 use lib.Dec.{eqb, lit≤}
-use Rattle.frame.specs.declared.Reply.TheVariants.{Read}
 use Rattle.frame.specs.Pick.{pick}
 use Rattle.frame.specs.Line.{line}
 use Rattle.frame.specs.Faults.{first_of}
 use Rattle.frame.specs.Reply.{reply_tests_with, reading_with, reply_fault, reply_of, refused_by}
 use Rattle.frame.specs.Charts.{decimal, one_bit, two_bits, feet_tens, place_in}
-use Rattle.frame.specs.Level.{Level, Mode, mode_of, width_of, level_of, fill_clear, decimal_mode, twenty_metre_mode, thirty_metre_mode}
+use Rattle.frame.specs.Level.{Level, Mode, mode_of, width_of, level_of, fill_clear, fractional_mode, decimal_mode, twenty_metre_mode, thirty_metre_mode}
 use Rattle.frame.specs.Pairs.{decimals, level_by_pairs, second_level, second_reply}
 use Rattle.frame.specs.Inside.Packed.{level_number, level_code, second_code}
-use Rattle.frame.specs.Inside.Constants.{Constants, constants_by, read_pairs_by}
-use Rattle.frame.proofs.Constants.{Fits, constants-fit}
+use Rattle.frame.specs.declared.constants.Constants.{Constants}
+use Rattle.frame.specs.Inside.Constants.{Fits, read_pairs_by}
+use Rattle.frame.proofs.Fitting.{fractional-at}
 use Rattle.frame.proofs.PairsAreDigits.{Paired, front_right, same-level}
 use Rattle.frame.proofs.Tables.{pick-case}
+use Rattle.std.specs.Prelude.{Ok, Err}
 
 -- the three modes that pairs can read
 decimal-paired : Paired decimal_mode
@@ -53,7 +54,7 @@ same_second k n = go (eqb k 0) refl
 pub same-reply : (settings address count : ℕ) (s : List ℕ) → second_reply settings address count s ≡ reply_of settings address count s
 unfolding second_reply reply_of reply_fault
 same-reply settings address count s =
-    ap (λ (level : Level). let fault = first_of (reply_tests_with level settings address count s) in pick (eqb fault 0) (Read (reading_with level settings count (line s))) (refused_by level fault))
+    ap (λ (level : Level). let fault = first_of (reply_tests_with level settings address count s) in pick (eqb fault 0) (Ok (reading_with level settings count (line s))) (Err (refused_by level fault)))
     (same_second (settings % 4) (line s))
 
 pub second_is : (k n : ℕ) → second_code k n ≡ level_code (mode_of k) n
@@ -67,11 +68,11 @@ pairs-by m k f n = rw (f.fill n, f.count, f.straight, f.largest, f.cut, f.last)
 
 -- the mode of each number, as the second reader takes it
 module _ (k n : ℕ) where
-  pub second-0 : k ≡ 0 → level_code (mode_of k) n ≡ second_code k n
-  second-0 e = sym (second_is k n)
+  pub second-0 : k ≡ 0 → level_code fractional_mode n ≡ second_code k n
+  second-0 e = sym (second_is k n ∙ ap (λ (m : Mode). level_code m n) (fractional-at k e))
 
-  pub second-else : (k ≡ 0 → ⊥) → read_pairs_by (constants_by k) n ≡ second_code k n
+  pub second-else : (c : Constants) → Fits (mode_of k) c → (k ≡ 0 → ⊥) → read_pairs_by c n ≡ second_code k n
   unfolding second_code
-  second-else some =
-      pairs-by (mode_of k) (constants_by k) (constants-fit k) n
+  second-else c fit some =
+      pairs-by (mode_of k) c fit n
       ∙ ap (λ (b : Bool). pick (fill_clear n (mode_of k).fill) (level_number (mode_of k).largest (pick b (level_of (mode_of k) n) (level_by_pairs (mode_of k) n))) (6 * 2 ^ 16)) (sym (ne_eqb k 0 some))

@@ -12,13 +12,14 @@ use Rattle.frame.specs.declared.Temperature.TheVariants.{Degrees, Above, Below, 
 use Rattle.frame.specs.Pick.{pick}
 use Rattle.frame.specs.Line.{put, mark}
 use Rattle.frame.specs.Level.{Mode, mode_of, put_level}
-use Rattle.frame.specs.Temperature.{limit, is_plus, magnitude, put_degrees, put_hundreds_1900, put_degrees_1900, put_heat_1900, put_degrees_1800, put_heat_1800, put_heat, is_absent}
+use Rattle.frame.specs.Temperature.{limit, is_plus, magnitude, put_degrees, put_degrees_1900, put_heat_1900, put_degrees_1800, put_heat_1800, put_heat, is_absent}
 use Rattle.frame.specs.declared.Reading.{Reading}
 use Rattle.frame.specs.Reply.{mode_in, is1800, body_of}
 use Rattle.frame.specs.Inside.Packed.{three_of}
 use Rattle.frame.specs.Inside.Written.{front_of}
-use Rattle.frame.specs.Inside.Constants.{Constants, constants_by, digit_bits, codes_by, write_by}
-use Rattle.frame.proofs.Constants.{Fits, write-is, constants-fit}
+use Rattle.frame.specs.declared.constants.Constants.{Constants}
+use Rattle.frame.specs.Inside.Constants.{Fits, digit_bits, codes_by, write_by}
+use Rattle.frame.proofs.Fitting.{write-is, constants-fit}
 use Rattle.frame.proofs.Upward.{up_lt, sixteen}
 use Rattle.frame.proofs.Tables.{pick-case}
 
@@ -35,13 +36,13 @@ module _ (m : Mode) (k : Constants) (f : Fits m k) where
 
       go : (b : Bool) → leb v k.largest ≡ b → write_by k v < 2 ^ 53
       go true e = rw e (shifted (codes_by k v) (4 * k.digits) k.after few f.ends)
-      go false e = rw e (shifted (2 ^ digit_bits k.first k.after - 1) (digit_bits k.first k.after) k.after (ones_lt (digit_bits k.first k.after)) (omega (arith, f.begins, f.ends)))
+      go false e = rw e (shifted (2 ^ digit_bits k.first k.after - 1) (digit_bits k.first k.after) k.after (ones_lt (digit_bits k.first k.after)) (omega (arith, k.from_16, f.ends)))
 
   below : (v : ℕ) → put_level m v < 2 ^ 53
   below v = rw (← write-is m k f v) (placed v)
 
 pub level-small : (k v : ℕ) → put_level (mode_of k) v < 2 ^ 53
-level-small k v = below (mode_of k) (constants_by k) (constants-fit k) v
+level-small k v = let f = constants-fit k in below (mode_of k) f.0 f.1 v
 
 -- a part that begins at bit 9 of the word and stays below bit 25
 pub record Low (n : ℕ) : Type 0 where
@@ -56,12 +57,6 @@ degrees-small false m = omega arith
 degrees-ends : (plus : Bool) (m : ℕ) → put_degrees plus m % 2 ^ 9 ≡ 0
 degrees-ends true m = omega arith
 degrees-ends false m = omega arith
-
-pub hundreds-small : (h : ℕ) → put_hundreds_1900 h < 2 ^ 25
-hundreds-small h = sum (1 - h % 2) (1 - h / 2 % 2) (1 - h / 4 % 2) (omega arith) (omega arith) (omega arith)
-  where
-    sum : (a b c : ℕ) → a ≤ 1 → b ≤ 1 → c ≤ 1 → a * 2 ^ 24 + b * 2 ^ 22 + c * 2 ^ 21 < 2 ^ 25
-    sum a b c ha hb hc = omega arith
 
 with-hundreds : (a b c d : ℕ) → a ≤ 1 → b ≤ 1 → c ≤ 1 → d < 2 ^ 23 + 2 ^ 21 → d % 2 ^ 9 ≡ 0 → Low (a * 2 ^ 24 + b * 2 ^ 22 + c * 2 ^ 21 + d)
 with-hundreds a b c d ha hb hc small ends = record { small = omega arith; ends = omega arith }

@@ -1,5 +1,6 @@
--- Three digits read as one number: 1000 tells that one of them is above 9, since three decimal digits are at most 999. Assumes nothing.
-use mathlib.Core.Path.{◌≡◌, refl}
+-- Three digits read as one number, or none where one of them is above 9. Assumes nothing.
+use mathlib.Core.Path.{◌≡◌, refl, sym, ap, ◌∙◌}
+use Rattle.std.specs.Prelude.{Option, Some, None}
 use mathlib.Core.Bool.{Bool, true, false, ◌&&◌}
 use Prim.Native.Nat.{ℕ, ◌+◌, ◌*◌, ◌/◌, ◌%◌, ◌<◌, ◌≤◌}
 use native.Mathlib.Omega.{arith}
@@ -21,21 +22,26 @@ number-le h t u e =
     let ht = both_left (leb h 9 && leb t 9) (leb u 9) e in
     omega (arith, leb-true h 9 (both_left (leb h 9) (leb t 9) ht), leb-true t 9 (both_right (leb h 9) (leb t 9) ht), leb-true u 9 (both_right (leb h 9 && leb t 9) (leb u 9) e))
 
--- what the number says of the digits
+-- what the number that was read, or none, says of the digits
 module _ (h t u : ℕ) where
-  pub was-bad : pick (decimals h t u) (number h t u) 1000 ≡ 1000 → decimals h t u ≡ false
+  read : Bool → Option ℕ
+  read b = pick b (Some (number h t u)) None
+
+  pub was-bad : pick (decimals h t u) (Some (number h t u)) None ≡ None → decimals h t u ≡ false
+  unfolding read
   was-bad e = go (decimals h t u) refl
     where
       go : (b : Bool) → decimals h t u ≡ b → decimals h t u ≡ false
-      go true d = absurd (omega (arith, number-le h t u d, rw d at e))
+      go true d = let z : Some (number h t u) ≡ None = sym (ap read d) ∙ e in cc
       go false d = d
 
-  pub was-good : (pick (decimals h t u) (number h t u) 1000 ≡ 1000 → ⊥) → decimals h t u ≡ true
-  was-good e = go (decimals h t u) refl
+  pub was-good : (m : ℕ) → pick (decimals h t u) (Some (number h t u)) None ≡ Some m → (decimals h t u ≡ true) × (number h t u ≡ m)
+  unfolding read
+  was-good m e = go (decimals h t u) refl
     where
-      go : (b : Bool) → decimals h t u ≡ b → decimals h t u ≡ true
-      go true d = d
-      go false d = absurd (e (rw d))
+      go : (b : Bool) → decimals h t u ≡ b → (decimals h t u ≡ true) × (number h t u ≡ m)
+      go true d = let z : Some (number h t u) ≡ Some m = sym (ap read d) ∙ e in (d, (cc))
+      go false d = let z : None ≡ Some m = sym (ap read d) ∙ e in cc
 
 -- three digits in one number of 12 bits
 pub in-twelve : (m : ℕ) → m % 4096 ≡ m / 256 % 16 * 256 + m / 16 % 16 * 16 + m % 16

@@ -8,18 +8,20 @@ use native.Mathlib.Omega.{arith}
 use borrow.Author.Tests.{eqb-true, ltb-true, ltb-false}
 use lib.Dec.{eqb, ltb, lit<}
 use lib.ListN.{length}
-use Rattle.frame.specs.declared.Reply.TheVariants.{Read, Refused, Unreadable}
 use Rattle.frame.specs.Pick.{pick}
 use Rattle.frame.specs.Line.{line, bit, three_decimal, three_digits}
 use Rattle.frame.specs.Charts.{Chart, size_of, is_odd, turned, place_in}
 use Rattle.frame.specs.Level.{Level, known, lost, Mode, width_of, read_row, level_of, fill_clear, no_chart, value_of, place_lost, above_largest}
 use Rattle.frame.specs.Temperature.{is_bad}
 use Rattle.frame.specs.Reply.{mode_in, heat_in, parity_right, reading_at, refused_by, reply_of}
-use Rattle.frame.specs.Inside.Packed.{level_number, level_code, line_fault, line_reply, level_reply, heat_reply, levelled_reply, unread_fault, unfit_fault}
+use Rattle.frame.specs.Inside.Packed.{level_number, level_code, line_fault, line_reply, level_refused, heat_reply, levelled_reply, unread_fault, unfit_fault}
 use Rattle.frame.proofs.Answers.{refused-by}
 use Rattle.frame.proofs.Refusals.{plain_by, unread-line}
 use Rattle.frame.proofs.Tables.{pick-case}
 use Rattle.frame.proofs.EachMode.{small-levels, few-digits}
+use Rattle.std.specs.Prelude.{Ok, Err}
+use Rattle.frame.specs.declared.faults.Fault.TheVariants.{InNoChart}
+use Rattle.frame.specs.Faults.{fault}
 
 -- the place of a digit in no chart is within the row
 abbrev LostBelow : ℕ → Level → Type 0
@@ -70,6 +72,15 @@ module _ (m : Mode) (small : m.largest < 65536) where
       go true e = rw e (omega arith)
       go false e = rw e (omega (arith, ltb-false m.largest v e, small))
 
+  at-least-six : (clear : Bool) (l : Level) → LostBelow 5 l → 65536 ≤ number_of m clear l → 6 * 65536 ≤ number_of m clear l
+  at-least-six false l few h = omega arith
+  at-least-six true (lost k) few h = omega arith
+  at-least-six true (known v) few h = go (ltb m.largest v) refl
+    where
+      go : (t : Bool) → ltb m.largest v ≡ t → 6 * 65536 ≤ number_of m true (known v)
+      go true e = rw e (omega arith)
+      go false e = absurd (omega (arith, ltb-false m.largest v e, small, rw e at h))
+
   passing : (clear : Bool) (l : Level) → number_of m clear l < 65536 → (rest : ℕ) → after_level m clear l rest ≡ rest
   passing false l h rest = absurd (omega arith)
   passing true (lost k) h rest = absurd (omega arith)
@@ -110,6 +121,10 @@ module _ (settings n : ℕ) where
   unfolding level_code
   level-rest h = rest-is (mode_in settings) (small-levels (settings % 4)) (fill_clear n (mode_in settings).fill) (level_of (mode_in settings) n) few h
 
+  pub level-six : 65536 ≤ level_code (mode_in settings) n → 6 * 65536 ≤ level_code (mode_in settings) n
+  unfolding level_code
+  level-six h = at-least-six (mode_in settings) (small-levels (settings % 4)) (fill_clear n (mode_in settings).fill) (level_of (mode_in settings) n) few h
+
   pub level-lt : level_code (mode_in settings) n < 9 * 65536
   unfolding level_code
   level-lt = number_lt (mode_in settings) (small-levels (settings % 4)) (fill_clear n (mode_in settings).fill) (level_of (mode_in settings) n) few
@@ -134,30 +149,30 @@ module _ (settings address count : ℕ) (s : List ℕ) where
   abbrev level : Level
   level = level_of (mode_in settings) (line s)
 
-  refused-is : (f : ℕ) → line_fault settings address count s ≡ f → (f ≡ 0 → ⊥) → line_reply settings address count s ≡ refused_by level f
+  refused-is : (f : ℕ) → line_fault settings address count s ≡ f → (f ≡ 0 → ⊥) → line_reply settings address count s ≡ Err (refused_by level f)
   unfolding line_reply
-  refused-is f e some = refused-by (Read (reading_at settings count (line s))) (refused_by level) _ f e some
+  refused-is f e some = refused-by (Ok (reading_at settings count (line s))) (λ (n : ℕ). Err (refused_by level n)) _ f e some
 
-  answer-is : (f : ℕ) → line_fault settings address count s ≡ f → (f ≡ 0 → ⊥) → eqb f 7 ≡ false → line_reply settings address count s ≡ Refused f
-  answer-is f e some other = refused-is f e some ∙ plain_by level f other
+  answer-is : (f : ℕ) → line_fault settings address count s ≡ f → (f ≡ 0 → ⊥) → eqb f 7 ≡ false → line_reply settings address count s ≡ Err (fault f)
+  answer-is f e some other = refused-is f e some ∙ ap Err (plain_by level f other)
 
   -- a refusal by the number of a level
   by_code : (code : ℕ) → (code / 65536 ≡ 7 → code % 65536 ≡ place_lost level) → (t : Bool) → eqb (code / 65536) 7 ≡ t
-      → pick t (Unreadable (place_lost level)) (Refused (code / 65536)) ≡ pick t (Unreadable (code % 65536)) (Refused (code / 65536))
-  by_code code rest true e = ap Unreadable (sym (rest (eqb-true (code / 65536) 7 e)))
+      → pick t (InNoChart (place_lost level)) (fault (code / 65536)) ≡ pick t (InNoChart (code % 65536)) (fault (code / 65536))
+  by_code code rest true e = ap InNoChart (sym (rest (eqb-true (code / 65536) 7 e)))
   by_code code rest false e = refl
 
-  pub line-3 : eqb (bit (line s) 1) 0 ≡ true → line_reply settings address count s ≡ Refused 3
+  pub line-3 : eqb (bit (line s) 1) 0 ≡ true → line_reply settings address count s ≡ Err (fault 3)
   unfolding line_fault
   line-3 e3 = answer-is 3 (rw e3) (omega arith) refl
 
   module _ (e3 : eqb (bit (line s) 1) 0 ≡ false) where
-    pub line-4 : right4 ≡ false → line_reply settings address count s ≡ Refused 4
+    pub line-4 : right4 ≡ false → line_reply settings address count s ≡ Err (fault 4)
     unfolding line_fault
     line-4 e4 = answer-is 4 (rw (e3, e4)) (omega arith) refl
 
     module _ (e4 : right4 ≡ true) where
-      pub line-5 : parity_right settings s ≡ false → line_reply settings address count s ≡ Refused 5
+      pub line-5 : parity_right settings s ≡ false → line_reply settings address count s ≡ Err (fault 5)
       unfolding line_fault
       line-5 e5 = answer-is 5 (rw (e3, e4, e5)) (omega arith) refl
 
@@ -166,18 +181,18 @@ module _ (settings address count : ℕ) (s : List ℕ) where
         unfolding line_fault
         from-6 = rw (e3, e4, e5)
 
-        pub line-level : 65536 ≤ level_code (mode_in settings) (line s) → line_reply settings address count s ≡ level_reply (level_code (mode_in settings) (line s))
+        pub line-level : 65536 ≤ level_code (mode_in settings) (line s) → line_reply settings address count s ≡ Err (level_refused (level_code (mode_in settings) (line s)))
         line-level h =
             let code = level_code (mode_in settings) (line s) in
             refused-is (code / 65536) (from-6 ∙ sym (level-refused settings (line s) h fault9)) (omega arith)
-            ∙ by_code code (level-rest settings (line s) h).1 (eqb (code / 65536) 7) refl
+            ∙ ap Err (by_code code (level-rest settings (line s) h).1 (eqb (code / 65536) 7) refl)
 
         pub line_read : level_code (mode_in settings) (line s) < 65536 → line_reply settings address count s ≡ heat_reply settings count (line s) (level_code (mode_in settings) (line s))
         unfolding line_reply heat_reply
         line_read h = rw (from-6 ∙ level-passed settings (line s) h fault9) (go (is_bad (heat_in settings count (line s))) refl)
           where
             go : (b : Bool) → is_bad (heat_in settings count (line s)) ≡ b
-                → pick (eqb (pick (is_bad (heat_in settings count (line s))) 9 0) 0) (Read (reading_at settings count (line s))) (refused_by level (pick (is_bad (heat_in settings count (line s))) 9 0))
+                → pick (eqb (pick (is_bad (heat_in settings count (line s))) 9 0) 0) (Ok (reading_at settings count (line s))) (Err (refused_by level (pick (is_bad (heat_in settings count (line s))) 9 0)))
                 ≡ heat_reply settings count (line s) (level_code (mode_in settings) (line s))
             go true e = rw e
             go false e = rw (e, level-value settings (line s) h)
@@ -187,7 +202,7 @@ module _ (settings address count : ℕ) (s : List ℕ) where
         line-levelled = go (ltb (level_code (mode_in settings) (line s)) 65536) refl
           where
             go : (b : Bool) → ltb (level_code (mode_in settings) (line s)) 65536 ≡ b
-                → pick b (heat_reply settings count (line s) (level_code (mode_in settings) (line s))) (level_reply (level_code (mode_in settings) (line s))) ≡ line_reply settings address count s
+                → pick b (heat_reply settings count (line s) (level_code (mode_in settings) (line s))) (Err (level_refused (level_code (mode_in settings) (line s)))) ≡ line_reply settings address count s
             go true e = sym (line_read (ltb-true (level_code (mode_in settings) (line s)) 65536 e))
             go false e = sym (line-level (ltb-false (level_code (mode_in settings) (line s)) 65536 e))
 
@@ -196,11 +211,11 @@ module _ (settings address count : ℕ) (s : List ℕ) where
   abbrev unfit : Bool → Bool → Bool → ℕ
   unfit a b c = pick a 3 (pick (not b) 4 (pick (not c) 5 0))
 
-  pub unfit-refused : (unfit_fault settings address (line s) s ≡ 0 → ⊥) → line_reply settings address count s ≡ Refused (unfit_fault settings address (line s) s)
+  pub unfit-refused : (unfit_fault settings address (line s) s ≡ 0 → ⊥) → line_reply settings address count s ≡ Err (fault (unfit_fault settings address (line s) s))
   unfit-refused = go (eqb (bit (line s) 1) 0) (right4 settings address count s) (parity_right settings s) refl refl refl
     where
       go : (a b c : Bool) → eqb (bit (line s) 1) 0 ≡ a → right4 settings address count s ≡ b → parity_right settings s ≡ c
-          → (unfit a b c ≡ 0 → ⊥) → line_reply settings address count s ≡ Refused (unfit a b c)
+          → (unfit a b c ≡ 0 → ⊥) → line_reply settings address count s ≡ Err (fault (unfit a b c))
       go true b c ea eb ec some = line-3 settings address count s ea
       go false false c ea eb ec some = line-4 settings address count s ea eb
       go false true false ea eb ec some = line-5 settings address count s ea eb ec
@@ -231,9 +246,9 @@ module _ (settings address count n : ℕ) (s : List ℕ) (is : n ≡ line s) (re
   same-fault : unfit_fault settings address n s ≡ unfit_fault settings address (line s) s
   same-fault = ap (λ (m : ℕ). unfit_fault settings address m s) is
 
-  pub reply-unfit : (unfit_fault settings address n s ≡ 0 → ⊥) → Refused (unfit_fault settings address n s) ≡ reply_of settings address count s
+  pub reply-unfit : (unfit_fault settings address n s ≡ 0 → ⊥) → Err (fault (unfit_fault settings address n s)) ≡ reply_of settings address count s
   reply-unfit some =
-      ap Refused same-fault ∙ sym (unread-line settings address count s read ∙ unfit-refused settings address count s (λ e. some (same-fault ∙ e)))
+      ap (λ (n : ℕ). Err (fault n)) same-fault ∙ sym (unread-line settings address count s read ∙ unfit-refused settings address count s (λ e. some (same-fault ∙ e)))
 
   pub reply-levelled : unfit_fault settings address n s ≡ 0 → levelled_reply settings count n (level_code (mode_in settings) n) ≡ reply_of settings address count s
   reply-levelled none =

@@ -1,13 +1,14 @@
 -- Document 02, request 07: levels read two digits at a time, from a table of 512 entries.
 use Rattle.std.specs.Prelude.{◌≡◌, Bool, false, ◌&&◌, List, [], ◌∷◌, ℕ, zero, suc, ◌+◌, ◌-◌, ◌*◌, ◌/◌, ◌%◌, ◌^◌, eqb, ltb, length}
-use Rattle.frame.specs.declared.Reply.{Reply}
-use Rattle.frame.specs.declared.Reply.TheVariants.{Read}
 use Rattle.frame.specs.Pick.{pick}
 use Rattle.frame.specs.Line.{line, field, mark}
 use Rattle.frame.specs.Faults.{first_of}
 use Rattle.frame.specs.Reply.{reply_tests_with, reading_with, refused_by}
 use Rattle.frame.specs.Charts.{Chart, decimal, size_of, is_odd, turned, place_in}
 use Rattle.frame.specs.Level.{Level, known, lost, Mode, mode_of, last_bit_of, level_of}
+use Rattle.std.specs.Prelude.{Result, Ok, Err}
+use Rattle.frame.specs.declared.faults.Fault.{Fault}
+use Rattle.frame.specs.declared.Reading.{Reading}
 
 -- The mark for a pair in no chart. Every pair's number is below it.
 abbrev pub no_pair : ℕ
@@ -61,13 +62,13 @@ abbrev pub second_level : ℕ → ℕ → Level
 second_level k n = pick (eqb k 0) (level_of (mode_of k) n) (level_by_pairs (mode_of k) n)
 
 -- The answer of a reply whose level is read so; all else of it is as `reply_of` has it.
-unfoldable pub second_reply : ℕ → ℕ → ℕ → List ℕ → Reply
+unfoldable pub second_reply : ℕ → ℕ → ℕ → List ℕ → Result Reading Fault
 unfolding first_of
 second_reply settings address count s =
     let level = second_level (settings % 4) (line s) in
     let fault = first_of (reply_tests_with level settings address count s) in
-    pick (eqb fault 0) (Read (reading_with level settings count (line s))) (refused_by level fault)
+    pick (eqb fault 0) (Ok (reading_with level settings count (line s))) (Err (refused_by level fault))
 
 -- What `read_reply_by_pairs` answers.
-pub record ReadsReplyByPairs (settings address count : ℕ) (reply : List ℕ) (answer : Reply) : Type 0 where
+pub record ReadsReplyByPairs (settings address count : ℕ) (reply : List ℕ) (answer : Result Reading Fault) : Type 0 where
   pub answers : answer ≡ second_reply settings address count reply

@@ -1,18 +1,15 @@
 -- Document 01, the reply: bit 1 start, 2-3 unused, address digits from bit 4, level at 16-37, alarm 1 at 38, alarm 0 at 39,
 -- temperature at 40-55 of 56 bits, parity last.
-use Rattle.std.specs.Prelude.{◌≡◌, Bool, not, ◌&&◌, List, [], ◌∷◌, ◌++◌, ℕ, ◌+◌, ◌/◌, ◌%◌, eqb, ltb, length, drop}
+use Rattle.std.specs.Prelude.{◌≡◌, Result, Ok, Err, Bool, not, ◌&&◌, List, [], ◌∷◌, ◌++◌, ℕ, ◌+◌, ◌/◌, ◌%◌, eqb, ltb, length, drop}
 use Rattle.frame.specs.declared.Reading.{Reading}
-use Rattle.frame.specs.declared.Reply.{Reply}
-use Rattle.frame.specs.declared.Reply.TheVariants.{Read, Refused, Unreadable}
+use Rattle.frame.specs.declared.faults.Fault.{Fault}
+use Rattle.frame.specs.declared.faults.Fault.TheVariants.{InNoChart}
 use Rattle.frame.specs.declared.Temperature.TheVariants.{Absent}
-use Rattle.frame.specs.declared.Written.{Written}
-use Rattle.frame.specs.declared.Written.TheVariants.{Bytes}
-use Rattle.frame.specs.declared.Written.TheVariants as written
 use Rattle.frame.specs.Pick.{pick}
 use Rattle.frame.specs.Line.{line, bit, put, mark, formed, marks, first_bytes, three_digits, three_decimal, put_three}
 use Rattle.frame.specs.Level.{Mode, Level, mode_of, level_of, fill_clear, no_chart, value_of, place_lost, above_largest, put_level}
 use Rattle.frame.specs.Temperature.{Heat, told, heat_of, is_bad, temperature_of, is_absent, put_heat}
-use Rattle.frame.specs.Faults.{Test, ◌gives◌, first_of}
+use Rattle.frame.specs.Faults.{Test, ◌gives◌, first_of, number_of, fault, verdict}
 
 -- Settings: mode in bits 0-1, bit 2 set for 1800, bit 3 set for odd parity, the rest 0.
 abbrev pub mode_in : ℕ → Mode
@@ -74,16 +71,16 @@ abbrev pub reading_at : ℕ → ℕ → ℕ → Reading
 reading_at settings count n = reading_with (level_in settings n) settings count n
 
 -- Document 02, request 02: fault 7 names the place of the first digit in no chart, counted from 0 at the top. No other fault carries a place.
-abbrev pub refused_by : Level → ℕ → Reply
-refused_by level fault = pick (eqb fault 7) (Unreadable (place_lost level)) (Refused fault)
+abbrev pub refused_by : Level → ℕ → Fault
+refused_by level n = pick (eqb n 7) (InNoChart (place_lost level)) (fault n)
 
-unfoldable pub reply_of : ℕ → ℕ → ℕ → List ℕ → Reply
+unfoldable pub reply_of : ℕ → ℕ → ℕ → List ℕ → Result Reading Fault
 reply_of settings address count s =
-    pick (eqb (reply_fault settings address count s) 0) (Read (reading_at settings count (line s)))
-    (refused_by (level_of (mode_in settings) (line s)) (reply_fault settings address count s))
+    pick (eqb (reply_fault settings address count s) 0) (Ok (reading_at settings count (line s)))
+    (Err (refused_by (level_of (mode_in settings) (line s)) (reply_fault settings address count s)))
 
 -- What `read_reply` answers.
-pub record ReadsReply (settings address count : ℕ) (reply : List ℕ) (answer : Reply) : Type 0 where
+pub record ReadsReply (settings address count : ℕ) (reply : List ℕ) (answer : Result Reading Fault) : Type 0 where
   pub answers : answer ≡ reply_of settings address count reply
 
 -- A reading whose temperature is absent takes 40 bits in 5 bytes, any other 56 bits in 7.
@@ -117,14 +114,12 @@ write_reply_fault settings address r out =
     first_of (ltb 15 settings gives 10 ∷ ltb 999 address gives 11 ∷ ltb (length out) (size_for r) gives 15 ∷ [])
 
 -- What `write_reply` answers, and the output after it: only the first 5 or 7 bytes change, and none where it refuses.
-pub record WritesReply (settings address : ℕ) (r : Reading) (out : List ℕ) (answer : Written) (after : List ℕ) : Type 0 where
-  pub answers : answer ≡ pick (eqb (write_reply_fault settings address r out) 0) (Bytes (size_for r))
-      (written.Refused (write_reply_fault settings address r out))
+pub record WritesReply (settings address : ℕ) (r : Reading) (out : List ℕ) (answer : Result ℕ Fault) (after : List ℕ) : Type 0 where
+  pub answers : answer ≡ verdict (write_reply_fault settings address r out) (size_for r)
   pub leaves : after ≡ pick (eqb (write_reply_fault settings address r out) 0)
       (first_bytes (size_for r) (reply_line settings address r) ++ drop (size_for r) out) out
 
 -- The paper's number of the answer, 0 where nothing is refused.
-abbrev pub reply_number : Reply → ℕ
-reply_number (Read r) = 0
-reply_number (Refused n) = n
-reply_number (Unreadable place) = 7
+abbrev pub reply_number : Result Reading Fault → ℕ
+reply_number (Ok r) = 0
+reply_number (Err f) = number_of f

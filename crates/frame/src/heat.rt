@@ -2,35 +2,16 @@
 ghost use Rattle.std.specs.Prelude.{◌≡◌, false, ◌≢◌, ◌+◌, ◌%◌, ◌<◌, ◌≤◌, ◌^◌, min};
 ghost use Rattle.frame.specs.Pick.{pick};
 ghost use Rattle.frame.specs.Line.{bit};
-ghost use Rattle.frame.specs.Temperature.{is_above, is_below, limit, signed, is_plus, magnitude, degrees_at, hundreds1900, heat1800, heat_of, put_degrees, put_hundreds_1900, put_degrees_1900, put_degrees_1800};
-ghost use Rattle.frame.specs.Inside.Packed.{heat_for, heat_by};
+ghost use Rattle.frame.specs.Temperature.{limit, is_plus, magnitude, degrees_at, hundreds1900, heat1800, heat_of, put_degrees, put_hundreds_1900, put_degrees_1900, put_degrees_1800};
+ghost use Rattle.frame.specs.Inside.Packed.{heat_for};
 ghost use Rattle.frame.specs.Inside.Written.{tenths_for, put_tenths};
 
-use crate::{Temperature, kinds, line};
+use crate::{Temperature, line};
 
 // The most that each type can say, with either sign.
 const LIMIT_1900: u64 = 7999;
 
 const LIMIT_1800: u64 = 1999;
-
-// What the temperature bits read as.
-#[derive(Clone, Copy)]
-pub(crate) enum Told {
-    Is(Temperature),
-    Bad,
-}
-
-// A sign and a number of tenths.
-fn degrees(plus: bool, m: u64) -> i16
-    requires { m < 2 ^ 13 }
-    ensures { result ≡ signed plus m }
-{
-    let d = m as i16;
-    if plus {
-        return d;
-    }
-    -d
-}
 
 // The sign of a number of tenths: zero is positive.
 pub fn is_plus(d: i16) -> bool
@@ -43,74 +24,41 @@ pub fn is_plus(d: i16) -> bool
 pub fn magnitude(d: i16) -> u64
     ensures { result ≡ magnitude d }
 {
-    let wide = d as i32;
-    if 0 <= wide {
-        return wide as u64;
-    }
-    (0 - wide) as u64
+    u64::from(d.unsigned_abs())
 }
 
-// What the temperature bits read as in one number, which stays in a register where a `Told` goes through memory: degrees are their tenths,
-// and 2 ^ 13 with a plus; above these stand the other answers.
-const PLUS: u64 = 0x2000;
-
-const ABOVE: u64 = 0x4000;
-
-const BELOW: u64 = 0x4001;
-
-pub(crate) const ABSENT: u64 = 0x4002;
-
-const BAD: u64 = 0x4003;
-
-pub(crate) fn told_by(heat: u64) -> Told
-    ensures { heat_for result ≡ heat_by heat }
-{
-    if heat < ABOVE {
-        let d = degrees(heat / PLUS == 1, heat % PLUS);
-        return Told::Is(Temperature::Degrees(d));
-    }
-    match heat {
-        0x4000 => Told::Is(Temperature::Above),
-        0x4001 => Told::Is(Temperature::Below),
-        0x4002 => Told::Is(Temperature::Absent),
-        _ => Told::Bad,
-    }
-}
-
-// Sign and digits at bits 41 and 44-55, with these hundreds.
-fn degrees_at(n: u64, hundreds: u64) -> u64
+// Sign and digits at bits 41 and 44-55, with these hundreds; none where a digit is above 9.
+fn degrees_at(n: u64, hundreds: u16) -> Option<Temperature>
     requires { hundreds ≤ 7 }
-    ensures { heat_by result ≡ degrees_at n hundreds }
+    ensures { heat_for result ≡ degrees_at n hundreds }
 {
-    let m = line::three(n, 9);
-    if m == 1000 {
-        return BAD;
-    }
-    (n >> 23) % 2 * PLUS + hundreds * 1000 + m
+    let d = (hundreds * 1000 + line::three(n, 9)?) as i16;
+    let plus = (n >> 23) % 2 == 1;
+    Some(Temperature::Degrees(if plus { d } else { -d }))
 }
 
 // The hundreds: of an 1800 bit 42; of a 1900 bits 40, 42, 43 are their bits 0, 1, 2, each inverted.
-fn hundreds(is_1800: bool, n: u64) -> u64
+fn hundreds(is_1800: bool, n: u64) -> u16
     ensures { (result ≡ pick is_1800 (bit n 42) (hundreds1900 n)) × (result ≤ 7) }
 {
     if is_1800 {
-        return (n >> 22) % 2;
+        return ((n >> 22) % 2) as u16;
     }
-    (1 - (n >> 24) % 2) + 2 * (1 - (n >> 22) % 2) + 4 * (1 - (n >> 21) % 2)
+    ((1 - (n >> 24) % 2) + 2 * (1 - (n >> 22) % 2) + 4 * (1 - (n >> 21) % 2)) as u16
 }
 
 // Type 1800 where bit 40 or 43 is set: bit 43 is an error, above or, with bit 40, below; sign and digits are then not read.
-fn beyond(n: u64) -> u64
+fn beyond(n: u64) -> Option<Temperature>
     requires { bit n 43 ≡ 0 → bit n 40 ≢ 0 }
-    ensures { heat_by result ≡ heat1800 n }
+    ensures { heat_for result ≡ heat1800 n }
 {
     if (n >> 21) % 2 == 0 {
-        return BAD;
+        return None;
     }
     if (n >> 24) % 2 == 1 {
-        return BELOW;
+        return Some(Temperature::Below);
     }
-    ABOVE
+    Some(Temperature::Above)
 }
 
 // How many error bits of an 1800 are set, 40 and 43; of a 1900 they are hundreds.
@@ -123,9 +71,9 @@ fn errors(is_1800: bool, n: u64) -> u64
     0
 }
 
-// The temperature of either type.
-pub(crate) fn read(is_1800: bool, n: u64) -> u64
-    ensures { heat_by result ≡ heat_of is_1800 n }
+// The temperature of either type, none where its bits are not allowed.
+pub(crate) fn read(is_1800: bool, n: u64) -> Option<Temperature>
+    ensures { heat_for result ≡ heat_of is_1800 n }
 {
     if errors(is_1800, n) != 0 {
         return beyond(n);
@@ -137,7 +85,7 @@ pub(crate) fn read(is_1800: bool, n: u64) -> u64
 fn put_degrees(plus: bool, m: u64) -> u64
     ensures { result ≡ put_degrees plus m }
 {
-    line::mark(plus) * line::BIT_41 + line::three_of(m % 1000) * line::BIT_55
+    u64::from(plus) * line::BIT_41 + line::three_of(m % 1000) * line::BIT_55
 }
 
 // The hundreds of a 1900 by their number: bits 0, 1, 2 in bits 40, 42, 43, each inverted.
@@ -157,18 +105,11 @@ fn hundreds_1900(h: u64) -> u64
     }
 }
 
-// The magnitude of a temperature, at most the end of the range of type 1900.
-fn within_1900(m: u64) -> u64
-    ensures { (result ≡ min m (limit false)) × (result ≤ 7999) }
-{
-    if LIMIT_1900 < m { LIMIT_1900 } else { m }
-}
-
 // Degrees of a 1900: beyond the range the nearer end.
 fn degrees_1900(plus: bool, m: u64) -> u64
     ensures { result ≡ put_degrees_1900 plus (min m (limit false)) }
 {
-    let within = within_1900(m);
+    let within = m.min(LIMIT_1900);
     hundreds_1900(within / 1000) + put_degrees(plus, within)
 }
 
@@ -190,41 +131,17 @@ fn degrees_1800(plus: bool, m: u64) -> u64
     BELOW_1800
 }
 
-fn is_above(t: Temperature) -> bool
-    ensures { result ≡ is_above t }
-{
-    match t {
-        Temperature::Degrees(_) => false,
-        Temperature::Above => true,
-        Temperature::Below => false,
-        Temperature::Absent => false,
-    }
-}
-
-fn is_below(t: Temperature) -> bool
-    ensures { result ≡ is_below t }
-{
-    match t {
-        Temperature::Degrees(_) => false,
-        Temperature::Above => false,
-        Temperature::Below => true,
-        Temperature::Absent => false,
-    }
-}
-
-// A temperature as a number of tenths, which stays in a register: above and below are numbers beyond the range of either type, so that each
+// A temperature as a number of tenths: above and below are numbers beyond the range of either type, so that each
 // is written as such a number would be.
 pub(crate) fn tenths(t: Temperature) -> i16
     ensures { result ≡ tenths_for t }
 {
-    let d = kinds::tenths_of(t);
-    if is_above(t) {
-        return 32767;
+    match t {
+        Temperature::Degrees(d) => d,
+        Temperature::Above => i16::MAX,
+        Temperature::Below => i16::MIN,
+        Temperature::Absent => 0,
     }
-    if is_below(t) {
-        return -32768;
-    }
-    d
 }
 
 // The bits of a number of tenths by type.

@@ -16,7 +16,7 @@ pub fn of_1800(settings: u8) -> bool
 pub fn marked(set: bool) -> u8
     ensures { result ≡ mark set }
 {
-    if set { 1 } else { 0 }
+    u8::from(set)
 }
 
 pub fn kind_of(t: Temperature) -> u8
@@ -35,9 +35,7 @@ pub fn tenths_of(t: Temperature) -> i16
 {
     match t {
         Temperature::Degrees(d) => d,
-        Temperature::Above => 0,
-        Temperature::Below => 0,
-        Temperature::Absent => 0,
+        _ => 0,
     }
 }
 

@@ -3,8 +3,9 @@ ghost use Rattle.std.specs.Prelude.{◌≡◌, ◌+◌, ◌-◌, ◌*◌, ◌/�
 ghost use Rattle.frame.specs.Charts.{size_of};
 ghost use Rattle.frame.specs.Level.{Level, read_row};
 ghost use Rattle.frame.specs.Inside.Packed.{chart_of, digit_of, digit_row, read_code, Below, level_number};
-ghost use Rattle.frame.specs.Inside.Constants.{fill_at, read_at};
+ghost use Rattle.frame.specs.Inside.Constants.{fill_at};
 
+use crate::constants::Constants;
 use crate::{charts, line};
 
 // What the reader gives for a digit in no chart: this, and the digit's place. Every level is below it.
@@ -49,24 +50,22 @@ pub(crate) fn read_digits(row: u64, left: u64, bits: u64, odd: bool, sofar: u64,
     read_digits(row / 16, left - 1, bits, d % 2 == 1, next, place + 1)
 }
 
-// The fill bits of a mode are 0: bit 16 where its digits begin after it, and those after its digits up to bit 37.
-pub(crate) fn fill_clear(n: u64, first: u64, after: u64) -> bool
-    requires le_first { 16 ≤ first }
-    requires first_bound { first ≤ 17 }
-    requires after_bound { after ≤ 6 }
-    ensures { result ≡ fill_at n first after }
-{
-    let head = (n >> 48) % 2 * (first - 16);
-    let tail = (n >> 27) % (1 << after);
-    head + tail == 0
-}
+impl Constants {
+    // The fill bits of a mode are 0: bit 16 where its digits begin after it, and those after its digits up to bit 37.
+    pub(crate) fn fill_clear(self, n: u64) -> bool
+        ensures { result ≡ fill_at n self.first self.after }
+    {
+        let head = (n >> 48) % 2 * (self.first - 16);
+        let tail = (n >> 27) % (1 << self.after);
+        head + tail == 0
+    }
 
-// The bits of the digits of a line whose fill is 0: what stands after bit 15 and above the fill. Where bit 16 is fill it is a 0 before them.
-pub(crate) fn digit_bits(n: u64, after: u64) -> u64
-    requires { after ≤ 6 }
-    ensures { result ≡ n % 2 ^ 49 / 2 ^ (27 + after) }
-{
-    (n % line::BIT_15) >> (27 + after)
+    // The bits of the digits of a line whose fill is 0: what stands after bit 15 and above the fill. Where bit 16 is fill it is a 0 before them.
+    pub(crate) fn digit_bits(self, n: u64) -> u64
+        ensures { result ≡ n % 2 ^ 49 / 2 ^ (27 + self.after) }
+    {
+        (n % line::BIT_15) >> (27 + self.after)
+    }
 }
 
 // What a reader of digits gave, as a level or a fault: 7 with the place of the digit in no chart, 8 above the largest.
@@ -80,29 +79,4 @@ pub(crate) fn judged(largest: u64, v: u64) -> u64
         return 8 * FAULT;
     }
     v
-}
-
-// A level by its mode's constants: the level, or 2 ^ 16 times the fault, to which 7 adds the place of the digit in no chart.
-// Fill is tested before code, code before range. The constants come one by one: handed over as numbers that are known where this is called, they
-// leave of the reader what their mode needs.
-pub(crate) fn read_by(
-    digits: u64,
-    first: u64,
-    after: u64,
-    largest: u64,
-    charts: u64,
-    start: bool,
-    n: u64,
-) -> u64
-    requires digits_bound { digits ≤ 5 }
-    requires le_first { 16 ≤ first }
-    requires first_bound { first ≤ 17 }
-    requires after_bound { after ≤ 6 }
-    ensures { result ≡ read_at digits first after largest charts start n }
-{
-    if !fill_clear(n, first, after) {
-        return 6 * FAULT;
-    }
-    let bits = digit_bits(n, after);
-    judged(largest, read_digits(charts, digits, bits, start, 0, 0))
 }

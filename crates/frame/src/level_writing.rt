@@ -6,7 +6,7 @@ ghost use Rattle.frame.specs.Inside.Packed.{chart_of, ones_code, three_up, write
 ghost use Rattle.frame.specs.Inside.Constants.{digit_bits, placed_at};
 
 use crate::charts;
-use crate::modes::Constants;
+use crate::constants::Constants;
 
 // The code of a level's ones digit, the digit just above it being odd or not. `above` is what stands above it: what that leaves is the digit.
 fn digit_code(chart: u64, v: u64, above: u64, odd: bool) -> u64
@@ -51,26 +51,22 @@ pub(crate) fn five_digits(top: u64, v: u64, start: bool) -> u64
         + 65536 * first_code(top, v / 10000, start)
 }
 
-// Every digit bit of a mode.
-fn every_digit_bit(first: u64, after: u64) -> u64
-    requires le_first { 16 ≤ first }
-    requires first_bound { first ≤ 17 }
-    requires after_bound { after ≤ 6 }
-    ensures { result ≡ (2 ^ digit_bits first after - 1) * 2 ^ (27 + after) }
-{
-    ((1 << (38 - first - after)) - 1) << (27 + after)
-}
-
-// A level's bits by its mode's constants and its digits in their codes. A level outside its mode has every digit bit 1; the fill is 0.
-pub(crate) fn write_by(k: Constants, v: u64, codes: u64) -> u64
-    requires le_first { 16 ≤ k.first }
-    requires first_bound { k.first ≤ 17 }
-    requires after_bound { k.after ≤ 6 }
-    requires codes_bound { codes < 2 ^ 20 }
-    ensures { result ≡ placed_at v codes k.first k.after k.largest }
-{
-    if k.largest < v {
-        return every_digit_bit(k.first, k.after);
+impl Constants {
+    // Every digit bit of a mode.
+    fn every_digit_bit(self) -> u64
+        ensures { result ≡ (2 ^ digit_bits self.first self.after - 1) * 2 ^ (27 + self.after) }
+    {
+        ((1 << (38 - self.first - self.after)) - 1) << (27 + self.after)
     }
-    codes << (27 + k.after)
+
+    // A level's bits by its digits in their codes. A level outside its mode has every digit bit 1; the fill is 0.
+    pub(crate) fn placed(self, v: u64, codes: u64) -> u64
+        requires { codes < 2 ^ 20 }
+        ensures { result ≡ placed_at v codes self.first self.after self.largest }
+    {
+        if self.largest < v {
+            return self.every_digit_bit();
+        }
+        codes << (27 + self.after)
+    }
 }

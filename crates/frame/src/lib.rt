@@ -3,6 +3,8 @@
 #![tactic(auto)]
 
 mod charts;
+mod constants;
+mod faults;
 mod heat;
 pub mod kinds;
 mod level;
@@ -19,11 +21,12 @@ ghost use Rattle.frame.specs.Poll.{ReadsPoll, WritesPoll};
 ghost use Rattle.frame.specs.Reply.{ReadsReply, WritesReply};
 ghost use Rattle.frame.specs.Pairs.{ReadsReplyByPairs};
 
+pub use faults::Fault;
 pub use heat::{is_plus, magnitude};
 pub use line::{bytes_of, formed};
 
 // A temperature in tenths of a degree, above or below its range, or absent from the reply.
-#[derive(Clone, Copy)]
+#[derive(Clone, Copy, PartialEq, Eq)]
 pub enum Temperature {
     Degrees(i16),
     Above,
@@ -32,7 +35,7 @@ pub enum Temperature {
 }
 
 // What an accepted reply tells. The level is in the unit of its mode.
-#[derive(Clone, Copy)]
+#[derive(Clone, Copy, PartialEq, Eq)]
 pub struct Reading {
     pub level: u16,
     pub temperature: Temperature,
@@ -40,76 +43,52 @@ pub struct Reading {
     pub alarm0: bool,
 }
 
-// What reading a reply answers: the reading; a refusal by its number; or fault 7, which alone names a place, that of the first digit
-// that is in no chart, counted from 0 at the top.
-#[derive(Clone, Copy)]
-pub enum Reply {
-    Read(Reading),
-    Refused(u8),
-    Unreadable(u8),
-}
-
-#[derive(Clone, Copy)]
+#[derive(Clone, Copy, PartialEq, Eq)]
 pub struct Poll {
     pub address: u16,
     pub raise: bool,
     pub reset: bool,
 }
 
-// What reading a poll answers.
-#[derive(Clone, Copy)]
-pub enum PollAnswer {
-    Asked(Poll),
-    Refused(u8),
-}
-
-// What writing answers: the bytes written, or the refusal.
-#[derive(Clone, Copy)]
-pub enum Written {
-    Bytes(usize),
-    Refused(u8),
-}
-
 // Reads a poll. Refuses 16.
-pub fn read_poll(poll: &[u8]) -> PollAnswer
+pub fn read_poll(poll: &[u8]) -> Result<Poll, Fault>
     ensures { ReadsPoll poll.now result }
 {
-    if poll.len() != 2 {
-        return PollAnswer::Refused(16);
+    let Ok(bytes) = <[u8; 2]>::try_from(poll) else {
+        return Err(Fault::NoPoll);
+    };
+    let n = u64::from(u16::from_be_bytes(bytes)) * line::BIT_16;
+    if n < line::BIT_1 {
+        return Err(Fault::NoPoll);
     }
-    let n = (line::two(poll[0], poll[1]) as u64) * line::BIT_16;
-    if n >> 63 == 0 {
-        return PollAnswer::Refused(16);
-    }
-    let address = line::three(n, 48);
-    if address == 1000 {
-        return PollAnswer::Refused(16);
-    }
-    PollAnswer::Asked(Poll {
-        address: address as u16,
+    let Some(address) = line::three(n, 48) else {
+        return Err(Fault::NoPoll);
+    };
+    Ok(Poll {
+        address,
         raise: (n >> 61) % 2 == 1,
         reset: (n >> 60) % 2 == 1,
     })
 }
 
 // Writes a poll into the first 2 bytes. Refuses 11, 15.
-pub fn write_poll(address: u16, raise: bool, reset: bool, out: &mut [u8]) -> Written
+pub fn write_poll(address: u16, raise: bool, reset: bool, out: &mut [u8]) -> Result<usize, Fault>
     ensures { WritesPoll address raise reset out.old result out.new }
 {
     if 999 < address {
-        return Written::Refused(11);
+        return Err(Fault::BadAddress);
     }
     if out.len() < 2 {
-        return Written::Refused(15);
+        return Err(Fault::ShortOutput);
     }
-    let w = polls::word(address, raise, reset);
-    out[0] = (w / 256 % 256) as u8;
-    out[1] = (w % 256) as u8;
-    Written::Bytes(2)
+    let [high, low] = polls::word(address, raise, reset).to_be_bytes();
+    out[0] = high;
+    out[1] = low;
+    Ok(2)
 }
 
 // Reads a reply to a poll of this address, in the mode, type and parity of these settings. Refuses 10, 11, 14, then 1 to 9.
-pub fn read_reply(settings: u8, address: u16, count: usize, reply: &[u8]) -> Reply
+pub fn read_reply(settings: u8, address: u16, count: usize, reply: &[u8]) -> Result<Reading, Fault>
     ensures { ReadsReply settings address count reply.now result }
 {
     replies::read(settings, address, count, reply)
@@ -117,7 +96,12 @@ pub fn read_reply(settings: u8, address: u16, count: usize, reply: &[u8]) -> Rep
 
 // The same answer by the second reader: a level in the decimal or a metric mode is read two digits at a time, from a table. Refuses 10, 11,
 // 14, then 1 to 9.
-pub fn read_reply_by_pairs(settings: u8, address: u16, count: usize, reply: &[u8]) -> Reply
+pub fn read_reply_by_pairs(
+    settings: u8,
+    address: u16,
+    count: usize,
+    reply: &[u8],
+) -> Result<Reading, Fault>
     ensures plain { ReadsReply settings address count reply.now result }
     ensures paired { ReadsReplyByPairs settings address count reply.now result }
 {
@@ -125,21 +109,26 @@ pub fn read_reply_by_pairs(settings: u8, address: u16, count: usize, reply: &[u8
 }
 
 // Writes a reply: a reading whose temperature is absent into the first 5 bytes, any other into the first 7. Refuses 10, 11, 15.
-pub fn write_reply(settings: u8, address: u16, reading: Reading, out: &mut [u8]) -> Written
+pub fn write_reply(
+    settings: u8,
+    address: u16,
+    reading: Reading,
+    out: &mut [u8],
+) -> Result<usize, Fault>
     ensures { WritesReply settings address reading out.old result out.new }
 {
     let t = reading.temperature;
     if 15 < settings {
-        return Written::Refused(10);
+        return Err(Fault::BadSettings);
     }
     if 999 < address {
-        return Written::Refused(11);
+        return Err(Fault::BadAddress);
     }
     let short = writing::is_absent(t);
     let size = writing::size_for(short);
     if out.len() < size {
-        return Written::Refused(15);
+        return Err(Fault::ShortOutput);
     }
     writing::store(writing::whole_line(settings, address, reading), short, out);
-    Written::Bytes(size)
+    Ok(size)
 }

@@ -1,24 +1,17 @@
 // Bits on the line: the form of what is lent, and its bytes as one word.
-ghost use Rattle.std.specs.Prelude.{◌≡◌, ◌+◌, ◌*◌, ◌^◌, ◌≤◌, ◌≢◌, length};
-ghost use Rattle.frame.specs.Line.{first_bytes, formed, line, mark};
-ghost use Rattle.frame.specs.Inside.Packed.{three_by, three_of};
+ghost use Rattle.std.specs.Prelude.{◌≡◌, ◌+◌, ◌*◌, ◌^◌, ◌≤◌, MatchOption, length};
+ghost use Rattle.frame.specs.Line.{first_bytes, formed, line, marks};
+ghost use Rattle.frame.specs.Inside.Packed.{bytes_in, three_by, three_of};
 
 // A line is lent in the right form: at most 64 bits, exactly the bytes for its count, pad bits 0.
 pub fn formed(count: usize, reply: &[u8]) -> bool
     ensures { result ≡ formed count reply.now }
 {
-    if 64 < count {
-        return false;
-    }
-    if reply.len() != (count + 7) / 8 {
+    if 64 < count || reply.len() != count.div_ceil(8) {
         return false;
     }
     let over = count % 8;
-    if over == 0 {
-        return true;
-    }
-    let last = reply[count / 8];
-    last % (1u8 << (8 - over)) == 0
+    over == 0 || reply[count / 8] % (1u8 << (8 - over)) == 0
 }
 
 // A one at the bit of the line that each is named by: bit 1 is the word's highest bit, bit b stands 64 - b bits above its lowest.
@@ -44,64 +37,55 @@ pub(crate) const BIT_55: u64 = 1 << 9;
 
 pub(crate) const BIT_56: u64 = 1 << 8;
 
-// A mark is 1.
-pub(crate) fn mark(b: bool) -> u64
-    ensures { (result ≡ mark b) × (result ≤ 1) }
+// The marks of a reply, counted over its bytes.
+pub(crate) fn marks(reply: &[u8]) -> u32
+    requires { length reply.now ≤ 8 }
+    ensures { result ≡ marks reply.now }
 {
-    if b { 1 } else { 0 }
+    reply.iter().map(|byte| byte.count_ones()).sum()
 }
 
-// Two bytes, words or double words as one number, the first of them higher.
-pub(crate) fn two(a: u8, b: u8) -> u16
-    ensures { result ≡ a * 256 + b }
-{
-    (a as u16) * 256 + (b as u16)
+// The bytes of a reply of either length: 5 in 40 bits, 7 in 56.
+#[derive(Clone, Copy)]
+pub(crate) enum Lent<'a> {
+    Five(&'a [u8; 5]),
+    Seven(&'a [u8; 7]),
 }
 
-fn four(a: u16, b: u16) -> u32
-    ensures { result ≡ a * 2 ^ 16 + b }
-{
-    (a as u32) * 0x10000 + (b as u32)
-}
-
-fn eight(a: u32, b: u32) -> u64
-    ensures { result ≡ a * 2 ^ 32 + b }
-{
-    (a as u64) * 0x100000000 + (b as u64)
-}
-
-// The 5 or 7 bytes of a reply as one word, bit 1 highest.
-pub(crate) fn pack(reply: &[u8]) -> u64
-    requires in_bounds { 5 ≤ length reply.now }
-    requires reply_len_bound { length reply.now ≤ 7 }
-    requires reply_nonzero { length reply.now ≢ 6 }
-    ensures { result ≡ line reply.now }
-{
-    let front = four(two(reply[0], reply[1]), two(reply[2], reply[3]));
-    if reply.len() == 7 {
-        return eight(front, four(two(reply[4], reply[5]), two(reply[6], 0)));
+impl<'a> Lent<'a> {
+    // As one word, bit 1 highest.
+    pub(crate) fn word(self) -> u64
+        ensures { result ≡ line (bytes_in self.entry) }
+    {
+        match self {
+            Lent::Five(s) => u64::from_be_bytes([s[0], s[1], s[2], s[3], s[4], 0, 0, 0]),
+            Lent::Seven(s) => u64::from_be_bytes([s[0], s[1], s[2], s[3], s[4], s[5], s[6], 0]),
+        }
     }
-    eight(front, four(two(reply[4], 0), 0))
+
+    pub(crate) fn marks(self) -> u32
+        ensures { result ≡ marks (bytes_in self.entry) }
+    {
+        match self {
+            Lent::Five(s) => marks(s),
+            Lent::Seven(s) => marks(s),
+        }
+    }
 }
 
-// Three decimal digits, the last at `shift` bits above the lowest bit: their number, or 1000 where one is above 9.
-pub(crate) fn three(n: u64, shift: u64) -> u64
+// Three decimal digits, the last at `shift` bits above the lowest bit: their number, or none where one is above 9.
+pub(crate) fn three(n: u64, shift: u64) -> Option<u16>
     requires { shift ≤ 49 }
-    ensures { result ≡ three_by n shift }
+    ensures value { result ≡ three_by n shift }
+    ensures bound { MatchOption result (Unit {0}) (λ m. m ≤ 999) }
 {
     let hundreds = (n >> (shift + 8)) % 16;
     let tens = (n >> (shift + 4)) % 16;
     let units = (n >> shift) % 16;
-    if 9 < hundreds {
-        return 1000;
+    if 9 < hundreds || 9 < tens || 9 < units {
+        return None;
     }
-    if 9 < tens {
-        return 1000;
-    }
-    if 9 < units {
-        return 1000;
-    }
-    hundreds * 100 + tens * 10 + units
+    Some((hundreds * 100 + tens * 10 + units) as u16)
 }
 
 // A number up to 999 as three digits of four bits: a ten is 16 there and a hundred 256, so that every ten adds 6 and every hundred 96
@@ -117,14 +101,5 @@ pub(crate) fn three_of(v: u64) -> u64
 pub fn bytes_of(word: u64) -> [u8; 8]
     ensures { result ≡ first_bytes 8 word }
 {
-    [
-        ((word >> 56) % 256) as u8,
-        ((word >> 48) % 256) as u8,
-        ((word >> 40) % 256) as u8,
-        ((word >> 32) % 256) as u8,
-        ((word >> 24) % 256) as u8,
-        ((word >> 16) % 256) as u8,
-        ((word >> 8) % 256) as u8,
-        (word % 256) as u8,
-    ]
+    word.to_be_bytes()
 }

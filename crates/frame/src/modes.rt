@@ -1,29 +1,55 @@
 // The four modes. Each mode's type carries its constants, and a level is read and written by those of its own mode.
 ghost use Rattle.std.specs.Prelude.{◌≡◌, ◌<◌, ◌^◌};
-ghost use Rattle.frame.specs.Level.{mode_of, put_level};
-ghost use Rattle.frame.specs.Inside.Packed.{level_code, second_code};
-ghost use Rattle.frame.specs.Inside.Constants.{fractional, decimal_feet, metres20, metres30, constants_by, codes_by, read_by, write_by};
+ghost use Rattle.frame.specs.declared.constants.Constants.{Constants};
+ghost use Rattle.frame.specs.Level.{Mode as PaperMode, mode_of, put_level, fractional_mode, decimal_mode, twenty_metre_mode, thirty_metre_mode};
+ghost use Rattle.frame.specs.Inside.Packed.{level_code};
+ghost use Rattle.frame.specs.Inside.Constants.{Fits, fractional, decimal_feet, metres20, metres30, codes_by};
+ghost use Rattle.frame.specs.Inside.Fitting.{fractional_fits, decimal_fits, metres20_fits, metres30_fits};
 
+use crate::constants::Constants;
 use crate::{level, level_writing, pairs};
 
-// How many digits a mode has, the bit that they begin at (those from bit 16 up to it are fill), the fill bits after them (up to bit 37), its
-// largest level, the charts of its digits in a word (four bits a digit, the top digit lowest), and the starting state: whether a digit above
-// the first is odd. None stands there, and the first is always read straight.
-#[derive(Clone, Copy)]
-pub(crate) struct Constants {
-    pub(crate) digits: u64,
-    pub(crate) first: u64,
-    pub(crate) after: u64,
-    pub(crate) largest: u64,
-    pub(crate) charts: u64,
-    pub(crate) start: bool,
+// A mode: its constants, and the codes of a level's digits.
+trait Mode {
+    // The mode as document 01 has it.
+    ghost paper: { PaperMode };
+
+    ghost CONSTANTS: { Constants };
+
+    const CONSTANTS: Constants;
+
+    fn codes(v: u64) -> u64
+        ensures { (result ≡ codes_by CONSTANTS v) × (result < 2 ^ 20) };
+
+    // The constants give what the mode says.
+    ghost fits: { Fits paper CONSTANTS };
+}
+
+// The level of a line in a mode: the level, or 2 ^ 16 times the fault, to which 7 adds the place of the digit in no chart. Fill is tested before
+// code, code before range.
+fn read<M: Mode>(n: u64) -> u64
+    ensures { result ≡ level_code M.paper n }
+{
+    let k = M::CONSTANTS;
+    if !k.fill_clear(n) {
+        return 6 * level::FAULT;
+    }
+    let v = level::read_digits(k.charts, k.digits, k.digit_bits(n), k.start, 0, 0);
+    level::judged(k.largest, v)
+}
+
+// The bits of a level in a mode.
+fn write<M: Mode>(v: u64) -> u64
+    ensures { result ≡ put_level M.paper v }
+{
+    M::CONSTANTS.placed(v, M::codes(v))
 }
 
 // Feet, inches and sixteenths.
 #[derive(Clone, Copy)]
 struct Fractional;
 
-impl Fractional {
+impl Mode for Fractional {
     const CONSTANTS: Constants = Constants {
         digits: 4,
         first: 17,
@@ -33,27 +59,18 @@ impl Fractional {
         start: false,
     };
 
-    fn read(n: u64) -> u64
-        ensures { result ≡ read_by fractional n }
-    {
-        let k = Self::CONSTANTS;
-        level::read_by(k.digits, k.first, k.after, k.largest, k.charts, k.start, n)
-    }
+    ghost paper = { fractional_mode };
 
-    // The codes of a level's digits: sixteenths, inches, feet, feet tens.
-    fn codes(v: u64) -> u64
-        ensures { (result ≡ codes_by fractional v) × (result < 2 ^ 20) }
-    {
+    ghost CONSTANTS = { fractional };
+
+    ghost fits = { fractional_fits };
+
+    // Sixteenths, inches, feet, feet tens.
+    fn codes(v: u64) -> u64 {
         level_writing::ones_code(5, v, v / 16)
             + 16 * level_writing::ones_code(4, v / 16, v / 192)
             + 256 * level_writing::ones_code(3, v / 192, v / 1920)
             + 4096 * level_writing::first_code(2, v / 1920, Self::CONSTANTS.start)
-    }
-
-    fn write(v: u64) -> u64
-        ensures { result ≡ write_by fractional v }
-    {
-        level_writing::write_by(Self::CONSTANTS, v, Self::codes(v))
     }
 }
 
@@ -61,7 +78,7 @@ impl Fractional {
 #[derive(Clone, Copy)]
 struct Decimal;
 
-impl Decimal {
+impl Mode for Decimal {
     const CONSTANTS: Constants = Constants {
         digits: 4,
         first: 17,
@@ -71,25 +88,16 @@ impl Decimal {
         start: false,
     };
 
-    fn read(n: u64) -> u64
-        ensures { result ≡ read_by decimal_feet n }
-    {
-        let k = Self::CONSTANTS;
-        level::read_by(k.digits, k.first, k.after, k.largest, k.charts, k.start, n)
-    }
+    ghost paper = { decimal_mode };
 
-    // The codes of a level's digits: hundredths, tenths, feet, feet tens.
-    fn codes(v: u64) -> u64
-        ensures { (result ≡ codes_by decimal_feet v) × (result < 2 ^ 20) }
-    {
+    ghost CONSTANTS = { decimal_feet };
+
+    ghost fits = { decimal_fits };
+
+    // Hundredths, tenths, feet, feet tens.
+    fn codes(v: u64) -> u64 {
         level_writing::three_decimals(v)
             + 4096 * level_writing::first_code(2, v / 1000, Self::CONSTANTS.start)
-    }
-
-    fn write(v: u64) -> u64
-        ensures { result ≡ write_by decimal_feet v }
-    {
-        level_writing::write_by(Self::CONSTANTS, v, Self::codes(v))
     }
 }
 
@@ -97,7 +105,7 @@ impl Decimal {
 #[derive(Clone, Copy)]
 struct Metres20;
 
-impl Metres20 {
+impl Mode for Metres20 {
     const CONSTANTS: Constants = Constants {
         digits: 5,
         first: 16,
@@ -107,18 +115,14 @@ impl Metres20 {
         start: false,
     };
 
-    fn read(n: u64) -> u64
-        ensures { result ≡ read_by metres20 n }
-    {
-        let k = Self::CONSTANTS;
-        level::read_by(k.digits, k.first, k.after, k.largest, k.charts, k.start, n)
-    }
+    ghost paper = { twenty_metre_mode };
 
-    fn write(v: u64) -> u64
-        ensures { result ≡ write_by metres20 v }
-    {
-        let codes = level_writing::five_digits(0, v, Self::CONSTANTS.start);
-        level_writing::write_by(Self::CONSTANTS, v, codes)
+    ghost CONSTANTS = { metres20 };
+
+    ghost fits = { metres20_fits };
+
+    fn codes(v: u64) -> u64 {
+        level_writing::five_digits(0, v, Self::CONSTANTS.start)
     }
 }
 
@@ -126,7 +130,7 @@ impl Metres20 {
 #[derive(Clone, Copy)]
 struct Metres30;
 
-impl Metres30 {
+impl Mode for Metres30 {
     const CONSTANTS: Constants = Constants {
         digits: 5,
         first: 16,
@@ -136,18 +140,14 @@ impl Metres30 {
         start: false,
     };
 
-    fn read(n: u64) -> u64
-        ensures { result ≡ read_by metres30 n }
-    {
-        let k = Self::CONSTANTS;
-        level::read_by(k.digits, k.first, k.after, k.largest, k.charts, k.start, n)
-    }
+    ghost paper = { thirty_metre_mode };
 
-    fn write(v: u64) -> u64
-        ensures { result ≡ write_by metres30 v }
-    {
-        let codes = level_writing::five_digits(1, v, Self::CONSTANTS.start);
-        level_writing::write_by(Self::CONSTANTS, v, codes)
+    ghost CONSTANTS = { metres30 };
+
+    ghost fits = { metres30_fits };
+
+    fn codes(v: u64) -> u64 {
+        level_writing::five_digits(1, v, Self::CONSTANTS.start)
     }
 }
 
@@ -159,19 +159,19 @@ pub(crate) fn read_level(mode: u64, n: u64) -> u64
 {
     if mode < 2 {
         if mode == 0 {
-            return Fractional::read(n);
+            return read::<Fractional>(n);
         }
-        return Decimal::read(n);
+        return read::<Decimal>(n);
     }
     if mode == 2 {
-        return Metres20::read(n);
+        return read::<Metres20>(n);
     }
-    Metres30::read(n)
+    read::<Metres30>(n)
 }
 
 // The constants of the mode of this number, those that its type carries.
 pub(crate) fn constants_of(mode: u64) -> Constants
-    ensures { result ≡ constants_by mode }
+    ensures { Fits (mode_of mode) result }
 {
     match mode {
         0 => Fractional::CONSTANTS,
@@ -183,13 +183,13 @@ pub(crate) fn constants_of(mode: u64) -> Constants
 
 // The same as `read_level`, two digits at a time where all digits are decimal. The mode's constants are handed over as they were picked.
 pub(crate) fn read_level_by_pairs(mode: u64, k: Constants, n: u64) -> u64
-    requires { k ≡ constants_by mode }
-    ensures { result ≡ second_code mode n }
+    requires { Fits (mode_of mode) k }
+    ensures { result ≡ level_code (mode_of mode) n }
 {
     if mode == 0 {
-        return Fractional::read(n);
+        return read::<Fractional>(n);
     }
-    pairs::read_by(k.digits, k.first, k.after, k.largest, k.start, n)
+    pairs::read_by(k, n)
 }
 
 // The bits of a level in the mode of this number, asked for as in `read_level`; the fill is 0.
@@ -198,12 +198,12 @@ pub(crate) fn write_level(mode: u64, v: u64) -> u64
 {
     if mode < 2 {
         if mode == 0 {
-            return Fractional::write(v);
+            return write::<Fractional>(v);
         }
-        return Decimal::write(v);
+        return write::<Decimal>(v);
     }
     if mode == 2 {
-        return Metres20::write(v);
+        return write::<Metres20>(v);
     }
-    Metres30::write(v)
+    write::<Metres30>(v)
 }

@@ -5,31 +5,22 @@ ghost use Rattle.frame.specs.Line.{mark};
 ghost use Rattle.frame.specs.Level.{Level};
 ghost use Rattle.frame.specs.Pairs.{no_pair, table_entry, index_of, read_pairs, uncounted};
 ghost use Rattle.frame.specs.Inside.Packed.{read_code, Below, level_number};
-ghost use Rattle.frame.specs.Inside.Constants.{read_pairs_at};
+ghost use Rattle.frame.specs.Inside.Constants.{read_pairs_by};
 
+use crate::constants::Constants;
 use crate::pair_table::Entries;
 use crate::{level, pair_table};
 
 // The mark for a pair in no chart. Every pair's number is below it.
 const NO_PAIR: u64 = 255;
 
-// The words that the entries of a pair with its first digit turned or straight stand in.
-fn either(odd: bool, entries: Entries) -> u64
-    ensures { result ≡ pick odd entries.turned entries.straight }
-{
-    if odd {
-        entries.turned
-    } else {
-        entries.straight
-    }
-}
-
 // The table's entry for a pair of codes, its first digit turned or straight; the codes stand side by side in eight bits.
 fn entry(odd: bool, codes: u64) -> u64
     requires { codes < 256 }
     ensures { result ≡ table_entry (mark odd * 256 + codes) }
 {
-    let word = either(odd, pair_table::eight(codes / 8));
+    let Entries { straight, turned } = pair_table::eight(codes / 8);
+    let word = if odd { turned } else { straight };
     (word >> (8 * (codes % 8))) % 256
 }
 
@@ -84,39 +75,25 @@ fn read_pairs(left: u64, bits: u64, odd: bool, sofar: u64, place: u64) -> u64
     read_pairs(left - 1, bits, pair % 2 == 1, next, place + 2)
 }
 
-// A place counted from the first digit of the mode: digits 0000 that stand before it are not counted.
-fn less_zeros(zeros: u64, place: u64) -> u64
-    ensures { result ≡ place - zeros }
-{
-    if place < zeros {
-        return 0;
-    }
-    place - zeros
-}
-
-// What was read, as `level::judged` has it, with the place so counted.
+// What was read, as `level::judged` has it, with a place counted from the first digit of the mode: digits 0000 that stand before it are not
+// counted.
 fn judged(largest: u64, zeros: u64, v: u64) -> u64
     ensures { (l : Level) → Below (2 ^ 32) l → v ≡ read_code l → result ≡ level_number largest (uncounted zeros l) }
 {
     if level::LOST <= v {
-        return 7 * level::FAULT + less_zeros(zeros, v - level::LOST);
+        return 7 * level::FAULT + (v - level::LOST).saturating_sub(zeros);
     }
     level::judged(largest, v)
 }
 
 // A level by its mode's constants, as `level::read_by` has it, two digits at a time. A digit 0000 stands before digits that are odd in number: read
 // straight it is 0 and even, so that the first digit of the mode is still read straight.
-pub(crate) fn read_by(digits: u64, first: u64, after: u64, largest: u64, start: bool, n: u64) -> u64
-    requires digits_bound { digits ≤ 5 }
-    requires le_first { 16 ≤ first }
-    requires first_bound { first ≤ 17 }
-    requires after_bound { after ≤ 6 }
-    ensures { result ≡ read_pairs_at digits first after largest start n }
+pub(crate) fn read_by(k: Constants, n: u64) -> u64
+    ensures { result ≡ read_pairs_by k n }
 {
-    if !level::fill_clear(n, first, after) {
+    if !k.fill_clear(n) {
         return 6 * level::FAULT;
     }
-    let bits = level::digit_bits(n, after);
-    let v = read_pairs((digits + 1) / 2, bits, start, 0, 0);
-    judged(largest, digits % 2, v)
+    let v = read_pairs((k.digits + 1) / 2, k.digit_bits(n), k.start, 0, 0);
+    judged(k.largest, k.digits % 2, v)
 }

@@ -1,186 +1,170 @@
 // A reply: its refusals in their order, by what is asked before its bits, of its line, and of its level and temperature; and the reading.
-ghost use Rattle.std.specs.Prelude.{◌≡◌, ◌≢◌, eqb, length, ℕ, ◌≤◌, ◌<◌, ◌%◌, ◌^◌};
-ghost use Rattle.frame.specs.Pick.{pick};
-ghost use Rattle.frame.specs.Line.{formed, marks};
-ghost use Rattle.frame.specs.Reply.{heat_in, parity_right, reply_of};
-ghost use Rattle.frame.specs.Inside.Packed.{heat_by, heat_reply, level_reply, form_fault, unread_fault, unfit_fault};
+ghost use Rattle.std.specs.Prelude.{◌≡◌, ◌≢◌, ℕ, ◌*◌, ◌≤◌, ◌<◌, ◌%◌, ◌^◌, MatchResult};
+ghost use Rattle.frame.specs.Faults.{fault};
+ghost use Rattle.frame.specs.Reply.{mode_in, heat_in, parity_right, reply_of};
+ghost use Rattle.frame.specs.Inside.Packed.{bytes_in, IsSized, IsLent, heat_for, heat_reply, level_code, level_refused, form_fault, unread_fault, unfit_fault};
 
-use crate::heat::Told;
-use crate::{Reading, Reply, Temperature, heat, kinds, level, line, modes};
+use crate::line::Lent;
+use crate::{Fault, Reading, Temperature, heat, kinds, level, line, modes};
 
-// A reply whose count has no pad bits is in the right form where it has the bytes for it.
-fn unlike(bytes: usize, wanted: usize) -> u64
-    ensures { result ≡ pick (eqb bytes wanted) 0 14 }
-{
-    if bytes == wanted { 0 } else { 14 }
-}
-
-// The refusal of a reply that has neither 40 nor 56 bits.
-fn odd_length(count: usize, reply: &[u8]) -> u64
-    ensures { result ≡ pick (formed count reply.now) (pick (eqb count 0) 1 2) 14 }
-{
-    if !line::formed(count, reply) {
-        return 14;
-    }
-    if count == 0 {
-        return 1;
-    }
-    2
-}
-
-// The refusal by form or length, 0 for none. The two lengths that a reply can have are asked for first.
-fn misformed(count: usize, reply: &[u8]) -> u64
-    ensures { result ≡ form_fault count reply.now }
+// The bytes of a reply by its length, or its refusal by form or length. The two lengths that a reply can have are asked for first; they have no pad
+// bits, so that the form is right where there are the bytes for them.
+fn sized(count: usize, reply: &[u8]) -> Result<Lent<'_>, Fault>
+    ensures { MatchResult result (λ lent. IsSized count reply.now lent) (λ f. (f ≡ fault (form_fault count reply.now)) × (form_fault count reply.now ≢ 0)) }
 {
     if count == 40 {
-        return unlike(reply.len(), 5);
+        let Some(bytes) = reply.as_array() else {
+            return Err(Fault::BadForm);
+        };
+        return Ok(Lent::Five(bytes));
     }
     if count == 56 {
-        return unlike(reply.len(), 7);
+        let Some(bytes) = reply.as_array() else {
+            return Err(Fault::BadForm);
+        };
+        return Ok(Lent::Seven(bytes));
     }
-    odd_length(count, reply)
+    if !line::formed(count, reply) {
+        return Err(Fault::BadForm);
+    }
+    Err(if count == 0 {
+        Fault::Silent
+    } else {
+        Fault::WrongLength
+    })
 }
 
-// The first refusal before a reply's bits are looked at, 0 for none.
-fn unread(settings: u8, address: u16, count: usize, reply: &[u8]) -> u64
-    ensures { result ≡ unread_fault settings address count reply.now }
+// The bytes of a reply, or the first refusal before its bits are looked at.
+fn lent(settings: u8, address: u16, count: usize, reply: &[u8]) -> Result<Lent<'_>, Fault>
+    ensures { MatchResult result (λ lent. IsLent settings address count reply.now lent) (λ f. (f ≡ fault (unread_fault settings address count reply.now)) × (unread_fault settings address count reply.now ≢ 0)) }
 {
     if 15 < settings {
-        return 10;
+        return Err(Fault::BadSettings);
     }
     if 999 < address {
-        return 11;
+        return Err(Fault::BadAddress);
     }
-    misformed(count, reply)
-}
-
-// The marks of a reply of 5 or 7 bytes, counted over its bytes as they are lent.
-fn marks(reply: &[u8]) -> u32
-    requires in_bounds { 5 ≤ length reply.now }
-    requires reply_len_bound { length reply.now ≤ 7 }
-    requires reply_nonzero { length reply.now ≢ 6 }
-    ensures { result ≡ marks reply.now }
-{
-    let five = u8::count_ones(reply[0])
-        + u8::count_ones(reply[1])
-        + u8::count_ones(reply[2])
-        + u8::count_ones(reply[3])
-        + u8::count_ones(reply[4]);
-    if reply.len() == 7 {
-        return five + u8::count_ones(reply[5]) + u8::count_ones(reply[6]);
-    }
-    five
+    sized(count, reply)
 }
 
 // Parity covers the whole reply, parity bit included: its marks are even in number, or odd, by setting.
-fn parity_right(settings: u8, reply: &[u8]) -> bool
-    requires in_bounds { 5 ≤ length reply.now }
-    requires reply_len_bound { length reply.now ≤ 7 }
-    requires reply_nonzero { length reply.now ≢ 6 }
-    ensures { result ≡ parity_right settings reply.now }
+fn parity_right(settings: u8, lent: Lent<'_>) -> bool
+    ensures { result ≡ parity_right settings (bytes_in lent.entry) }
 {
-    marks(reply) % 2 == (settings / 8 % 2) as u32
+    lent.marks() % 2 == u32::from(settings / 8 % 2)
 }
 
-// The first refusal of a reply before its level, 3, 4 or 5, and 0 for none; `n` is its line. The address is compared in its digits, since those
+// The first refusal of a reply before its level, 3, 4 or 5; `n` is its line. The address is compared in its digits, since those
 // of an address that was polled are decimal.
-fn unfit(settings: u8, address: u16, n: u64, reply: &[u8]) -> u64
-    requires address_bound { address ≤ 999 }
-    requires in_bounds { 5 ≤ length reply.now }
-    requires reply_len_bound { length reply.now ≤ 7 }
-    requires reply_nonzero { length reply.now ≢ 6 }
-    ensures { result ≡ unfit_fault settings address n reply.now }
+fn unfit(settings: u8, address: u16, n: u64, lent: Lent<'_>) -> Result<(), Fault>
+    requires { address ≤ 999 }
+    ensures { MatchResult result (λ _. unfit_fault settings address n (bytes_in lent.entry) ≡ 0) (λ f. (f ≡ fault (unfit_fault settings address n (bytes_in lent.entry))) × (unfit_fault settings address n (bytes_in lent.entry) ≢ 0)) }
 {
     if n < line::BIT_1 {
-        return 3;
+        return Err(Fault::NoStart);
     }
-    if (n >> 49) % 4096 != line::three_of(address as u64) {
-        return 4;
+    if (n >> 49) % 4096 != line::three_of(u64::from(address)) {
+        return Err(Fault::WrongAddress);
     }
-    if !parity_right(settings, reply) {
-        return 5;
+    if !parity_right(settings, lent) {
+        return Err(Fault::WrongParity);
     }
-    0
+    Ok(())
 }
 
-// The temperature of a reply as a number: absent in 40 bits, else by type.
-fn read_heat(settings: u8, count: usize, n: u64) -> u64
-    ensures { heat_by result ≡ heat_in settings count n }
+// The temperature of a reply, none where its bits are not allowed: absent in 40 bits, else by type.
+fn read_heat(settings: u8, count: usize, n: u64) -> Option<Temperature>
+    ensures { heat_for result ≡ heat_in settings count n }
 {
     if count == 40 {
-        return heat::ABSENT;
+        return Some(Temperature::Absent);
     }
     heat::read(kinds::of_1800(settings), n)
 }
 
 // The reading of a reply whose level and temperature are read, or fault 9.
-fn with_level(n: u64, level: u64, heat: u64) -> Reply
+fn with_level(n: u64, level: u64, heat: Option<Temperature>) -> Result<Reading, Fault>
     requires { level < 2 ^ 16 }
-    ensures { (settings count : ℕ) → heat_by heat ≡ heat_in settings count n → result ≡ heat_reply settings count n level }
+    ensures { (settings count : ℕ) → heat_for heat ≡ heat_in settings count n → result ≡ heat_reply settings count n level }
 {
-    match heat::told_by(heat) {
-        Told::Is(temperature) => Reply::Read(Reading {
-            level: level as u16,
-            temperature,
-            alarm1: (n >> 26) % 2 == 1,
-            alarm0: (n >> 25) % 2 == 1,
-        }),
-        Told::Bad => Reply::Refused(9),
-    }
+    let Some(temperature) = heat else {
+        return Err(Fault::BadTemperature);
+    };
+    Ok(Reading {
+        level: level as u16,
+        temperature,
+        alarm1: (n >> 26) % 2 == 1,
+        alarm0: (n >> 25) % 2 == 1,
+    })
 }
 
 // The refusal that the number of a level stands for: 6 and 8 by their number alone, 7 with the place of the digit.
-fn by_level(code: u64) -> Reply
-    requires code_bound { code < 2 ^ 24 }
+fn by_level(code: u64) -> Fault
+    requires code_bound { code < 9 * 2 ^ 16 }
     requires code_bound_2 { code % 2 ^ 16 < 2 ^ 8 }
-    ensures { result ≡ level_reply code }
+    requires code_bound_3 { 6 * 2 ^ 16 ≤ code }
+    ensures { result ≡ level_refused code }
 {
-    let fault = code / level::FAULT;
-    if fault == 7 {
-        return Reply::Unreadable((code % level::FAULT) as u8);
+    match code / level::FAULT {
+        7 => Fault::InNoChart((code % level::FAULT) as u8),
+        8 => Fault::OutOfRange,
+        _ => Fault::FillSet,
     }
-    Reply::Refused(fault as u8)
+}
+
+// Any reply, its level read by `level`.
+fn read_with<F: FnOnce(u64) -> u64>(
+    settings: u8,
+    address: u16,
+    count: usize,
+    reply: &[u8],
+    level: F,
+) -> Result<Reading, Fault>
+    requires callable { (n : ℕ) → F.pre level n }
+    requires reads { (n r : ℕ) → F.post level n r → r ≡ level_code (mode_in settings) n }
+    ensures { result ≡ reply_of settings address count reply.now }
+{
+    let lent = lent(settings, address, count, reply)?;
+    let n = lent.word();
+    unfit(settings, address, n, lent)?;
+    let v = level(n);
+    if level::FAULT <= v {
+        return Err(by_level(v));
+    }
+    with_level(n, v, read_heat(settings, count, n))
 }
 
 // Any reply, its level digit by digit.
-pub(crate) fn read(settings: u8, address: u16, count: usize, reply: &[u8]) -> Reply
+pub(crate) fn read(settings: u8, address: u16, count: usize, reply: &[u8]) -> Result<Reading, Fault>
     ensures { result ≡ reply_of settings address count reply.now }
 {
-    let early = unread(settings, address, count, reply);
-    if early != 0 {
-        return Reply::Refused(early as u8);
-    }
-    let n = line::pack(reply);
-    let fault = unfit(settings, address, n, reply);
-    if fault != 0 {
-        return Reply::Refused(fault as u8);
-    }
-    let level = modes::read_level((settings % 4) as u64, n);
-    if level::FAULT <= level {
-        return by_level(level);
-    }
-    with_level(n, level, read_heat(settings, count, n))
+    let mode = (settings % 4) as u64;
+    read_with(
+        settings,
+        address,
+        count,
+        reply,
+        |n| modes::read_level(mode, n),
+    )
 }
 
 // Any reply, its level two digits at a time. The mode's constants are picked before the first test: behind the tests a jump by the mode would be made
 // of it, which a processor guesses wrong where modes come mixed.
-pub(crate) fn read_by_pairs(settings: u8, address: u16, count: usize, reply: &[u8]) -> Reply
+pub(crate) fn read_by_pairs(
+    settings: u8,
+    address: u16,
+    count: usize,
+    reply: &[u8],
+) -> Result<Reading, Fault>
     ensures { result ≡ reply_of settings address count reply.now }
 {
     let mode = (settings % 4) as u64;
-    let constants = modes::constants_of(mode);
-    let early = unread(settings, address, count, reply);
-    if early != 0 {
-        return Reply::Refused(early as u8);
-    }
-    let n = line::pack(reply);
-    let fault = unfit(settings, address, n, reply);
-    if fault != 0 {
-        return Reply::Refused(fault as u8);
-    }
-    let level = modes::read_level_by_pairs(mode, constants, n);
-    if level::FAULT <= level {
-        return by_level(level);
-    }
-    with_level(n, level, read_heat(settings, count, n))
+    let k = modes::constants_of(mode);
+    read_with(
+        settings,
+        address,
+        count,
+        reply,
+        |n| modes::read_level_by_pairs(mode, k, n),
+    )
 }

@@ -1,22 +1,17 @@
 // A reply written: the word of its bits, its parity bit, and its bytes stored.
-ghost use Rattle.std.specs.Prelude.{◌≡◌, ◌++◌, ◌*◌, ◌/◌, ◌%◌, ◌^◌, ◌≤◌, length, drop};
+ghost use Rattle.std.specs.Prelude.{◌≡◌, ◌++◌, ◌≤◌, length, drop};
 ghost use Rattle.frame.specs.Pick.{pick};
 ghost use Rattle.frame.specs.Line.{put, marks, first_bytes};
 ghost use Rattle.frame.specs.Temperature.{is_absent};
 ghost use Rattle.frame.specs.Reply.{body_of, parity_for, reply_line};
-ghost use Rattle.frame.specs.Inside.Written.{front_of, marks_up};
+ghost use Rattle.frame.specs.Inside.Written.{front_of};
 
 use crate::{Reading, Temperature, heat, kinds, line, modes};
 
 pub(crate) fn is_absent(t: Temperature) -> bool
     ensures { result ≡ is_absent t }
 {
-    match t {
-        Temperature::Degrees(_) => false,
-        Temperature::Above => false,
-        Temperature::Below => false,
-        Temperature::Absent => true,
-    }
+    matches!(t, Temperature::Absent)
 }
 
 // The bytes of a reply: 5 where it is short, its temperature absent, else 7.
@@ -33,8 +28,8 @@ fn front(settings: u8, address: u16, reading: Reading) -> u64
 {
     let head = line::BIT_1 + line::three_of(address as u64) * line::BIT_15;
     let level = modes::write_level((settings % 4) as u64, reading.level as u64);
-    let alarms = line::mark(reading.alarm1) * line::BIT_38
-        + line::mark(reading.alarm0) * line::BIT_39;
+    let alarms = u64::from(reading.alarm1) * line::BIT_38
+        + u64::from(reading.alarm0) * line::BIT_39;
     head + level + alarms
 }
 
@@ -51,40 +46,22 @@ fn body(settings: u8, address: u16, reading: Reading) -> u64
     front + heat::write(kinds::of_1800(settings), heat::tenths(t))
 }
 
-// One byte of a line, by how many bits stand below it.
-fn byte(n: u64, below: u64) -> u8
-    requires { below ≤ 56 }
-    ensures { result ≡ n / 2 ^ below % 256 }
-{
-    ((n >> below) % 256) as u8
-}
-
-// The marks of the last `left` bytes of a number, counted byte by byte from the last one up, fewer left each time.
-fn marks_up(n: u64, left: u64) -> u32
-    requires { left ≤ 8 }
-    ensures { (result ≡ marks_up left n) × (result ≤ 8 * left) }
-{
-    if left == 0 {
-        return 0;
-    }
-    u8::count_ones((n % 256) as u8) + marks_up(n / 256, left - 1)
-}
-
 // The marks of a reply, counted over its bytes, 5 of a short one and 7 of any other.
 fn marks(n: u64, short: bool) -> u32
-    ensures { (result ≡ marks (first_bytes (pick short 5 7) n)) × (result ≤ 56) }
+    ensures { result ≡ marks (first_bytes (pick short 5 7) n) }
 {
+    let bytes = n.to_be_bytes();
     if short {
-        return marks_up(n >> 24, 5);
+        return line::marks(&bytes[..5]);
     }
-    marks_up(n >> 8, 7)
+    line::marks(&bytes[..7])
 }
 
 // The parity bit makes the marks even in number, or odd, by setting.
 fn parity_bit(settings: u8, n: u64, short: bool) -> u64
     ensures { (result ≡ parity_for settings (first_bytes (pick short 5 7) n)) × (result ≤ 1) }
 {
-    ((marks(n, short) + (settings / 8 % 2) as u32) % 2) as u64
+    u64::from((marks(n, short) % 2 + u32::from(settings / 8 % 2)) % 2)
 }
 
 // The last bit of a reply, 40 of a short one and 56 of any other.
@@ -105,18 +82,15 @@ pub(crate) fn whole_line(settings: u8, address: u16, reading: Reading) -> u64
     n + parity_bit(settings, n, short) * last_bit(short)
 }
 
-// The first bytes of a line stored at the front of the output, 5 of a short reply and 7 of any other.
+// The first bytes of a line put at the front of the output, 5 of a short reply and 7 of any other.
 pub(crate) fn store(n: u64, short: bool, out: &mut [u8])
     requires { pick short 5 7 ≤ length out.old }
     ensures { out.new ≡ first_bytes (pick short 5 7) n ++ drop (pick short 5 7) out.old }
 {
-    out[0] = byte(n, 56);
-    out[1] = byte(n, 48);
-    out[2] = byte(n, 40);
-    out[3] = byte(n, 32);
-    out[4] = byte(n, 24);
-    if !short {
-        out[5] = byte(n, 16);
-        out[6] = byte(n, 8);
+    let bytes = n.to_be_bytes();
+    if short {
+        out[..5].copy_from_slice(&bytes[..5]);
+    } else {
+        out[..7].copy_from_slice(&bytes[..7]);
     }
 }

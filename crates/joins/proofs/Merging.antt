@@ -1,30 +1,28 @@
 -- Merging two rows of lines: the line that is next, and that a row which rises, put among others line by line, is the two merged. The second goes by
 -- induction: the first line of the row stands below all behind it, so that it can be put first and the rest merged. Assumes nothing.
 use mathlib.Core.Path.{◌≡◌, refl, sym, ap, ◌∙◌}
-use mathlib.Core.Bool.{Bool, true, false}
-use mathlib.Core.List.{List, [], ◌∷◌, ◌++◌, map, append-nil}
+use mathlib.Core.List.{List, [], ◌∷◌, ◌++◌, append-nil}
 use Prim.Native.Nat.{ℕ, suc, ◌+◌, ◌-◌, ◌<◌, ◌≤◌}
 use native.Mathlib.Omega.{arith}
 use native.Mathlib.Numerals.{add-one}
-use borrow.Author.Tests.{eq-eqb, ne_eqb, lt-ltb, le-ltb, ltb-true, ltb-false}
-use lib.Dec.{ltb}
-use lib.ListN.{length, get_or, take, drop, set, replicate, length-append, length-set, drop_of_length-le, take-append-drop, get_or-map}
+use borrow.Author.Tests.{eq-eqb, ne_eqb, lt-ltb, le-ltb}
+use lib.ListN.{length, get_or, take, drop, set, replicate, length-append, length-set, take-append-drop}
 use lib.Seq.{drop-cons, length-take-le, take-suc-set, drop-set-lt, append_snoc}
+use Rattle.std.specs.declared.cmp.Ordering.{Ordering}
+use Rattle.std.specs.declared.cmp.Ordering.TheVariants.{Less, Greater, Equal}
+use Rattle.std.specs.Ordering.{MatchOrdering}
 use Rattle.frame.specs.Rising.{Above, above_more, Rises, rises_more}
 use Rattle.summary.specs.declared.Line.{Line}
 use Rattle.summary.specs.Line.{pair_of, together, blank_line}
 use Rattle.summary.specs.declared.Summary.{Summary}
-use Rattle.summary.specs.Handed.{lines_of}
+use Rattle.summary.specs.Handed.{lines_of, most}
 use Rattle.summary.specs.Updated.{put_among}
 use Rattle.summary.specs.Joined.{put_all, join_lines}
-use Rattle.summary.specs.Sound.{Sound}
+use Rattle.summary.specs.Sound.{Sound, Few}
 use Rattle.joins.specs.Inside.Joining.{merged_from, merged, Turn}
 use Rattle.summary.proofs.LinesAdded.{count-of, line-of}
+use Rattle.summary.proofs.PutAll.{AllFew, few_none, few_more, at-few}
 use Rattle.summary.proofs.Putting.{Order, less, same, more, order, pair-together, put-before, put-at, put-after}
-
--- the pairs of lines as numbers
-pub pair-at : (ls : List Line) (i : ℕ) → get_or (map pair_of ls) i 0 ≡ pair_of (get_or ls i blank_line)
-pair-at ls i = unfold pair_of in get_or-map pair_of ls i blank_line
 
 -- the line that is next
 merged-none : (l : Line) (ls : List Line) → merged (l ∷ ls) [] ≡ l ∷ merged ls []
@@ -79,87 +77,81 @@ all-merged ls [] r = sym (nothing ls)
     nothing (x ∷ xs) = merged-none x xs ∙ ap (λ (ys : List Line). x ∷ ys) (nothing xs)
 all-merged ls (m ∷ ms) (rises_more a r) = all-merged (put_among m ls) ms r ∙ put-merged m ls ms a
 
--- the same by places: what is left of two rows from two places on
-module _ (ls ms : List Line) (i j : ℕ) where
-  abbrev left : List Line
-  left = merged (drop i ls) (drop j ms)
+-- the line that is next, by the first lines of two rows
+pub next-first : (ls ms : List Line) → 0 < length ls → (0 < length ms → pair_of (get_or ls 0 blank_line) < pair_of (get_or ms 0 blank_line))
+    → merged ls ms ≡ get_or ls 0 blank_line ∷ merged (drop 1 ls) ms
+next-first [] ms near low = absurd (omega arith)
+next-first (l ∷ ls) [] near low = merged-none l ls
+next-first (l ∷ ls) (m ∷ ms) near low = merged-first l m ls ms (low (omega arith))
 
-  abbrev l : Line
-  l = get_or ls i blank_line
+pub next-second : (ls ms : List Line) → 0 < length ms → (0 < length ls → pair_of (get_or ms 0 blank_line) < pair_of (get_or ls 0 blank_line))
+    → merged ls ms ≡ get_or ms 0 blank_line ∷ merged ls (drop 1 ms)
+next-second [] [] near low = absurd (omega arith)
+next-second (l ∷ ls) [] near low = absurd (omega arith)
+next-second [] (m ∷ ms) near low = unfold merged in refl
+next-second (l ∷ ls) (m ∷ ms) near low = merged-second l m ls ms (low (omega arith))
 
-  abbrev m : Line
-  m = get_or ms j blank_line
+pub next_both : (ls ms : List Line) → 0 < length ls → 0 < length ms → pair_of (get_or ls 0 blank_line) ≡ pair_of (get_or ms 0 blank_line)
+    → merged ls ms ≡ together (get_or ls 0 blank_line) (get_or ms 0 blank_line) ∷ merged (drop 1 ls) (drop 1 ms)
+next_both [] ms near here e = absurd (omega arith)
+next_both (l ∷ ls) [] near here e = absurd (omega arith)
+next_both (l ∷ ls) (m ∷ ms) near here e = merged-both l m ls ms e
 
-  pub next-first : i < length ls → (j < length ms → pair_of l < pair_of m) → left ≡ l ∷ merged (drop (suc i) ls) (drop j ms)
-  next-first near low = ap (λ (xs : List Line). merged xs (drop j ms)) (drop-cons ls i blank_line near) ∙ go (ltb j (length ms)) refl
-    where
-      go : (b : Bool) → ltb j (length ms) ≡ b → merged (l ∷ drop (suc i) ls) (drop j ms) ≡ l ∷ merged (drop (suc i) ls) (drop j ms)
-      go true e =
-          let here = ltb-true j (length ms) e in
-          let opened : drop j ms ≡ m ∷ drop (suc j) ms = drop-cons ms j blank_line here in
-          ap (merged (l ∷ drop (suc i) ls)) opened ∙ merged-first l m (drop (suc i) ls) (drop (suc j) ms) (low here)
-          ∙ ap (λ (ys : List Line). l ∷ merged (drop (suc i) ls) ys) (sym opened)
-      go false e =
-          let none : drop j ms ≡ [] = drop_of_length-le ms (ltb-false j (length ms) e) in
-          ap (merged (l ∷ drop (suc i) ls)) none ∙ merged-none l (drop (suc i) ls) ∙ ap (λ (ys : List Line). l ∷ merged (drop (suc i) ls) ys) (sym none)
+pub next-none : (ls ms : List Line) → length ls + length ms ≡ 0 → merged ls ms ≡ []
+next-none [] [] h = unfold merged in refl
+next-none [] (m ∷ ms) h = absurd (omega arith)
+next-none (l ∷ ls) ms h = absurd (omega arith)
 
-  pub next-second : j < length ms → (i < length ls → pair_of m < pair_of l) → left ≡ m ∷ merged (drop i ls) (drop (suc j) ms)
-  next-second near low = ap (merged (drop i ls)) (drop-cons ms j blank_line near) ∙ go (ltb i (length ls)) refl
-    where
-      nothing : (ys : List Line) → merged [] ys ≡ ys
-      nothing ys = unfold merged in refl
+-- by how their pairs compare
+pub turned : (ls ms : List Line) → 0 < length ls → 0 < length ms → (whose : Ordering)
+    → MatchOrdering whose (pair_of (get_or ls 0 blank_line) < pair_of (get_or ms 0 blank_line)) (pair_of (get_or ls 0 blank_line) ≡ pair_of (get_or ms 0 blank_line))
+    (pair_of (get_or ms 0 blank_line) < pair_of (get_or ls 0 blank_line))
+    → Turn ls ms whose
+turned ls ms near here Less h = record { first = λ e. (near, next-first ls ms near (λ k. h)); second = λ e. absurd (cc); same = λ e. absurd (cc) }
+turned ls ms near here Greater h = record { first = λ e. absurd (cc); second = λ e. (here, next-second ls ms here (λ k. h)); same = λ e. absurd (cc) }
+turned ls ms near here Equal h = record { first = λ e. absurd (cc); second = λ e. absurd (cc); same = λ e. (near, (here, next_both ls ms near here h)) }
 
-      go : (b : Bool) → ltb i (length ls) ≡ b → merged (drop i ls) (m ∷ drop (suc j) ms) ≡ m ∷ merged (drop i ls) (drop (suc j) ms)
-      go true e =
-          let here = ltb-true i (length ls) e in
-          let opened : drop i ls ≡ l ∷ drop (suc i) ls = drop-cons ls i blank_line here in
-          ap (λ (xs : List Line). merged xs (m ∷ drop (suc j) ms)) opened ∙ merged-second l m (drop (suc i) ls) (drop (suc j) ms) (low here)
-          ∙ ap (λ (xs : List Line). m ∷ merged xs (drop (suc j) ms)) (sym opened)
-      go false e =
-          let none : drop i ls ≡ [] = drop_of_length-le ls (ltb-false i (length ls) e) in
-          ap (λ (xs : List Line). merged xs (m ∷ drop (suc j) ms)) none ∙ nothing (m ∷ drop (suc j) ms)
-          ∙ ap (λ (xs : List Line). m ∷ xs) (sym (nothing (drop (suc j) ms))) ∙ ap (λ (xs : List Line). m ∷ merged xs (drop (suc j) ms)) (sym none)
+pub turn-first : (ls ms : List Line) → length ms ≡ 0 → 0 < length ls + length ms → Turn ls ms Less
+turn-first ls ms none some =
+    record { first = λ e. (omega arith, next-first ls ms (omega arith) (λ k. absurd (omega arith))); second = λ e. absurd (cc); same = λ e. absurd (cc) }
 
-  pub next_both : i < length ls → j < length ms → pair_of l ≡ pair_of m → left ≡ together l m ∷ merged (drop (suc i) ls) (drop (suc j) ms)
-  next_both near here e =
-      ap (λ (xs : List Line). merged xs (drop j ms)) (drop-cons ls i blank_line near) ∙ ap (merged (l ∷ drop (suc i) ls)) (drop-cons ms j blank_line here)
-      ∙ merged-both l m (drop (suc i) ls) (drop (suc j) ms) e
+pub turn-second : (ls ms : List Line) → length ls ≡ 0 → 0 < length ls + length ms → Turn ls ms Greater
+turn-second ls ms none some =
+    record { first = λ e. absurd (cc); second = λ e. (omega arith, next-second ls ms (omega arith) (λ k. absurd (omega arith))); same = λ e. absurd (cc) }
 
-  pub next-none : length ls ≤ i → length ms ≤ j → left ≡ []
-  next-none h k = ap (λ (xs : List Line). merged xs (drop j ms)) (drop_of_length-le ls h) ∙ ap (merged []) (drop_of_length-le ms k) ∙ (unfold merged in refl)
-
--- so many lines of an array are merged, the rest is blank, and from two places on the rows are left
-pub record Merging (ls ms out : List Line) (at i j : ℕ) : Type 0 where
-  pub done : take at out ++ merged (drop i ls) (drop j ms) ≡ merged ls ms
+-- so many lines of an array are the first of some lines, the rest is blank, and two rows merged are those behind them
+pub record Merging (all out : List Line) (at : ℕ) (ls ms : List Line) : Type 0 where
+  pub done : take at out ++ merged ls ms ≡ all
   pub free : drop at out ≡ replicate (30 - at) blank_line
   pub long : length out ≡ 30
   pub few : at ≤ 30
 
-pub none-merged : (ls ms out : List Line) → out ≡ replicate 30 blank_line → Merging ls ms out 0 0 0
+pub none-merged : (ls ms out : List Line) → out ≡ replicate 30 blank_line → Merging (merged ls ms) out 0 ls ms
 none-merged ls ms out e = record { done = refl; free = e; long = ap length e; few = omega arith }
 
-module _ (ls ms out : List Line) (at i j : ℕ) (g : Merging ls ms out at i j) where
-  counted : at + length (merged (drop i ls) (drop j ms)) ≡ length (merged ls ms)
+module _ (all out : List Line) (at : ℕ) (ls ms : List Line) (g : Merging all out at ls ms) where
+  counted : at + length (merged ls ms) ≡ length all
   counted =
       let e : length (take at out) ≡ at = length-take-le at out (omega (arith, g.long, g.few)) in
-      omega (arith, length-append (take at out) (merged (drop i ls) (drop j ms)), ap length g.done, e)
+      omega (arith, length-append (take at out) (merged ls ms), ap length g.done, e)
 
-  module _ (x : Line) (i' j' : ℕ) (next : merged (drop i ls) (drop j ms) ≡ x ∷ merged (drop i' ls) (drop j' ms)) (small : length (merged ls ms) ≤ 30) where
+  module _ (small : length all ≤ 30) (x : Line) (ls' ms' : List Line) (next : merged ls ms ≡ x ∷ merged ls' ms') where
     pub place-free : at < 30
     place-free = omega (arith, counted, ap length next)
 
-    pub one-merged : Merging ls ms (set out at x) (suc at) i' j'
+    pub one-merged : Merging all (set out at x) (at + 1) ls' ms'
     one-merged =
         let near : at < length out = omega (arith, place-free, g.long) in
-        record {
+        rw (add-one at)
+        (record {
           done = ap (λ (xs : List Line). xs ++ rest) (take-suc-set out at x near) ∙ append_snoc (take at out) x rest ∙ ap (λ (xs : List Line). take at out ++ xs) (sym next) ∙ g.done;
           free = drop-set-lt (suc at) out at x (omega arith) ∙ tail near;
           long = length-set out at x ∙ g.long;
           few = omega (arith, place-free);
-        }
+        })
       where
         rest : List Line
-        rest = merged (drop i' ls) (drop j' ms)
+        rest = merged ls' ms'
 
         behind : {y z : Line} {ys zs : List Line} → y ∷ ys ≡ z ∷ zs → ys ≡ zs
         behind e = ap (drop 1) e
@@ -170,48 +162,23 @@ module _ (ls ms out : List Line) (at i j : ℕ) (g : Merging ls ms out at i j) w
             behind (sym (drop-cons out at blank_line near) ∙ g.free ∙ ap (λ (n : ℕ). replicate n blank_line) less_one)
 
   -- all are merged
-  pub all_done : length ls ≤ i → length ms ≤ j → (at ≡ length (merged ls ms)) × (out ≡ merged ls ms ++ replicate (30 - at) blank_line)
-  all_done h k =
-      let none = next-none ls ms i j h k in
-      let whole : take at out ≡ merged ls ms = sym (append-nil (take at out)) ∙ ap (λ (xs : List Line). take at out ++ xs) (sym none) ∙ g.done in
-      (omega (arith, counted, ap length none), sym (take-append-drop at out) ∙ ap (λ (xs : List Line). xs ++ drop at out) whole ∙ ap (λ (xs : List Line). merged ls ms ++ xs) g.free)
+  pub all_done : length ls + length ms ≡ 0 → (at ≡ length all) × (out ≡ all ++ replicate (30 - at) blank_line)
+  all_done h =
+      let none = next-none ls ms h in
+      let whole : take at out ≡ all = sym (append-nil (take at out)) ∙ ap (λ (xs : List Line). take at out ++ xs) (sym none) ∙ g.done in
+      (omega (arith, counted, ap length none), sym (take-append-drop at out) ∙ ap (λ (xs : List Line). xs ++ drop at out) whole ∙ ap (λ (xs : List Line). all ++ xs) g.free)
 
--- pairs that are those of some lines
-pub record PairsOf (ps : List ℕ) (n : ℕ) (ls : List Line) : Type 0 where
-  pub many : length ls ≡ n
-  pub each : (i : ℕ) → i < n → get_or ps i 0 ≡ pair_of (get_or ls i blank_line)
+-- counts of lines that are not over
+pub few-lines : (s : Summary) → Sound s → Few s → AllFew most (lines_of s)
+few-lines s sound few =
+    at-few most (lines_of s)
+    (λ i l.
+    let near : i < s.count = omega (arith, count-of s sound) in
+    rw (line-of s i near) (few.good i near, few.faulty i near))
 
-pub pairs_of : (s : Summary) (ps : List ℕ) → Sound s → ps ≡ map pair_of s.lines → PairsOf ps s.count (lines_of s)
-pairs_of s ps sound e =
-    record {
-      many = sym (count-of s sound);
-      each = λ i l. ap (λ (ns : List ℕ). get_or ns i 0) e ∙ pair-at s.lines i ∙ ap pair_of (sym (line-of s i l));
-    }
-
--- whose turn it is tells the line that is next
-module _ (a : List ℕ) (n : ℕ) (ls : List Line) (b : List ℕ) (m : ℕ) (ms : List Line) (p : PairsOf a n ls) (q : PairsOf b m ms) (i j whose : ℕ) (t : Turn a i n b j m whose) where
-  pub turn-first : whose ≡ 0 → merged (drop i ls) (drop j ms) ≡ get_or ls i blank_line ∷ merged (drop (i + 1) ls) (drop j ms)
-  turn-first e =
-      let f = t.first e in
-      next-first ls ms i j (omega (arith, f.0, p.many))
-      (λ h. let k : j < m = omega (arith, q.many) in omega (arith, f.1 k, p.each i f.0, q.each j k))
-      ∙ ap (λ (k : ℕ). get_or ls i blank_line ∷ merged (drop k ls) (drop j ms)) (sym (add-one i))
-
-  pub turn-second : whose ≡ 1 → merged (drop i ls) (drop j ms) ≡ get_or ms j blank_line ∷ merged (drop i ls) (drop (j + 1) ms)
-  turn-second e =
-      let f = t.second e in
-      next-second ls ms i j (omega (arith, f.0, q.many))
-      (λ h. let k : i < n = omega (arith, p.many) in omega (arith, f.1 k, p.each i k, q.each j f.0))
-      ∙ ap (λ (k : ℕ). get_or ms j blank_line ∷ merged (drop i ls) (drop k ms)) (sym (add-one j))
-
-  pub turn-both : (whose ≡ 0 → ⊥) → (whose ≡ 1 → ⊥)
-      → merged (drop i ls) (drop j ms) ≡ together (get_or ls i blank_line) (get_or ms j blank_line) ∷ merged (drop (i + 1) ls) (drop (j + 1) ms)
-  turn-both d e =
-      let f = t.same d e in
-      next_both ls ms i j (omega (arith, f.0, p.many)) (omega (arith, f.1.0, q.many))
-      (sym (p.each i f.0) ∙ f.1.1 ∙ q.each j f.1.0)
-      ∙ ap (λ (k : ℕ). together (get_or ls i blank_line) (get_or ms j blank_line) ∷ merged (drop k ls) (drop (suc j) ms)) (sym (add-one i))
-      ∙ ap (λ (k : ℕ). together (get_or ls i blank_line) (get_or ms j blank_line) ∷ merged (drop (i + 1) ls) (drop k ms)) (sym (add-one j))
+pub few-rest : (n : ℕ) (ls : List Line) → AllFew n ls → AllFew n (drop 1 ls)
+few-rest n [] a = few_none
+few-rest n (x ∷ ls) (few_more g f a) = a
 
 -- two sound summaries joined are their lines merged
 pub join-merged : (a b : Summary) → Sound b → join_lines a b ≡ merged (lines_of a) (lines_of b)

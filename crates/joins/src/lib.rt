@@ -5,21 +5,32 @@
 mod joining;
 
 ghost use Rattle.std.specs.Prelude.{◌≡◌};
-ghost use Rattle.summary.specs.Line.{blank_summary};
-ghost use Rattle.summary.specs.Calls.{made_of};
-ghost use Rattle.summary.specs.Joined.{JoinsSummaries};
+ghost use Rattle.frame.specs.Faults.{verdict};
+ghost use Rattle.summary.specs.Joined.{join_page, join_fault, JoinsSummaries};
 
+use frame::Fault;
+use joining::{add_lines, count_pairs};
 use summary::handed::{lines_over, misshapen};
 use summary::{Made, Summary, blank};
 
-fn refused(number: u8) -> Made
-    ensures { result ≡ made_of blank_summary number }
+// The join of two summaries. Refuses 37, 25 and 24.
+fn join(a: Summary, b: Summary) -> Result<Summary, Fault>
+    ensures { result ≡ verdict (join_fault a b) (join_page a b) }
 {
-    let summary = blank();
-    Made {
-        summary: summary,
-        number: number,
+    if misshapen(&a) || misshapen(&b) {
+        return Err(Fault::BadSummary);
     }
+    if 30 < count_pairs(a, b) || 0 < a.others || 0 < b.others {
+        return Err(Fault::ManyPairs);
+    }
+    if lines_over(&a) || lines_over(&b) {
+        return Err(Fault::LargeCount);
+    }
+    let joined = add_lines(a, b);
+    if lines_over(&joined) {
+        return Err(Fault::LargeCount);
+    }
+    Ok(joined)
 }
 
 // Puts two summaries together: lowest of lowest, highest of highest and sums of counts, pair by pair. Refuses 37 in either, 25 more than 30 pairs or unkept
@@ -27,33 +38,11 @@ fn refused(number: u8) -> Made
 pub fn sisal_summary_join(a: Summary, b: Summary) -> Made
     ensures { JoinsSummaries a b result }
 {
-    if misshapen(a) {
-        return refused(37);
-    }
-    if misshapen(b) {
-        return refused(37);
-    }
-    if 30 < joining::count_pairs(a, b) {
-        return refused(25);
-    }
-    if 0 < a.others {
-        return refused(25);
-    }
-    if 0 < b.others {
-        return refused(25);
-    }
-    if lines_over(a) {
-        return refused(24);
-    }
-    if lines_over(b) {
-        return refused(24);
-    }
-    let joined = joining::add_lines(a, b);
-    if lines_over(joined) {
-        return refused(24);
-    }
-    Made {
-        summary: joined,
-        number: 0,
+    match join(a, b) {
+        Ok(summary) => Made { summary, number: 0 },
+        Err(fault) => Made {
+            summary: blank(),
+            number: fault.number(),
+        },
     }
 }

@@ -1,5 +1,4 @@
 -- The laws that several proofs cite, each in a file named for what it speaks of.
-pub mod ByTests
 pub mod Drawn
 pub mod MoreGauged
 pub mod MoreNoted

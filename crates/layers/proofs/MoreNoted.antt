@@ -19,7 +19,7 @@ use Rattle.sheet.proofs.Numbers.{number_more}
 use Rattle.sheet.proofs.SlotParts.{slot-long}
 use Rattle.summary.specs.Line.{pair_by}
 use Rattle.summary.specs.Worked.{pair_in, entries_of_pair}
-use Rattle.layers.specs.Inside.Noted.{own_in, own_up_to, Noted}
+use Rattle.layers.specs.Inside.Noted.{own_in, own_up_to, IsNoted}
 use Rattle.layers.proofs.Drawn.{of_none, of_other, pair-more}
 
 module _ (s : List ℕ) (pair : ℕ) where
@@ -95,7 +95,7 @@ module _ (s : List ℕ) (pair : ℕ) where
         }
 
   -- the row's first slots are the pair's where all slots were passed
-  pub noted-all : (row : List ℕ) (count : ℕ) → count ≤ length row → NotedTo row count (slots s) → Noted s pair (take count row)
+  pub noted-all : (row : List ℕ) (count : ℕ) → count ≤ length row → NotedTo row count (slots s) → IsNoted s pair (take count row)
   noted-all row count few f =
       let long = length-take-le count row few in
       record {
@@ -141,5 +141,5 @@ pair-bytes s k near =
     λ t. sym address t * 0x10000 + sym (byte_at s k 3 (omega arith)) t
 
 -- slots noted of a pair are noted of a number that is the same
-pub noted_of : {s own : List ℕ} {j k : ℕ} → k ≡ j → Noted s j own → Noted s k own
+pub noted_of : {s own : List ℕ} {j k : ℕ} → k ≡ j → IsNoted s j own → IsNoted s k own
 noted_of e h = rw e h

@@ -1,21 +1,25 @@
 -- What the records of a pair come to: the last level and its minute, the lowest and the highest temperature, and how many replies were of each kind.
-use Rattle.std.specs.Prelude.{List, [], ◌∷◌, ℕ, ◌+◌, min, max, ltb, get_or, set, replicate}
-use Rattle.frame.specs.declared.Reply.{Reply}
-use Rattle.frame.specs.declared.Reply.TheVariants.{Read, Refused, Unreadable}
+use Rattle.std.specs.Prelude.{Option, None, Some, unwrap_or, List, [], ◌∷◌, ℕ, ◌+◌, min, max, ltb, get_or, set, replicate, eqb}
+use Rattle.std.specs.Option.{is_some}
 use Rattle.frame.specs.declared.Temperature.{Temperature}
 use Rattle.frame.specs.declared.Temperature.TheVariants.{Degrees, Above, Below, Absent}
 use Rattle.frame.specs.Pick.{pick}
 use Rattle.sheet.specs.Record.{Entry}
 use Rattle.summary.specs.Worked.{reply_in}
 use Rattle.layers.specs.declared.gauge.Gauged.{Gauged}
-use Rattle.layers.specs.declared.parts.Value.{Value}
 use Rattle.layers.specs.Drawing.{value_in}
+use Rattle.std.specs.Prelude.{Result, Ok, Err}
+use Rattle.frame.specs.declared.faults.Fault.{Fault}
+use Rattle.frame.specs.declared.Reading.{Reading}
+use Rattle.frame.specs.Faults.{number_of, place_named}
 
 -- The count of a reply: 0 of a good one, its number of a refused one, 10 more than its place of an unreadable digit. No place is above 5.
-abbrev pub reply_kind : Reply → ℕ
-reply_kind (Read r) = 0
-reply_kind (Refused n) = pick (ltb n 10) n 0
-reply_kind (Unreadable place) = pick (ltb place 6) (10 + place) 7
+abbrev pub reply_kind : Result Reading Fault → ℕ
+reply_kind (Ok r) = 0
+reply_kind (Err f) =
+    let n = number_of f in
+    let place = place_named f in
+    pick (eqb n 7) (pick (ltb place 6) (10 + place) 7) (pick (ltb n 10) n 0)
 
 -- The count of a temperature: 16 of one above the scale, 17 of one below it, 18 of any other, and where there is none.
 abbrev pub side_of : Temperature → ℕ
@@ -24,10 +28,9 @@ side_of Above = 16
 side_of Below = 17
 side_of Absent = 18
 
-abbrev pub side_in : Reply → ℕ
-side_in (Read r) = side_of r.temperature
-side_in (Refused n) = 18
-side_in (Unreadable place) = 18
+abbrev pub side_in : Result Reading Fault → ℕ
+side_in (Ok r) = side_of r.temperature
+side_in (Err f) = 18
 
 -- One more of a count. It goes no higher than 4,294,967,295, which no sheet comes near.
 abbrev pub raised : ℕ → ℕ
@@ -37,18 +40,20 @@ abbrev pub one_more : List ℕ → ℕ → List ℕ
 one_more counts i = set counts i (raised (get_or counts i 0))
 
 -- Of two temperatures the lower, and the higher, where there is a second.
-abbrev pub colder : Value → ℕ → ℕ
-colder v n = pick v.there (min v.y n) n
+abbrev pub colder : Option ℕ → ℕ → ℕ
+colder None n = n
+colder (Some y) n = min y n
 
-abbrev pub warmer : Value → ℕ → ℕ
-warmer v n = pick v.there (max v.y n) n
+abbrev pub warmer : Option ℕ → ℕ → ℕ
+warmer None n = n
+warmer (Some y) n = max y n
 
 -- With one reply more, and with some records more.
-abbrev pub with_reply : Gauged → ℕ → Reply → Gauged
+abbrev pub with_reply : Gauged → ℕ → Result Reading Fault → Gauged
 with_reply g minute reply =
     record {
-      last = pick (value_in 0 reply).there (value_in 0 reply).y g.last;
-      when = pick (value_in 0 reply).there minute g.when;
+      last = unwrap_or (value_in 0 reply) g.last;
+      when = pick (is_some (value_in 0 reply)) minute g.when;
       cold = colder (value_in 1 reply) g.cold;
       warm = warmer (value_in 1 reply) g.warm;
       counts = one_more (one_more g.counts (reply_kind reply)) (side_in reply);

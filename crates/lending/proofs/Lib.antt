@@ -1,2 +1,3 @@
 -- The laws that the calls cite.
+pub mod Runs
 pub mod Settled

@@ -1,59 +1,59 @@
 // The rows that the host lends: the rows that count are copied out of them, and a run of rows is stored back.
-ghost use Rattle.std.specs.Prelude.{◌≡◌, ◌≤◌, length, take};
+ghost use Rattle.std.specs.Prelude.{◌≡◌, length};
 ghost use Rattle.board.specs.Rows.{board_of};
-ghost use Rattle.board.specs.Inside.ByValue.{filled, Finds, FitsIn, moved};
+ghost use Rattle.board.specs.Inside.ByValue.{filled, Finds, FitsIn, moved, carry};
 
-use board::value::{Change, Found};
+use board::value::{Change, Found, Way};
 use board::{Row, rows, value};
+use std::mem;
 
-// The first n rows by value, and free ones behind them. Each is stored straight into its place.
-fn fill(rows: &[Row], n: usize) -> [Row; 30]
-    requires { (n ≤ length rows.now) × (n ≤ 30) }
-    ensures { result ≡ filled (take n rows.now) }
-{
-    let mut held = rows::free_rows();
-    let mut i: usize = 0;
-    while i < n {
-        held[i] = rows[i];
-        i = i + 1;
-    }
-    held
-}
-
-// The rows that count, by value. Thirty rows are asked for by that number: the compiler then sees that no free row is left of the
-// fill, and leaves it out.
+// The rows that count, by value. Thirty of them are copied as they stand; free ones are put only behind fewer.
 pub fn load(rows: &[Row]) -> [Row; 30]
     ensures { result ≡ filled (board_of rows.now) }
 {
-    if rows.len() < 30 {
-        return fill(rows, rows.len());
+    if let Some(all) = rows.first_chunk::<30>() {
+        return *all;
     }
-    fill(rows, 30)
+    let mut held = rows::free_rows();
+    held[..rows.len()].copy_from_slice(rows);
+    held
 }
 
 // Searches the rows that count.
-pub(crate) fn find(rows: &[Row], address: u16) -> Found
+pub(crate) fn find(rows: &[Row], address: u16) -> Option<Found>
     ensures { Finds (board_of rows.now) address result }
 {
     let held = load(rows);
     value::find(held, rows.len(), address)
 }
 
-// Makes the change: over its run of places each takes the row that comes, and hands on the one that stood in it. Answers its number.
-pub(crate) fn put(rows: &mut [Row], c: Change) -> u8
-    requires { FitsIn (length rows.old) c }
-    ensures { (result ≡ c.number) × (rows.new ≡ moved c rows.old) }
+// Each place of a run takes the row that comes, and hands on the one that stood in it to the next.
+fn carry_on(run: &mut [Row], row: Row)
+    ensures { run.new ≡ carry 1 0 (length run.old) 0 row run.old }
 {
-    let mut at = c.at;
-    let mut held = c.row;
-    let mut left = c.count;
-    while 0 < left {
-        at = at - c.down;
-        let old = rows[at];
-        rows[at] = held;
-        held = old;
-        at = at + c.up;
-        left = left - 1;
+    let mut held = row;
+    for place in run.iter_mut() {
+        mem::swap(place, &mut held);
     }
-    c.number
+}
+
+// The same from the last place of a run to its first.
+fn carry_back(run: &mut [Row], row: Row)
+    ensures { run.new ≡ carry 0 1 (length run.old) (length run.old) row run.old }
+{
+    let mut held = row;
+    for i in (0..run.len()).rev() {
+        mem::swap(&mut run[i], &mut held);
+    }
+}
+
+// Makes the change over its run of places.
+pub(crate) fn put(rows: &mut [Row], c: Change)
+    requires { FitsIn (length rows.old) c }
+    ensures { rows.new ≡ moved c rows.old }
+{
+    match c.way {
+        Way::Onward => carry_on(&mut rows[c.at..c.at + c.count], c.row),
+        Way::Back => carry_back(&mut rows[c.at - c.count..c.at], c.row),
+    }
 }

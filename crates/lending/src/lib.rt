@@ -16,8 +16,13 @@ pub fn sisal_board_enrol(rows: &mut [Row], settings: u8, address: u16, gauge: u8
     ensures { Enrols rows.old settings address gauge result rows.new }
 {
     let f = lent::find(rows, address);
-    let c = value::enrol(f, settings, address, gauge);
-    lent::put(rows, c)
+    match value::enrol(f, settings, address, gauge) {
+        Ok(c) => {
+            lent::put(rows, c);
+            0
+        }
+        Err(fault) => fault.number(),
+    }
 }
 
 // Hears a reply: 0, reading, minute and fault 0 are set; 1 to 9, or 26 temperature outside the row's profile, the row's fault is set, 7 with
@@ -33,9 +38,13 @@ pub fn sisal_board_hear<'r, 'b>(
     ensures { Hears rows.old minute address count reply.now result rows.new }
 {
     let f = lent::find(rows, address);
-    let c = value::hear(f, minute, address, count, reply);
-    lent::put(rows, c);
-    value::said(c)
+    match value::hear(f, minute, address, count, reply) {
+        Ok(h) => {
+            lent::put(rows, h.change);
+            value::said(h.wrong)
+        }
+        Err(fault) => value::said(Some(fault)),
+    }
 }
 
 // Removes a transmitter, and the rows behind its row move up: 0; or 38 order, 11 asked address, 17 unknown.
@@ -43,8 +52,13 @@ pub fn sisal_board_remove(rows: &mut [Row], address: u16) -> u8
     ensures { Removes rows.old address result rows.new }
 {
     let f = lent::find(rows, address);
-    let c = value::remove(f, address);
-    lent::put(rows, c)
+    match value::remove(f, address) {
+        Ok(c) => {
+            lent::put(rows, c);
+            0
+        }
+        Err(fault) => fault.number(),
+    }
 }
 
 // Looks at a transmitter's row: what stands in it; or 38 order, 11 asked address, 17 unknown.
@@ -52,7 +66,10 @@ pub fn sisal_board_look_up(rows: &[Row], address: u16) -> Looked
     ensures { LooksUp rows.now address result }
 {
     let f = lent::find(rows, address);
-    value::look(f, address)
+    match value::look(f, address) {
+        Ok(told) => told,
+        Err(fault) => Looked::refused(fault),
+    }
 }
 
 // Writes the poll of a transmitter's row into the first 2 bytes, with raise or with reset where they are not 0: 0; or 38 order, 11 asked address,
@@ -67,6 +84,8 @@ pub fn sisal_board_poll<'r, 'o>(
     ensures { PollsRow rows.now address raise reset out.old result out.new }
 {
     let f = lent::find(rows, address);
-    let number = value::may_poll(f, address, raise, reset);
-    value::write_or(number, address, raise, reset, out)
+    match value::poll(f, address, raise, reset, out) {
+        Ok(_) => 0,
+        Err(fault) => fault.number(),
+    }
 }

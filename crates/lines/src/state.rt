@@ -1,6 +1,6 @@
 // What was heard so far: which states a call leaves, what any other is heard as, and how it is told.
-ghost use Rattle.std.specs.Prelude.{◌≡◌, ◌≤◌, length};
-ghost use Rattle.lines.specs.SoFar.{rest_state, spoilt_by, has_no_bits, pads_clear, is_rest, is_between, is_in_run, is_spoilt, legal, meant};
+ghost use Rattle.std.specs.Prelude.{◌≡◌, ◌≤◌};
+ghost use Rattle.lines.specs.SoFar.{is_open, rest_state, spoilt_by, has_no_bits, pads_clear, is_rest, is_between, is_in_run, is_spoilt, legal, meant};
 ghost use Rattle.lines.specs.Hearing.{nothing, hearing, told_of};
 ghost use Rattle.lines.specs.Calls.{answer_of, answered};
 ghost use Rattle.lines.specs.Inside.Safe.{Safe};
@@ -14,11 +14,18 @@ pub(crate) fn spoilt_by(number: u8, run: u32) -> SoFar
 {
     SoFar {
         bits: 0,
-        run: run,
+        run,
         count: 0,
         line: 0,
         fault: number,
     }
+}
+
+// A message is open: it has a bit, or is spoiled.
+pub(crate) fn is_open(s: SoFar) -> bool
+    ensures { result ≡ is_open s }
+{
+    (s.count != 0) | (s.fault != 0)
 }
 
 // The beginning.
@@ -32,15 +39,14 @@ pub fn at_rest() -> SoFar
 fn pads_clear(s: SoFar) -> bool
     ensures { result ≡ pads_clear s }
 {
-    if 64 < s.count {
-        return false;
+    match s.count {
+        0 => s.bits == 0,
+        1..=64 => s.bits % (1u64 << (64 - s.count)) == 0,
+        _ => false,
     }
-    if s.count == 0 {
-        return s.bits == 0;
-    }
-    s.bits % (1u64 << (64 - s.count)) == 0
 }
 
+// The tests of a state are all made, with no jump between them: `&` and `|`.
 fn no_bits(s: SoFar) -> bool
     ensures { result ≡ has_no_bits s }
 {
@@ -56,26 +62,19 @@ pub fn is_rest(s: SoFar) -> bool
 fn is_between(s: SoFar) -> bool
     ensures { result ≡ is_between s }
 {
-    (s.fault == 0)
-        & (s.line == 0)
-        & (1 <= s.count)
-        & pads_clear(s)
-        & ((1 <= s.run) & (s.run <= 9999))
+    (s.fault == 0) & (s.line == 0) & (1 <= s.count) & pads_clear(s) & (1..=9999).contains(&s.run)
 }
 
 fn is_in_run(s: SoFar) -> bool
     ensures { result ≡ is_in_run s }
 {
-    (s.fault == 0)
-        & ((1 <= s.line) & (s.line <= 2))
-        & pads_clear(s)
-        & ((1 <= s.run) & (s.run <= 1001))
+    (s.fault == 0) & (1..=2).contains(&s.line) & pads_clear(s) & (1..=1001).contains(&s.run)
 }
 
 fn is_spoilt(s: SoFar) -> bool
     ensures { result ≡ is_spoilt s }
 {
-    ((21 <= s.fault) & (s.fault <= 22)) & (s.line == 0) & no_bits(s) & (s.run <= 9999)
+    (21..=22).contains(&s.fault) & (s.line == 0) & no_bits(s) & (s.run <= 9999)
 }
 
 fn legal(s: SoFar) -> bool
@@ -97,10 +96,10 @@ fn untold(s: SoFar, taken: usize, number: u8) -> LinesTold
 {
     LinesTold {
         so_far: s,
-        taken: taken,
-        message: bytes_of(0),
+        taken,
+        message: [0; 8],
         count: 0,
-        number: number,
+        number,
     }
 }
 
@@ -128,7 +127,7 @@ pub(crate) fn closed(s: SoFar, taken: usize) -> LinesTold
     }
     LinesTold {
         so_far: at_rest(),
-        taken: taken,
+        taken,
         message: bytes_of(s.bits),
         count: s.count as u8,
         number: 0,

@@ -1,33 +1,25 @@
-// What one sample does to what was heard so far.
-ghost use Rattle.std.specs.Prelude.{◌≡◌, ℕ, ◌+◌, ◌<◌, ◌≤◌, min, eqb, leb, ◌&&◌};
-ghost use Rattle.frame.specs.Line.{put, mark};
-ghost use Rattle.frame.specs.Pick.{pick};
+// What one sample does to what was heard so far. Lines and samples are the numbers that C has, and tests joined by `&` make no jump between them.
+ghost use Rattle.std.specs.Prelude.{◌≡◌, ℕ, ◌+◌, ◌<◌, ◌≤◌, min, eqb, leb, ◌&&◌, MatchOption};
 ghost use Rattle.lines.specs.Sample.{sample_of};
-ghost use Rattle.lines.specs.Timing.{timing, too_long};
-ghost use Rattle.lines.specs.SoFar.{so_far};
+ghost use Rattle.lines.specs.Timing.{timing};
 ghost use Rattle.lines.specs.Step.{with_bit, run_ended, longer_idle, after_idle, after_low, after_both, after};
 ghost use Rattle.lines.specs.Inside.Safe.{Safe};
-ghost use Rattle.lines.specs.Inside.Runs.{wanted_of, grown};
+ghost use Rattle.lines.specs.Inside.Runs.{endless, wanted_of, grown};
 
 use crate::SoFar;
-use crate::state::spoilt_by;
+use crate::state::{is_open, spoilt_by};
 
-// A mark is 1, at the place after the bits that have come.
-fn bit_at(line: u8, count: u16) -> u64
-    requires { count < 64 }
-    ensures { result ≡ put (mark (eqb line 1)) (count + 1) }
-{
-    if line == 1 { 1u64 << (63 - count) } else { 0 }
-}
+// The first run that is too long for every most.
+const TOO_LONG: usize = 1001;
 
-// The pulse that has ended is one bit more.
+// The pulse that has ended is one bit more: a mark is 1, at the place after the bits that have come.
 fn with_bit(s: SoFar) -> SoFar
     requires count_bound { s.count < 64 }
     requires safe { Safe s }
     ensures { result ≡ with_bit s }
 {
     SoFar {
-        bits: s.bits + bit_at(s.line, s.count),
+        bits: s.bits + (u64::from(s.line == 1) << (63 - s.count)),
         run: 1,
         count: s.count + 1,
         line: 0,
@@ -42,9 +34,10 @@ fn run_ended(least: usize, most: usize, s: SoFar) -> SoFar
 {
     let run = s.run as usize;
     if (least <= run) & (run <= most) & (s.count < 64) {
-        return with_bit(s);
+        with_bit(s)
+    } else {
+        spoilt_by(21, 1)
     }
-    spoilt_by(21, 1)
 }
 
 // One sample more of an idle run, where something is open.
@@ -53,15 +46,13 @@ fn longer_idle(s: SoFar) -> SoFar
     requires line_value { s.line ≡ 0 }
     ensures { result ≡ longer_idle s }
 {
-    if (s.count == 0) & (s.fault == 0) {
-        return s;
-    }
-    SoFar {
-        bits: s.bits,
-        run: s.run + 1,
-        count: s.count,
-        line: 0,
-        fault: s.fault,
+    if is_open(s) {
+        SoFar {
+            run: s.run + 1,
+            ..s
+        }
+    } else {
+        s
     }
 }
 
@@ -76,23 +67,12 @@ fn after_idle(least: usize, most: usize, s: SoFar) -> SoFar
     }
 }
 
-// One sample more of a run of marks or spaces. The count stops at the first number that is too long for every most, so that it never wraps.
-fn longer(run: u32) -> u32
-    ensures { result ≡ min (run + 1) too_long }
+// So many samples more of a run. The count stops at a first number that is too long, so that it never wraps.
+fn longer(run: u32, more: usize, top: usize) -> u32
+    requires { top ≤ 10000 }
+    ensures { result ≡ min (run + more) top }
 {
-    if run < 1001 { run + 1 } else { 1001 }
-}
-
-fn in_run(s: SoFar, line: u8, run: u32) -> SoFar
-    ensures { result ≡ so_far s.bits run s.count line 0 }
-{
-    SoFar {
-        bits: s.bits,
-        run: run,
-        count: s.count,
-        line: line,
-        fault: 0,
-    }
+    (run as usize).saturating_add(more).min(top) as u32
 }
 
 fn after_low(line: u8, s: SoFar) -> SoFar
@@ -103,10 +83,13 @@ fn after_low(line: u8, s: SoFar) -> SoFar
         return spoilt_by(s.fault, 0);
     }
     if s.line == line {
-        return in_run(s, line, longer(s.run));
+        return SoFar {
+            run: longer(s.run, 1, TOO_LONG),
+            ..s
+        };
     }
     if s.line == 0 {
-        in_run(s, line, 1)
+        SoFar { run: 1, line, ..s }
     } else {
         spoilt_by(21, 0)
     }
@@ -122,17 +105,16 @@ fn after_both(number: u8, s: SoFar) -> SoFar
     }
 }
 
+// A choice by `if`, idle first: a `match` tests for 3 first, and a stream of messages took 7 % more instructions.
 pub(crate) fn after(least: usize, most: usize, s: SoFar, sample: u8) -> SoFar
     requires { Safe s }
     ensures { (gap : ℕ) → result ≡ after (timing least most gap) s (sample_of sample) }
 {
     if sample == 0 {
-        return after_idle(least, most, s);
-    }
-    if sample <= 2 {
-        return after_low(sample, s);
-    }
-    if sample == 3 {
+        after_idle(least, most, s)
+    } else if sample <= 2 {
+        after_low(sample, s)
+    } else if sample == 3 {
         after_both(21, s)
     } else {
         after_both(22, s)
@@ -145,27 +127,19 @@ pub(crate) fn closes(gap: usize, s: SoFar) -> bool
     (s.line == 0) & (gap <= s.run as usize)
 }
 
-// How many samples more like the last one close what is open. Idle closes it; without an end where nothing is open, or the sample is not idle.
-pub(crate) fn wanted(gap: usize, s: SoFar, sample: u8) -> usize
-    ensures { result ≡ wanted_of gap sample s }
+// After how many of so many samples more like the last one what is open closes. It does not where nothing is open, or the sample is not idle.
+// With `&&`, so that samples of a line that is low go by the first test: with `&`, and a `match` in `after`, messages took 16 % more instructions.
+pub(crate) fn wanted(gap: usize, s: SoFar, sample: u8, more: usize) -> Option<usize>
+    requires { more < endless }
+    ensures { MatchOption result (more < wanted_of gap sample s) (λ n. (n ≡ wanted_of gap sample s) × (n ≤ more)) }
 {
-    if (sample == 0) & !((s.count == 0) & (s.fault == 0)) {
-        let run = s.run as usize;
-        return if run < gap { gap - run } else { 0 };
-    }
-    0xffff_ffff_ffff_ffff
-}
-
-// So many samples more of a run, counted up to a number at which it stops.
-fn longer_by(run: u32, more: usize, top: u32) -> u32
-    ensures { result ≡ min (run + more) top }
-{
-    if run < top {
-        if more < (top - run) as usize {
-            return run + more as u32;
+    if sample == 0 && is_open(s) {
+        let left = gap.saturating_sub(s.run as usize);
+        if left <= more {
+            return Some(left);
         }
     }
-    top
+    None
 }
 
 // What was heard after so many samples more like the last one, where they close nothing.
@@ -173,19 +147,20 @@ pub(crate) fn grown(s: SoFar, sample: u8, more: usize) -> SoFar
     ensures { result ≡ grown sample more s }
 {
     if sample == 0 {
-        if (s.count == 0) & (s.fault == 0) {
-            return s;
+        if is_open(s) {
+            SoFar {
+                run: longer(s.run, more, 10000),
+                ..s
+            }
+        } else {
+            s
         }
-        return SoFar {
-            bits: s.bits,
-            run: longer_by(s.run, more, 10000),
-            count: s.count,
-            line: 0,
-            fault: s.fault,
-        };
+    } else if s.line == 0 {
+        s
+    } else {
+        SoFar {
+            run: longer(s.run, more, TOO_LONG),
+            ..s
+        }
     }
-    if s.line == 0 {
-        return s;
-    }
-    in_run(s, s.line, longer_by(s.run, more, 1001))
 }

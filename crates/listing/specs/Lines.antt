@@ -1,8 +1,6 @@
 -- Document 01, the program "list": the lines that show a sheet.
-use Rattle.std.specs.Prelude.{Bool, List, [], ◌++◌, ℕ, zero, suc, length}
+use Rattle.std.specs.Prelude.{Bool, List, [], ◌++◌, ℕ, zero, suc, eqb, length}
 use Rattle.frame.specs.declared.Reading.{Reading}
-use Rattle.frame.specs.declared.Reply.{Reply}
-use Rattle.frame.specs.declared.Reply.TheVariants.{Read, Refused, Unreadable}
 use Rattle.frame.specs.declared.Temperature.{Temperature}
 use Rattle.frame.specs.declared.Temperature.TheVariants.{Degrees, Above, Below, Absent}
 use Rattle.frame.specs.Pick.{pick}
@@ -12,6 +10,9 @@ use Rattle.frame.specs.Reply.{reply_of}
 use Rattle.sheet.specs.Record.{Entry}
 use Rattle.sheet.specs.Slots.{Slot, blank, spoiled, foreign, holds, size_allowed, slots, slot_at, slot_of, list_of}
 use Rattle.listing.specs.Text.{ascii, in_decimal}
+use Rattle.std.specs.Prelude.{Result, Ok, Err}
+use Rattle.frame.specs.declared.faults.Fault.{Fault}
+use Rattle.frame.specs.Faults.{number_of, place_named}
 
 -- The first line counts slots.
 unfoldable pub head_line : List ℕ → List ℕ
@@ -35,10 +36,10 @@ reading_text r =
 
 -- A faulty reply ends after the address with "fault" and its number; document 02, request 02: after 7 stands the place of the unreadable
 -- digit.
-abbrev pub reply_text : Reply → List ℕ
-reply_text (Read r) = reading_text r
-reply_text (Refused n) = ascii "fault " ++ in_decimal n
-reply_text (Unreadable place) = ascii "fault 7 " ++ in_decimal place
+abbrev pub reply_text : Result Reading Fault → List ℕ
+reply_text (Ok r) = reading_text r
+reply_text (Err f) =
+    pick (eqb (number_of f) 7) (ascii "fault 7 " ++ in_decimal (place_named f)) (ascii "fault " ++ in_decimal (number_of f))
 
 -- Minute, address, and what the reply reads as.
 unfoldable pub record_text : Entry → List ℕ

@@ -1,164 +1,146 @@
 // The lines of a listing and their parts. A slot's line has at most 40 bytes: slot 5, minute 10, address 5, level 5, temperature 6, the two alarms, six
 // blanks and the line's end; each part asks for room by its own share of them.
-ghost use Rattle.std.specs.Prelude.{◌≡◌, true, ◌++◌, ◌+◌, ◌≤◌, ◌<◌, length, take};
+ghost use Rattle.std.specs.Prelude.{◌≡◌, true, [], ◌++◌, ◌+◌, ◌<◌, ◌≤◌, length, take};
 ghost use Rattle.frame.specs.Line.{bytes_for, mark};
 ghost use Rattle.sheet.specs.Slots.{size_allowed, slots, slot_at, slot_of, record_in};
-ghost use Rattle.sheet.specs.Look.{entry_with};
+ghost use Rattle.sheet.specs.Look.{entry_with, record_told};
 ghost use Rattle.putting.specs.Digit.{digit};
-ghost use Rattle.putting.specs.Puts.{Puts};
+ghost use Rattle.putting.specs.Adds.{Adds, HasRoom};
 ghost use Rattle.listing.specs.Text.{ascii, in_decimal};
 ghost use Rattle.listing.specs.Lines.{temperature_text, reading_text, reply_text, record_text, slot_line};
 
 use crate::text::{put_number, put_short};
-use frame::{Reading, Reply, Temperature, is_plus, magnitude};
-use putting::{put_byte, put_word};
+use frame::{Fault, Reading, Temperature, is_plus, magnitude};
+use putting::Text;
 use sheet::{Found, Head, look};
-
-// A line that was put: the place after it, and how many records it shows.
-#[derive(Clone, Copy)]
-pub(crate) struct Line {
-    pub(crate) end: usize,
-    pub(crate) records: usize,
-}
 
 // An alarm as a digit.
 fn alarm(on: bool) -> u8
     ensures { result ≡ digit (mark on) }
 {
-    if on { b'1' } else { b'0' }
+    b'0' + u8::from(on)
 }
 
 // Degrees in tenths, "above", "below", or "-" where it is absent.
-fn put_temperature(out: &mut [u8], at: usize, t: Temperature) -> usize
-    requires { at + 6 ≤ length out.old }
-    ensures { Puts (temperature_text t) 6 out.old at result out.new }
+fn put_temperature(text: &mut Text, t: Temperature)
+    requires { HasRoom text.old 6 }
+    ensures { Adds (temperature_text t) 6 text.old text.new }
 {
     match t {
         Temperature::Degrees(d) => {
-            let tenths = magnitude(d) as u16;
-            if is_plus(d) {
-                return put_short(out, at, tenths);
+            if !is_plus(d) {
+                text.byte(b'-');
             }
-            let next = put_byte(out, at, b'-');
-            put_short(out, next, tenths)
+            put_short(text, magnitude(d) as u16);
         }
-        Temperature::Above => put_word(out, at, b"above"),
-        Temperature::Below => put_word(out, at, b"below"),
-        Temperature::Absent => put_byte(out, at, b'-'),
+        Temperature::Above => text.word(b"above"),
+        Temperature::Below => text.word(b"below"),
+        Temperature::Absent => text.byte(b'-'),
     }
 }
 
 // Level, temperature, alarm 1 and alarm 0.
-fn put_reading(out: &mut [u8], at: usize, r: Reading) -> usize
-    requires { at + 16 ≤ length out.old }
-    ensures { Puts (reading_text r) 16 out.old at result out.new }
+fn put_reading(text: &mut Text, r: Reading)
+    requires { HasRoom text.old 16 }
+    ensures { Adds (reading_text r) 16 text.old text.new }
 {
-    let t = r.temperature;
-    let level = put_short(out, at, r.level);
-    let gap = put_byte(out, level, b' ');
-    let heat = put_temperature(out, gap, t);
-    let gap1 = put_byte(out, heat, b' ');
-    let alarm1 = put_byte(out, gap1, alarm(r.alarm1));
-    let gap0 = put_byte(out, alarm1, b' ');
-    put_byte(out, gap0, alarm(r.alarm0))
+    put_short(text, r.level);
+    text.byte(b' ');
+    put_temperature(text, r.temperature);
+    text.byte(b' ');
+    text.byte(alarm(r.alarm1));
+    text.byte(b' ');
+    text.byte(alarm(r.alarm0));
 }
 
 // What a reply reads as: its reading, or "fault" and its number, and after 7 the place of the unreadable digit.
-fn put_reply(out: &mut [u8], at: usize, reply: Reply) -> usize
-    requires { at + 16 ≤ length out.old }
-    ensures { Puts (reply_text reply) 16 out.old at result out.new }
+fn put_reply(text: &mut Text, reply: Result<Reading, Fault>)
+    requires { HasRoom text.old 16 }
+    ensures { Adds (reply_text reply) 16 text.old text.new }
 {
     match reply {
-        Reply::Read(r) => put_reading(out, at, r),
-        Reply::Refused(n) => {
-            let next = put_word(out, at, b"fault ");
-            put_short(out, next, n as u16)
+        Ok(r) => put_reading(text, r),
+        Err(Fault::InNoChart(place)) => {
+            text.word(b"fault 7 ");
+            put_short(text, u16::from(place));
         }
-        Reply::Unreadable(place) => {
-            let next = put_word(out, at, b"fault 7 ");
-            put_short(out, next, place as u16)
+        Err(fault) => {
+            text.word(b"fault ");
+            put_short(text, u16::from(fault.number()));
         }
     }
 }
 
 // Minute, address, and what the reply reads as.
-fn put_record(out: &mut [u8], at: usize, head: Head, reply: &[u8]) -> usize
-    requires { at + 33 ≤ length out.old }
-    ensures { Puts (record_text (entry_with head reply.now)) 33 out.old at result out.new }
+fn put_record(text: &mut Text, head: Head, reply: &[u8])
+    requires { HasRoom text.old 33 }
+    ensures { Adds (record_text (entry_with head reply.now)) 33 text.old text.new }
 {
-    let minute = put_number(out, at, head.minute);
-    let gap = put_byte(out, minute, b' ');
-    let address = put_short(out, gap, head.address);
-    let gap2 = put_byte(out, address, b' ');
-    let read = frame::read_reply(head.settings, head.address, head.count, reply);
-    put_reply(out, gap2, read)
+    put_number(text, head.minute);
+    text.byte(b' ');
+    put_short(text, head.address);
+    text.byte(b' ');
+    put_reply(
+        text,
+        frame::read_reply(head.settings, head.address, head.count, reply),
+    );
 }
 
 // The line of a record. The bytes of its reply stand first in the eight.
-fn put_line(out: &mut [u8], at: usize, slot: u16, head: Head, reply: [u8; 8]) -> usize
-    requires at_in_bounds { at + 40 ≤ length out.old }
+fn put_line(text: &mut Text, slot: u16, head: Head, reply: [u8; 8])
+    requires room { HasRoom text.old 40 }
     requires count_bound { head.count ≤ 64 }
-    ensures { Puts (in_decimal slot ++ ascii " " ++ record_text (entry_with head (take (bytes_for head.count) reply)) ++ ascii "\n") 40
-        out.old at result out.new }
+    ensures { Adds (in_decimal slot ++ ascii " " ++ record_text (entry_with head (take (bytes_for head.count) reply)) ++ ascii "\n") 40
+        text.old text.new }
 {
-    let size = (head.count + 7) / 8;
-    let number = put_short(out, at, slot);
-    let gap = put_byte(out, number, b' ');
-    let record = put_record(out, gap, head, &reply[..size]);
-    put_byte(out, record, b'\n')
+    let size = head.count.div_ceil(8);
+    put_short(text, slot);
+    text.byte(b' ');
+    put_record(text, head, &reply[..size]);
+    text.byte(b'\n');
 }
 
 // The line of a slot that holds no record.
-fn put_other(out: &mut [u8], at: usize, slot: u16, word: &[u8]) -> usize
-    requires { at + 5 + length word.now ≤ length out.old }
-    ensures { Puts (in_decimal slot ++ word.now) (5 + length word.now) out.old at result out.new }
+fn put_other(text: &mut Text, slot: u16, word: &[u8])
+    requires { HasRoom text.old (5 + length word.now) }
+    ensures { Adds (in_decimal slot ++ word.now) (5 + length word.now) text.old text.new }
 {
-    let number = put_short(out, at, slot);
-    put_word(out, number, word)
+    put_short(text, slot);
+    text.word(word);
 }
 
-// The line of a slot, none where it is blank.
-pub(crate) fn put_slot(out: &mut [u8], at: usize, sheet: &[u8], slot: usize) -> Line
-    requires at_in_bounds { at + 40 ≤ length out.old }
+// How many records a slot holds: one or none.
+pub(crate) fn records_in(found: Found) -> usize
+    ensures { result ≡ length (record_told found []) }
+{
+    usize::from(matches!(found, Found::Record(_)))
+}
+
+// The line of a slot, none where it is blank. Answers how many records it shows.
+pub(crate) fn put_slot(text: &mut Text, sheet: &[u8], slot: usize) -> usize
+    requires room { HasRoom text.old 40 }
     requires sheet_value { size_allowed sheet.now ≡ true }
     requires slot_bound { slot < slots sheet.now }
-    ensures puts { Puts (slot_line sheet.now slot) 40 out.old at result.end out.new }
-    ensures records_value { result.records ≡ length (record_in (slot_of (slot_at sheet.now slot))) }
+    ensures puts { Adds (slot_line sheet.now slot) 40 text.old text.new }
+    ensures records_value { result ≡ length (record_in (slot_of (slot_at sheet.now slot))) }
 {
     let looked = look(sheet, slot);
-    let found = looked.found;
-    let reply = looked.reply;
     let number = slot as u16;
-    match found {
-        Found::Blank => Line {
-            end: at,
-            records: 0,
-        },
-        Found::Spoiled => {
-            let end = put_other(out, at, number, b" spoiled\n");
-            Line { end, records: 0 }
-        }
-        Found::Foreign => {
-            let end = put_other(out, at, number, b" foreign\n");
-            Line { end, records: 0 }
-        }
-        Found::Record(head) => {
-            let end = put_line(out, at, number, head, reply);
-            Line { end, records: 1 }
-        }
-        Found::Refused(_) => Line {
-            end: at,
-            records: 0,
-        },
+    match looked.found {
+        Found::Blank | Found::Refused(_) => {}
+        Found::Spoiled => put_other(text, number, b" spoiled\n"),
+        Found::Foreign => put_other(text, number, b" foreign\n"),
+        Found::Record(head) => put_line(text, number, head, looked.reply),
     }
+    records_in(looked.found)
 }
 
 // The first line and the last: a word, a number, and the line's end.
-pub(crate) fn put_count(out: &mut [u8], at: usize, word: &[u8], n: u16) -> usize
-    requires { at + length word.now + 6 ≤ length out.old }
-    ensures { Puts (word.now ++ in_decimal n ++ ascii "\n") (length word.now + 6) out.old at result out.new }
+pub(crate) fn put_count(text: &mut Text, word: &[u8], n: u16)
+    requires { HasRoom text.old (length word.now + 6) }
+    ensures { Adds (word.now ++ in_decimal n ++ ascii "\n") (length word.now + 6) text.old text.new }
 {
-    let number = put_word(out, at, word);
-    let end = put_short(out, number, n);
-    put_byte(out, end, b'\n')
+    text.word(word);
+    put_short(text, n);
+    text.byte(b'\n');
 }

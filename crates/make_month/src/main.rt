@@ -5,78 +5,69 @@
 mod replies;
 mod tanks;
 
-use frame::Written;
+use frame::Fault;
+use sheet::Head;
 use std::io;
+use tanks::Visit;
 
 // The stores that the power holds for at this poll: more than any save needs, but for a few cuts.
 fn allowance(n: u16) -> usize {
     if n % 211 == 97 {
-        return (n % 16) as usize;
+        usize::from(n % 16)
+    } else {
+        64
     }
-    64
 }
 
 // Line noise: at a few polls the highest bit of one byte of the reply is turned.
-fn damage(out: &mut [u8], n: u16) {
-    let at = (n % 7) as usize;
-    if n % 83 == 41 {
-        if at < out.len() {
-            let b = out[at];
-            if b < 128 {
-                out[at] = b + 128;
-            } else {
-                out[at] = b - 128;
-            }
-        }
+fn damage(line: &mut [u8], n: u16) {
+    if n % 83 == 41
+        && let Some(byte) = line.get_mut(usize::from(n % 7))
+    {
+        *byte ^= 0x80;
     }
 }
 
-// Saves what came of poll n: the bytes of a reply, or none where the transmitter was silent.
-fn keep(sheet: &mut [u8], n: u16, reply: &[u8]) {
-    let i = n % 30;
-    let round = n / 30;
-    let minute = (round as u32) * 720 + 360 + (i as u32);
-    sheet::save(
-        sheet,
-        replies::settings(i),
-        minute,
-        replies::address(i),
-        8 * (reply.len() % 9),
-        reply,
-        allowance(n),
-    );
+// Saves what came of a poll: the bytes of a reply, or none where the transmitter was silent. The sheet has more slots than there are polls, so no save is
+// refused.
+fn keep(sheet: &mut [u8], visit: Visit, reply: &[u8]) {
+    let head = Head {
+        settings: visit.settings(),
+        minute: u32::from(visit.round) * 720 + 360 + u32::from(visit.tank),
+        address: visit.address(),
+        count: 8 * (reply.len() % 9),
+    };
+    let _ = sheet::save(sheet, head, reply, allowance(visit.poll()));
 }
 
-// The first k bytes of what was written, as they come off the line.
-fn hear(sheet: &mut [u8], n: u16, out: &mut [u8], k: usize) {
-    damage(out, n);
-    if k <= out.len() {
-        keep(sheet, n, &out[..k]);
+// What a transmitter answers, and how many bytes that has: 0 where it says nothing.
+fn answer(visit: Visit, line: &mut [u8]) -> Result<usize, Fault> {
+    if visit.is_silent() {
+        return Ok(0);
     }
+    frame::write_reply(visit.settings(), visit.address(), visit.reading(), line)
 }
 
 // One poll of one transmitter, which may say nothing.
-fn poll(sheet: &mut [u8], n: u16) {
-    let i = n % 30;
-    let mut out = [0u8; 7];
-    if replies::is_silent(i, n / 30) {
-        hear(sheet, n, &mut out, 0);
+fn poll(sheet: &mut [u8], visit: Visit) {
+    let mut line = [0u8; 7];
+    let Ok(size) = answer(visit, &mut line) else {
         return;
-    }
-    match frame::write_reply(
-        replies::settings(i),
-        replies::address(i),
-        replies::reading(i, n / 30),
-        &mut out,
-    ) {
-        Written::Bytes(k) => hear(sheet, n, &mut out, k),
-        Written::Refused(_) => {}
-    }
+    };
+    damage(&mut line, visit.poll());
+    keep(sheet, visit, &line[..size.min(7)]);
 }
 
+// By number, since tank and round are worked out from it.
 fn month(sheet: &mut [u8]) {
     for n in 0..1860 {
-        poll(sheet, n);
+        poll(
+            sheet,
+            Visit {
+                tank: n % 30,
+                round: n / 30,
+            },
+        );
     }
 }
 

@@ -1,8 +1,7 @@
 // Made-up transmitters: what each of 30 answers in each round of a month at a depot in late autumn.
-ghost use Rattle.std.specs.Prelude.{◌≤◌};
-
-use crate::tanks;
+use crate::tanks::Visit;
 use frame::{Reading, Temperature};
+use print::{Mode, Settings};
 
 // A gauge that sticks, and two with a bad bulb, both of type 1800.
 const STICKING: u16 = 8;
@@ -14,94 +13,82 @@ const WET_BULB: u16 = 22;
 // No mode has this level. It is sent as digits that nobody can read.
 const NO_LEVEL: u16 = 65_535;
 
-// Transmitter i stands at this address, with these settings: all modes, both types and both parities are among them.
-pub(crate) fn address(i: u16) -> u16 {
-    101 + i % 30 * 7
-}
+impl Visit {
+    // Every tank's transmitter has this address, with these settings: all modes, both types and both parities are among them.
+    pub(crate) fn address(self) -> u16 {
+        101 + self.tank * 7
+    }
 
-pub(crate) fn settings(i: u16) -> u8 {
-    (i % 30 % 16) as u8
-}
+    pub(crate) fn settings(self) -> u8 {
+        (self.tank % 16) as u8
+    }
 
-// Lightning strikes the line of five transmitters, and they are silent for a week. Any other is silent now and then.
-pub(crate) fn is_silent(i: u16, round: u16) -> bool {
-    if i / 5 == 2 {
-        if round / 14 == 2 {
-            return true;
+    fn week(self) -> u16 {
+        self.round / 14
+    }
+
+    // Its poll, counted from the first.
+    pub(crate) fn poll(self) -> u16 {
+        self.round * 30 + self.tank
+    }
+
+    // Lightning strikes the line of five transmitters, and they are silent for a week. Any other is silent now and then.
+    pub(crate) fn is_silent(self) -> bool {
+        self.tank / 5 == 2 && self.week() == 2 || self.poll() % 149 == 31
+    }
+
+    // The visit whose level is shown. A gauge that sticks shows the same for a week.
+    fn shown(self) -> Visit {
+        let round = if self.tank == STICKING && self.week() == 1 {
+            14
+        } else {
+            self.round
+        };
+        Visit {
+            tank: self.tank,
+            round,
         }
     }
-    (round % 62 * 30 + i % 30) % 149 == 31
-}
 
-// The round whose level is shown. A gauge that sticks shows the same for a week.
-fn shown(i: u16, round: u16) -> u16 {
-    if i == STICKING {
-        if round / 14 == 1 {
-            return 14;
-        }
-    }
-    round
-}
-
-// A full tank is 31 ft 3 in, 30.00 ft, 9.000 m or 12.000 m high, by its mode. In the week after it has stuck, the gauge fails.
-fn level(i: u16, round: u16, held: u16) -> u16 {
-    let h = (held % 10_001) as u32;
-    if i == STICKING {
-        if round / 14 == 2 {
+    // A full tank is 31 ft 3 in, 30.00 ft, 9.000 m or 12.000 m high, by its mode. In the week after it has stuck, the gauge fails.
+    fn level(self, held: u16) -> u16 {
+        if self.tank == STICKING && self.week() == 2 {
             return NO_LEVEL;
         }
+        let tenths = match Settings::from(self.settings()).mode {
+            Mode::Fractional => 6,
+            Mode::Decimal => 3,
+            Mode::Metres20 => 9,
+            Mode::Metres30 => 12,
+        };
+        (u32::from(held % 10_001) * tenths / 10) as u16
     }
-    match i % 4 {
-        0 => (h * 6 / 10) as u16,
-        1 => (h * 3 / 10) as u16,
-        2 => (h * 9 / 10) as u16,
-        _ => (h * 12 / 10) as u16,
-    }
-}
 
-// Tenths of a degree above -20.0: warmer by day than by night, colder from week to week, down to frost, and each ninth day a cold front.
-fn warmth(i: u16, round: u16) -> u16
-    ensures { result ≤ 1000 }
-{
-    let day = round % 62 / 2;
-    300 - day * 7 + day % 9 * 11 + round % 2 * 35 + i % 7 * 4
-}
-
-fn degrees(i: u16, round: u16) -> i16 {
-    let tenths = warmth(i, round);
-    if tenths < 200 {
-        let frost = (200 - tenths) as i16;
-        return -frost;
+    // Tenths of a degree, at least -20.0: warmer by day than by night, colder from week to week, down to frost, and each ninth day a cold front.
+    fn degrees(self) -> i16 {
+        let day = self.round / 2;
+        let above_least = 300 - day * 7 + day % 9 * 11 + self.round % 2 * 35 + self.tank % 7 * 4;
+        above_least as i16 - 200
     }
-    (tenths - 200) as i16
-}
 
-// Every third transmitter has no temperature bulb. One bulb breaks in the last week, another is wet for three days.
-fn temperature(i: u16, round: u16) -> Temperature {
-    if i % 3 == 0 {
-        return Temperature::Absent;
-    }
-    if i == BROKEN_BULB {
-        if 50 <= round {
-            return Temperature::Above;
+    // Every third transmitter has no temperature bulb. One bulb breaks in the last week, another is wet for three days.
+    fn temperature(self) -> Temperature {
+        match self.tank {
+            tank if tank % 3 == 0 => Temperature::Absent,
+            BROKEN_BULB if 50 <= self.round => Temperature::Above,
+            WET_BULB if self.round / 6 == 4 => Temperature::Below,
+            _ => Temperature::Degrees(self.degrees()),
         }
     }
-    if i == WET_BULB {
-        if round / 6 == 4 {
-            return Temperature::Below;
-        }
-    }
-    Temperature::Degrees(degrees(i, round))
-}
 
-// Alarm 1 tells that less than a fifth of the tank is left, alarm 0 less than a tenth.
-pub(crate) fn reading(i: u16, round: u16) -> Reading {
-    let held = tanks::held(i, shown(i, round));
-    let t = temperature(i, round);
-    Reading {
-        level: level(i, round, held),
-        temperature: t,
-        alarm1: held < 2000,
-        alarm0: held < 1000,
+    // Alarm 1 tells that less than a fifth of the tank is left, alarm 0 less than a tenth.
+    pub(crate) fn reading(self) -> Reading {
+        let held = self.shown().held();
+        Reading {
+            level: self.level(held),
+            temperature: self.temperature(),
+            alarm1: held < 2000,
+            alarm0: held < 1000,
+        }
     }
 }

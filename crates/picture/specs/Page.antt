@@ -1,5 +1,5 @@
 -- The page of a card: one file of HTML, with a section for each line of its summary.
-use Rattle.std.specs.Prelude.{false, List, [], ◌∷◌, ◌++◌, map, ℕ, zero, suc, ◌+◌, ◌-◌, eqb, ltb, get_or}
+use Rattle.std.specs.Prelude.{false, Option, None, Some, List, [], ◌∷◌, ◌++◌, map, ℕ, zero, suc, ◌+◌, ◌-◌, eqb, ltb, get_or}
 use Rattle.frame.specs.Pick.{pick}
 use Rattle.sheet.specs.Record.{Entry}
 use Rattle.sheet.specs.Slots.{list_of}
@@ -60,7 +60,7 @@ legend_text =
     ++ ascii "<svg class='l4' viewBox='0 0 4 2' role='img'><title>alarm 0</title><desc>a square dot</desc><path d='M2,1h.1'/></svg> alarm 0</p>\n"
 
 -- From when to when, in words.
-unfoldable pub when_text : Day → Tally → List ℕ
+unfoldable pub when_text : Option Day → Tally → List ℕ
 when_text begin t =
     pick (eqb t.records 0) (ascii "no record") (moment_text begin t.first ++ ascii " to " ++ moment_text begin t.last)
 
@@ -70,7 +70,7 @@ others_text n =
     pick (eqb n 0) [] (fill (ascii "<p>~ records are of further addresses and settings: the first 30 have a picture, and these have none.</p>\n") (n ∷ []))
 
 -- The beginning of what is shown: the card's name, what its slots hold, and when that was.
-unfoldable pub counts_text : List ℕ → Day → Tally → List ℕ
+unfoldable pub counts_text : List ℕ → Option Day → Tally → List ℕ
 counts_text name begin t =
     ascii "<body><h1>" ++ name
     ++ fill (ascii "</h1><p>~ slots: ~ records, ~ spoiled, ~ foreign</p>\n<p>") (t.slots ∷ t.records ∷ t.spoiled ∷ t.foreign ∷ [])
@@ -101,7 +101,7 @@ begin_text layer address from top span height =
     (choice layer (ascii "level</title><desc>a point for each good reply, at its minute and level, joined where no faulty reply lies between</desc><g transform='scale(1,-1)'><path d='|temperature</title><desc>a point for each good reply that has a temperature, joined where no other reply lies between</desc><g transform='scale(1,-1)'><path d='|faulty replies</title><desc>a bar for each, at its minute</desc><g>|alarm 1</title><desc>a round dot for each good reply that has it</desc><g>|alarm 0</title><desc>a square dot for each good reply that has it</desc><g>"))
     []
 
-unfoldable pub frame_text : Day → List Entry → ℕ → ℕ → ℕ → ℕ → ℕ → ℕ → ℕ → List ℕ
+unfoldable pub frame_text : Option Day → List Entry → ℕ → ℕ → ℕ → ℕ → ℕ → ℕ → ℕ → List ℕ
 frame_text begin l pair layer address from top span height =
     begin_text layer address from top span height ++ layer_text begin layer false (entries_of_pair pair l)
     ++ fill (choice layer (ascii "'/></g></svg></div>\n|'/></g></svg></div>\n|</g></svg></div>\n|</g></svg></div>\n|</g></svg></div>\n")) []
@@ -129,14 +129,15 @@ heat_row l a x g =
 unfoldable pub mark_row : List Entry → Axis → Line → ℕ → List ℕ
 mark_row l a x layer = scale_text layer 0 0 0 ++ frame_text a.begin l (pair_of x) layer x.address a.from 0 a.span 1
 
--- The days under them: dates where the day of minute 0 is known, which may be broken behind the year where there is little room.
+-- The days under them: dates where the day of minute 0 is given, which may be broken behind the year where there is little room.
 abbrev pub date_on_axis : Day → List ℕ
 date_on_axis d = year_text d.year ++ ascii "-<wbr/>" ++ month_day_text d
 
-unfoldable pub day_on_axis : Day → ℕ → List ℕ
-day_on_axis begin n = pick (eqb begin.day 0) (fill (ascii "~") (n ∷ [])) (date_on_axis (days_from begin n))
+unfoldable pub day_on_axis : Option Day → ℕ → List ℕ
+day_on_axis None n = fill (ascii "~") (n ∷ [])
+day_on_axis (Some d) n = date_on_axis (days_from d n)
 
-unfoldable pub tick_text : Day → ℕ → ℕ → ℕ → List ℕ
+unfoldable pub tick_text : Option Day → ℕ → ℕ → ℕ → List ℕ
 tick_text begin i shown day = pick (ltb i shown) (ascii "<span>" ++ day_on_axis begin day ++ ascii "</span>") []
 
 abbrev pub tick_of : Axis → ℕ → List ℕ
@@ -161,7 +162,7 @@ heading_text x =
 unfoldable pub bound_text : ℕ → ℕ → List ℕ
 bound_text settings n = pick (eqb n no_level) (ascii "none") (level_text settings n)
 
-unfoldable pub last_text : Day → ℕ → Gauged → List ℕ
+unfoldable pub last_text : Option Day → ℕ → Gauged → List ℕ
 last_text begin settings g =
     pick (eqb g.last no_level) (ascii "none") (level_text settings g.last ++ ascii ", " ++ moment_text begin g.when)
 
@@ -178,14 +179,14 @@ unfoldable pub kinds_text : List ℕ → ℕ → ℕ → List ℕ
 kinds_text counts k zero = []
 kinds_text counts k (suc n) = kind_text (get_or counts k 0) k ++ kinds_text counts (suc k) n
 
-unfoldable pub levels_text : Day → Line → Gauged → List ℕ
+unfoldable pub levels_text : Option Day → Line → Gauged → List ℕ
 levels_text begin x g =
     ascii "<table><tr><th>lowest</th><td>" ++ bound_text x.settings x.lowest ++ ascii "</td></tr><tr><th>highest</th><td>"
     ++ bound_text x.settings x.highest
     ++ ascii "</td></tr><tr><th>last</th><td>"
     ++ last_text begin x.settings g
 
-unfoldable pub figures_text : Day → Line → Gauged → List ℕ
+unfoldable pub figures_text : Option Day → Line → Gauged → List ℕ
 figures_text begin x g =
     levels_text begin x g ++ ascii "</td></tr><tr><th>temperature</th><td>" ++ heat_text g ++ off_text 0 (get_or g.counts 16 0) ++ off_text 1 (get_or g.counts 17 0)
     ++ fill (ascii "</td></tr><tr><th>replies</th><td>~ good, ~ faulty") (x.good ∷ x.faulty ∷ [])
@@ -208,7 +209,7 @@ sections_text l a (x ∷ xs) = section_text l a x ++ sections_text l a xs
 abbrev pub lines_for : List Entry → List Line
 lines_for l = map (line_for l) (in_order (kept_pairs l))
 
-unfoldable pub page_of : List ℕ → List ℕ → Day → List ℕ
+unfoldable pub page_of : List ℕ → List ℕ → Option Day → List ℕ
 page_of s name begin =
     let l = list_of s in
     let t = tally_of s in

@@ -1,19 +1,19 @@
 // The axis that all pictures of a page share: whole days, from that of the earliest record to that of the latest.
-ghost use Rattle.std.specs.Prelude.{◌≡◌, ◌+◌, ◌-◌, ◌*◌, ◌/◌, ◌≤◌, ◌<◌, min, length};
-ghost use Rattle.putting.specs.Puts.{Puts};
+ghost use Rattle.std.specs.Prelude.{◌≡◌, ◌+◌, ◌-◌, ◌*◌, ◌/◌, ◌≤◌, ◌<◌, length};
+ghost use Rattle.putting.specs.Adds.{Adds, HasRoom};
 ghost use Rattle.picture.specs.Axis.{axis_of};
-ghost use Rattle.picture.specs.Page.{date_on_axis, day_on_axis, tick_text, days_text};
+ghost use Rattle.picture.specs.Page.{date_on_axis, day_on_axis, tick_of, days_text};
 
 use calendar::Day;
 use forms::days::{put_month_day, put_year};
 use forms::form::put_form;
-use putting::put_word;
+use putting::Text;
 
-// The day of minute 0; its first minute and its width in minutes; how many days it has, how many of them lie from tick to tick, the days of the ticks, and how many of the five
+// The day of minute 0, where it is given; the first minute of the first day and its width in minutes; how many days it has, how many of them lie from tick to tick, the days of the ticks, and how many of the five
 // are shown.
 #[derive(Clone, Copy)]
 pub(crate) struct Axis {
-    pub(crate) begin: Day,
+    pub(crate) begin: Option<Day>,
     pub(crate) from: u32,
     pub(crate) span: u32,
     pub(crate) days: u32,
@@ -27,25 +27,10 @@ fn days_in(first: u32, last: u32) -> u32
     ensures value { result ≡ last / 1440 - first / 1440 + 1 }
     ensures upper_bound { result ≤ 2982617 }
 {
-    if first <= last {
-        last / 1440 - first / 1440 + 1
-    } else {
-        1
-    }
+    (last / 1440).saturating_sub(first / 1440) + 1
 }
 
-fn minutes_in(days: u32) -> u32
-    requires { days ≤ 2982617 }
-    ensures { result ≡ min (1440 * days) 4294967295 }
-{
-    if days < 2982617 {
-        1440 * days
-    } else {
-        4_294_967_295
-    }
-}
-
-pub(crate) fn axis_of(begin: Day, first: u32, last: u32) -> Axis
+pub(crate) fn axis_of(begin: Option<Day>, first: u32, last: u32) -> Axis
     ensures { result ≡ axis_of begin first last }
 {
     let days = days_in(first, last);
@@ -54,7 +39,7 @@ pub(crate) fn axis_of(begin: Day, first: u32, last: u32) -> Axis
     Axis {
         begin,
         from: day * 1440,
-        span: minutes_in(days),
+        span: days.saturating_mul(1440),
         days,
         step,
         ticks: [
@@ -68,55 +53,46 @@ pub(crate) fn axis_of(begin: Day, first: u32, last: u32) -> Axis
     }
 }
 
-fn put_axis_date(out: &mut [u8], at: usize, d: Day) -> usize
-    requires { at + 22 ≤ length out.old }
-    ensures { Puts (date_on_axis d) 22 out.old at result out.new }
+fn put_axis_date(text: &mut Text, d: Day)
+    requires { HasRoom text.old 22 }
+    ensures { Adds (date_on_axis d) 22 text.old text.new }
 {
-    let year = put_year(out, at, d.year);
-    let gap = put_word(out, year, b"-<wbr/>");
-    put_month_day(out, gap, d)
+    put_year(text, d.year);
+    text.word(b"-<wbr/>");
+    put_month_day(text, d);
 }
 
-fn put_axis_day(out: &mut [u8], at: usize, begin: Day, n: u32) -> usize
-    requires { at + 22 ≤ length out.old }
-    ensures { Puts (day_on_axis begin n) 22 out.old at result out.new }
+fn put_axis_day(text: &mut Text, begin: Option<Day>, n: u32)
+    requires { HasRoom text.old 22 }
+    ensures { Adds (day_on_axis begin n) 22 text.old text.new }
 {
-    if begin.day == 0 {
-        return put_form(out, at, b"~", &[n]);
+    match begin {
+        Some(day) => put_axis_date(text, calendar::after(day, n)),
+        None => put_form(text, b"~", &[n]),
     }
-    let date = calendar::after(begin, n);
-    put_axis_date(out, at, date)
 }
 
 // The day of a tick, where it is shown.
-fn put_tick(out: &mut [u8], at: usize, begin: Day, i: u32, shown: u32, day: u32) -> usize
-    requires { at + 35 ≤ length out.old }
-    ensures { Puts (tick_text begin i shown day) 35 out.old at result out.new }
+fn put_tick(text: &mut Text, a: Axis, i: usize)
+    requires i_bound { i < length a.ticks }
+    requires room { HasRoom text.old 35 }
+    ensures { Adds (tick_of a i) 35 text.old text.new }
 {
-    if shown <= i {
-        return at;
+    if i < a.shown as usize {
+        text.word(b"<span>");
+        put_axis_day(text, a.begin, a.ticks[i]);
+        text.word(b"</span>");
     }
-    let begun = put_word(out, at, b"<span>");
-    let said = put_axis_day(out, begun, begin, day);
-    put_word(out, said, b"</span>")
 }
 
 // The row of the days.
-pub(crate) fn put_days(out: &mut [u8], at: usize, a: Axis) -> usize
-    requires { at + 255 ≤ length out.old }
-    ensures { Puts (days_text a) 255 out.old at result out.new }
+pub(crate) fn put_days(text: &mut Text, a: Axis)
+    requires { HasRoom text.old 255 }
+    ensures { Adds (days_text a) 255 text.old text.new }
 {
-    let begin = a.begin;
-    let ticks = a.ticks;
-    let begun = put_word(
-        out,
-        at,
-        b"<div class='row'><div class='y'><b>day</b></div><div class='axis'>",
-    );
-    let t0 = put_tick(out, begun, begin, 0, a.shown, ticks[0]);
-    let t1 = put_tick(out, t0, begin, 1, a.shown, ticks[1]);
-    let t2 = put_tick(out, t1, begin, 2, a.shown, ticks[2]);
-    let t3 = put_tick(out, t2, begin, 3, a.shown, ticks[3]);
-    let t4 = put_tick(out, t3, begin, 4, a.shown, ticks[4]);
-    put_word(out, t4, b"</div></div>\n")
+    text.word(b"<div class='row'><div class='y'><b>day</b></div><div class='axis'>");
+    for i in 0..5 {
+        put_tick(text, a, i);
+    }
+    text.word(b"</div></div>\n");
 }

@@ -1,7 +1,7 @@
 // The figures of a pair in a table: levels, temperatures, and how many replies were of each kind.
 ghost use Rattle.std.specs.Prelude.{◌≡◌, ◌+◌, ◌-◌, ◌≤◌, ◌<◌, ltb, length};
 ghost use Rattle.frame.specs.Pick.{pick};
-ghost use Rattle.putting.specs.Puts.{Puts};
+ghost use Rattle.putting.specs.Adds.{Adds, HasRoom};
 ghost use Rattle.picture.specs.Page.{bound_text, last_text, heat_text, off_text, kind_text, kinds_text, levels_text, figures_text};
 
 use calendar::Day;
@@ -9,129 +9,115 @@ use forms::days::put_moment;
 use forms::form::{put_choice, put_form};
 use forms::words::{put_degrees, put_fault, put_level};
 use layers::gauge::Gauged;
-use putting::put_word;
+use putting::Text;
 use summary::Line;
 
-fn put_bound(out: &mut [u8], at: usize, settings: u16, n: u16) -> usize
-    requires { at + 43 ≤ length out.old }
-    ensures { Puts (bound_text settings n) 43 out.old at result out.new }
+fn put_bound(text: &mut Text, settings: u16, n: u16)
+    requires { HasRoom text.old 43 }
+    ensures { Adds (bound_text settings n) 43 text.old text.new }
 {
     if n == 0xffff {
-        return put_word(out, at, b"none");
+        text.word(b"none");
+    } else {
+        put_level(text, settings, n);
     }
-    put_level(out, at, settings, n)
 }
 
-fn put_last(out: &mut [u8], at: usize, settings: u16, g: Gauged, begin: Day) -> usize
-    requires { at + 68 ≤ length out.old }
-    ensures { Puts (last_text begin settings g) 68 out.old at result out.new }
+fn put_last(text: &mut Text, settings: u16, g: Gauged, begin: Option<Day>)
+    requires { HasRoom text.old 68 }
+    ensures { Adds (last_text begin settings g) 68 text.old text.new }
 {
     if g.last == 0xffff {
-        return put_word(out, at, b"none");
+        text.word(b"none");
+    } else {
+        put_level(text, settings, g.last);
+        text.word(b", ");
+        put_moment(text, begin, g.when);
     }
-    let level = put_level(out, at, settings, g.last);
-    let gap = put_word(out, level, b", ");
-    put_moment(out, gap, begin, g.when)
 }
 
-fn put_heat(out: &mut [u8], at: usize, g: Gauged) -> usize
-    requires { at + 62 ≤ length out.old }
-    ensures { Puts (heat_text g) 62 out.old at result out.new }
+fn put_heat(text: &mut Text, g: Gauged)
+    requires { HasRoom text.old 62 }
+    ensures { Adds (heat_text g) 62 text.old text.new }
 {
     if g.warm < g.cold {
-        return put_word(out, at, b"none");
+        text.word(b"none");
+    } else {
+        put_degrees(text, g.cold);
+        text.word(b" to ");
+        put_degrees(text, g.warm);
     }
-    let cold = put_degrees(out, at, g.cold);
-    let gap = put_word(out, cold, b" to ");
-    put_degrees(out, gap, g.warm)
 }
 
 // How many temperatures were off the scale, on one side of it.
-fn put_off(out: &mut [u8], at: usize, which: usize, n: u32) -> usize
-    requires { at + 40 ≤ length out.old }
-    ensures { Puts (off_text which n) 40 out.old at result out.new }
+fn put_off(text: &mut Text, which: usize, n: u32)
+    requires { HasRoom text.old 40 }
+    ensures { Adds (off_text which n) 40 text.old text.new }
 {
-    if n == 0 {
-        return at;
+    if n != 0 {
+        put_choice(
+            text,
+            b"; ~ above the scale|; ~ below the scale",
+            which,
+            &[n],
+        );
     }
-    put_choice(
-        out,
-        at,
-        b"; ~ above the scale|; ~ below the scale",
-        which,
-        &[n],
-    )
 }
 
-// A kind's fault and place.
+// The number of a kind's fault: 7 of the kinds that are places of an unreadable digit.
 fn fault_of(k: usize) -> u8
     ensures { result ≡ pick (ltb k 10) k 7 }
 {
     if k < 10 { k as u8 } else { 7 }
 }
 
-fn place_of(k: usize) -> u8
-    requires { k < 19 }
-    ensures { result ≡ k - 10 }
-{
-    if k < 10 { 0 } else { (k - 10) as u8 }
-}
-
-fn put_kind(out: &mut [u8], at: usize, n: u32, k: usize) -> usize
+fn put_kind(text: &mut Text, n: u32, k: usize)
     requires k_bound { k < 19 }
-    requires at_in_bounds { at + 44 ≤ length out.old }
-    ensures { Puts (kind_text n k) 44 out.old at result out.new }
+    requires room { HasRoom text.old 44 }
+    ensures { Adds (kind_text n k) 44 text.old text.new }
 {
-    if n == 0 {
-        return at;
+    if n != 0 {
+        put_form(text, b"; ~ ", &[n]);
+        put_fault(text, fault_of(k), k.saturating_sub(10) as u8);
     }
-    let many = put_form(out, at, b"; ~ ", &[n]);
-    put_fault(out, many, fault_of(k), place_of(k))
 }
 
 // How many replies had each fault.
-fn put_kinds(out: &mut [u8], at: usize, counts: [u32; 19]) -> usize
-    requires { at + 660 ≤ length out.old }
-    ensures { Puts (kinds_text counts 1 15) 660 out.old at result out.new }
+fn put_kinds(text: &mut Text, counts: [u32; 19])
+    requires { HasRoom text.old 660 }
+    ensures { Adds (kinds_text counts 1 15) 660 text.old text.new }
 {
-    let mut end = at;
-    let mut k: usize = 1;
-    while k < 16 {
-        end = put_kind(out, end, counts[k], k);
-        k += 1;
+    for k in 1..16 {
+        put_kind(text, counts[k], k);
     }
-    end
 }
 
-fn put_levels(out: &mut [u8], at: usize, x: Line, g: Gauged, begin: Day) -> usize
-    requires { at + 290 ≤ length out.old }
-    ensures { Puts (levels_text begin x g) 290 out.old at result out.new }
+fn put_levels(text: &mut Text, x: Line, g: Gauged, begin: Option<Day>)
+    requires { HasRoom text.old 290 }
+    ensures { Adds (levels_text begin x g) 290 text.old text.new }
 {
-    let low = put_word(out, at, b"<table><tr><th>lowest</th><td>");
-    let lowest = put_bound(out, low, x.settings, x.lowest);
-    let high = put_word(out, lowest, b"</td></tr><tr><th>highest</th><td>");
-    let highest = put_bound(out, high, x.settings, x.highest);
-    let late = put_word(out, highest, b"</td></tr><tr><th>last</th><td>");
-    put_last(out, late, x.settings, g, begin)
+    text.word(b"<table><tr><th>lowest</th><td>");
+    put_bound(text, x.settings, x.lowest);
+    text.word(b"</td></tr><tr><th>highest</th><td>");
+    put_bound(text, x.settings, x.highest);
+    text.word(b"</td></tr><tr><th>last</th><td>");
+    put_last(text, x.settings, g, begin);
 }
 
-pub(crate) fn put_figures(out: &mut [u8], at: usize, x: Line, g: Gauged, begin: Day) -> usize
-    requires { at + 1230 ≤ length out.old }
-    ensures { Puts (figures_text begin x g) 1230 out.old at result out.new }
+pub(crate) fn put_figures(text: &mut Text, x: Line, g: Gauged, begin: Option<Day>)
+    requires { HasRoom text.old 1230 }
+    ensures { Adds (figures_text begin x g) 1230 text.old text.new }
 {
-    let counts = g.counts;
-    let replies = [x.good, x.faulty];
-    let levels = put_levels(out, at, x, g, begin);
-    let next = put_word(out, levels, b"</td></tr><tr><th>temperature</th><td>");
-    let heat = put_heat(out, next, g);
-    let above = put_off(out, heat, 0, counts[16]);
-    let below = put_off(out, above, 1, counts[17]);
-    let good = put_form(
-        out,
-        below,
+    put_levels(text, x, g, begin);
+    text.word(b"</td></tr><tr><th>temperature</th><td>");
+    put_heat(text, g);
+    put_off(text, 0, g.counts[16]);
+    put_off(text, 1, g.counts[17]);
+    put_form(
+        text,
         b"</td></tr><tr><th>replies</th><td>~ good, ~ faulty",
-        &replies,
+        &[x.good, x.faulty],
     );
-    let kinds = put_kinds(out, good, counts);
-    put_word(out, kinds, b"</td></tr></table>")
+    put_kinds(text, g.counts);
+    text.word(b"</td></tr></table>");
 }

@@ -2,7 +2,7 @@
 use mathlib.Core.Path.{◌≡◌, refl, sym, ap, ap₂, subst, ◌∙◌}
 use mathlib.Core.Bool.{Bool, true, false, ◌&&◌, ◌||◌, not, true≢false}
 use mathlib.Core.List.{List, [], ◌∷◌, ◌++◌}
-use Prim.Native.Nat.{ℕ, ◌+◌, ◌-◌, ◌<◌, ◌≤◌, min}
+use Prim.Native.Nat.{ℕ, ◌+◌, ◌-◌, ◌<◌, ◌≤◌, min, max}
 use native.Mathlib.Omega.{arith}
 use native.Mathlib.Nat.{add-zero, zero-add}
 use lib.Dec.{eqb, leb, ltb}
@@ -12,15 +12,17 @@ use borrow.Author.Tests.{ltb-true, le-leb, lt-leb, not-true, not-false}
 use Rattle.frame.specs.Pick.{pick}
 use Rattle.lines.specs.declared.SoFar.{SoFar}
 use Rattle.lines.specs.declared.LinesTold.{LinesTold}
-use Rattle.lines.specs.SoFar.{rest_state, is_rest}
+use Rattle.lines.specs.SoFar.{is_rest}
 use Rattle.lines.specs.Hearing.{MessageTold, nothing, message, spoiled, Hearing, number_told, count_told, bytes_told, hear}
 use Rattle.lines.specs.Calls.{answered}
 use Rattle.lines.proofs.Cases.{of-pick}
 use Rattle.polling.specs.declared.Pace.{Pace}
-use Rattle.polling.specs.declared.listening.Ear.{Ear}
+use Rattle.polling.specs.declared.listening.Told.{Told}
+use Rattle.polling.specs.declared.listening.Told.TheVariants.{Message, Spoiled}
+use Rattle.polling.specs.declared.listening.Ear.TheVariants.{Closed}
 use Rattle.polling.specs.Pace.{timing_of}
 use Rattle.polling.specs.Listening.{Listened, still_going, settled_by, later, listen}
-use Rattle.polling.specs.Inside.Ears.{Ready, limit_of, next_limit, end_of, cut_to, ear_by, ear_of, no_message, closed_by}
+use Rattle.polling.specs.Inside.Ears.{Ready, limit_of, next_limit, end_of, cut_to, told_by, told_in, ear_of}
 use Rattle.polling.proofs.Paces.{Good}
 use Rattle.polling.proofs.Pieces.{later-later, untold, Part, shut, onward, part}
 
@@ -59,31 +61,24 @@ next-limit p g s passed n e = go (ltb passed p.wait) refl
 pub cut_by : (p : Pace) (s : SoFar) (k many limit passed : ℕ) → k ≡ cut_to many limit passed → limit ≡ next_limit p s passed → k ≡ cut_to many (next_limit p s passed) passed
 cut_by p s k many limit passed e f = e ∙ ap (λ (n : ℕ). cut_to many n passed) f
 
-cut-facts : (many limit passed k : ℕ) (b : Bool) → ltb passed limit ≡ b → 1 ≤ many → limit ≤ 10000000 → k ≡ min (pick b (limit - passed) 1) many
+cut-facts : (many limit passed k : ℕ) → 1 ≤ many → limit ≤ 10000000 → k ≡ min (max (limit - passed) 1) many
     → (1 ≤ k) × (k ≤ many) × ((j : ℕ) → 1 ≤ j → j < k → passed + j < limit) × (k ≤ 10000000)
-cut-facts many limit passed k true t some most e =
-    let l = ltb-true passed limit t in
-    (omega arith, omega arith, λ j a b. omega arith, omega arith)
-cut-facts many limit passed k false t some most e = (omega arith, omega arith, λ j a b. absurd (omega arith), omega arith)
+cut-facts many limit passed k some most e = (omega arith, omega arith, λ j a b. omega arith, omega arith)
 
 module _ (p : Pace) (g : Good p) (s : SoFar) (before i k : ℕ) (xs : List ℕ) (more : i < length xs) (cut : k ≡ cut_to (length xs - i) (next_limit p s (before + i)) (before + i)) where
   pub cut-so : (1 ≤ k) × (k ≤ length xs - i) × ((j : ℕ) → 1 ≤ j → j < k → before + i + j < limit_of p s) × (k ≤ 10000000)
   cut-so =
       let limit = next_limit p s (before + i) in
       let near = (next-limit p g s (before + i) limit refl).0 in
-      let so = cut-facts (length xs - i) limit (before + i) k (ltb (before + i) limit) refl (omega arith) (omega (arith, near, limit-most p g s, g.longest)) cut in
+      let so = cut-facts (length xs - i) limit (before + i) k (omega arith) (omega (arith, near, limit-most p g s, g.longest)) cut in
       (so.0, so.1, λ j a b. omega (arith, near, so.2 j a b), so.3)
 
 -- What the lines told of it is told of the try.
-told-ear : (t : MessageTold) (n : ℕ) → (not (eqb (count_told t) 0) || not (eqb (number_told t) 0)) ≡ true
-    → pick (eqb (number_told t) 0) (ear_by rest_state n (bytes_told t) (count_told t) 0 true true) (no_message n (number_told t)) ≡ ear_of (settled_by t n)
-told-ear nothing n e = absurd (true≢false (sym e))
-told-ear (message count bits) n e = refl
-told-ear (spoiled number) n e = ap (λ (b : Bool). pick b (ear_by rest_state n (bytes_told (spoiled number)) 0 0 true true) (no_message n number)) (not-true (eqb number 0) e)
-
-pub closed-settled : (told : LinesTold) (n : ℕ) → (closed_by told n).settled ≡ true
-closed-settled told n =
-    of-pick (λ (e : Ear). e.settled ≡ true) (eqb told.number 0) (ear_by rest_state n told.message told.count 0 true true) (no_message n told.number) (λ e. refl) (λ e. refl)
+told-ear : (t : MessageTold) → (not (eqb (count_told t) 0) || not (eqb (number_told t) 0)) ≡ true
+    → pick (eqb (number_told t) 0) (Message (count_told t) (bytes_told t)) (Spoiled (number_told t)) ≡ told_by t
+told-ear nothing e = absurd (true≢false (sym e))
+told-ear (message count bits) e = refl
+told-ear (spoiled number) e = ap (λ (b : Bool). pick b (Message 0 (bytes_told (spoiled number))) (Spoiled number)) (not-true (eqb number 0) e)
 
 none_told : (t : MessageTold) → (not (eqb (count_told t) 0) || not (eqb (number_told t) 0)) ≡ false → untold t ≡ true
 none_told t e = go (eqb (count_told t) 0) (eqb (number_told t) 0) e
@@ -97,7 +92,7 @@ pub record Turn (p : Pace) (s : SoFar) (before i : ℕ) (xs : List ℕ) (told : 
   pub few : i + told.taken ≤ length xs
   pub small : told.taken ≤ 10000000
   pub closes : (not (eqb told.count 0) || not (eqb told.number 0)) ≡ true
-      → closed_by told (i + told.taken) ≡ ear_of (later i (listen p s (before + i) (drop i xs)))
+      → Closed (told_in told) (i + told.taken) ≡ ear_of (later i (listen p s (before + i) (drop i xs)))
   pub some : (not (eqb told.count 0) || not (eqb told.number 0)) ≡ false → 1 ≤ told.taken
   pub ready : (not (eqb told.count 0) || not (eqb told.number 0)) ≡ false → Ready told.so_far
   pub ends : (not (eqb told.count 0) || not (eqb told.number 0)) ≡ false → limit_of p told.so_far ≤ before + (i + told.taken)
@@ -139,7 +134,7 @@ module _ (p : Pace) (g : Good p) (s : SoFar) (r : Ready s) (before i k : ℕ) (x
         record {
           few = omega (arith, few, long, cuts.1);
           small = omega (arith, few, long, cuts.3);
-          closes = λ e. told-ear h.told (i + h.taken) e ∙ ap ear_of (sym (ap (λ (l : List ℕ). later i (listen p s (before + i) l)) (sym whole) ∙ ap (later i) is));
+          closes = λ e. ap (λ (t : Told). Closed t (i + h.taken)) (told-ear h.told e) ∙ ap ear_of (sym (ap (λ (l : List ℕ). later i (listen p s (before + i) l)) (sym whole) ∙ ap (later i) is));
           some = λ e. absurd (true≢false (sym (none_told h.told e) ∙ told));
           ready = λ e. absurd (true≢false (sym (none_told h.told e) ∙ told));
           ends = λ e. absurd (true≢false (sym (none_told h.told e) ∙ told));

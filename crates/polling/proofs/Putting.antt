@@ -4,10 +4,10 @@ use mathlib.Core.Bool.{Bool, true, false, not}
 use mathlib.Core.List.{List, [], ◌∷◌, ◌++◌, append-nil, append_assoc}
 use Prim.Native.Nat.{ℕ, zero, suc, ◌+◌, ◌-◌, ◌<◌, ◌≤◌, min}
 use native.Mathlib.Omega.{arith}
-use lib.Dec.{eqb}
+use lib.Dec.{eqb, ltb}
 use lib.ListN.{length, take, drop, replicate, length-take, length-drop, length-append, length-replicate, drop_of_length-le}
 use lib.Seq.{take-nil, drop-nil, take_all, take_at, drop_at, drop-drop}
-use borrow.Author.Tests.{le-ltb, lt-ltb}
+use borrow.Author.Tests.{le-ltb, lt-ltb, ltb-true, ltb-false}
 use Rattle.frame.specs.Pick.{pick}
 use Rattle.frame.specs.Line.{first_bytes, formed}
 use Rattle.frame.specs.Faults.{first_of}
@@ -71,6 +71,23 @@ unfolding write_poll_fault first_of
 poll-bytes address h =
     ap (λ (b : Bool). pick (eqb (pick b 11 0) 0) (first_bytes 2 (poll_line address false false) ++ []) (0 ∷ 0 ∷ [])) (le-ltb 999 address h)
     ∙ append-nil (first_bytes 2 (poll_line address false false))
+
+-- they are written where the address has a poll, and else refused
+pub has-poll : (address : ℕ) → write_poll_fault address (0 ∷ 0 ∷ []) ≡ 0 → address ≤ 999
+unfolding write_poll_fault first_of
+has-poll address h = go (ltb 999 address) refl h
+  where
+    go : (b : Bool) → ltb 999 address ≡ b → ◌≡◌ {A = ℕ} (pick b 11 0) 0 → address ≤ 999
+    go true e h = absurd (omega (arith, h))
+    go false e h = ltb-false 999 address e
+
+pub has-none : (address : ℕ) → (write_poll_fault address (0 ∷ 0 ∷ []) ≡ 0 → ⊥) → 999 < address
+unfolding write_poll_fault first_of
+has-none address h = go (ltb 999 address) refl h
+  where
+    go : (b : Bool) → ltb 999 address ≡ b → (◌≡◌ {A = ℕ} (pick b 11 0) 0 → ⊥) → 999 < address
+    go true e h = ltb-true 999 address e
+    go false e h = absurd (h refl)
 
 two_formed : (n : ℕ) → formed 16 (first_bytes 2 n) ≡ true
 unfolding formed first_bytes

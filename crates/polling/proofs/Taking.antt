@@ -13,10 +13,10 @@ use Rattle.lines.specs.SoFar.{rest_state}
 use Rattle.round.specs.declared.Polled.{Polled}
 use Rattle.polling.specs.declared.turns.Turn.{Turn}
 use Rattle.polling.specs.declared.settling.Outcome.{Outcome}
-use Rattle.polling.specs.declared.listening.Ear.{Ear}
+use Rattle.polling.specs.declared.listening.Told.{Told}
 use Rattle.polling.specs.Beginning.{no_entry}
 use Rattle.polling.specs.Settling.{round_with, settled_of, settled_with}
-use Rattle.polling.specs.Inside.Ears.{replied_by, stands_by}
+use Rattle.polling.specs.Inside.Ears.{number_in, replied_by, stands_by}
 use Rattle.polling.specs.Inside.Turns.{place_of, state_of, put_back, over_by, turn_as, Of, left_by_hearing, next_turn, standing}
 use Rattle.polling.proofs.Meaning.{not-over}
 
@@ -59,10 +59,10 @@ module _ (rs : List Polled) (k : ℕ) (t m : Turn) (same : m ≡ turn_as t m.lin
       e (sym same_count)
 
 -- the reply that stands
-pub stood : (rs : List Polled) (t : Turn) (minute : ℕ) (e : Ear) → Of rs t → left_by_hearing rs t.at t (standing minute e t) ≡ stands_by minute e (state_of rs t)
-stood rs t minute e its =
+pub stood : (rs : List Polled) (t : Turn) (minute : ℕ) (told : Told) (taken : ℕ) → Of rs t → left_by_hearing rs t.at t (standing minute told taken t) ≡ stands_by minute told taken (state_of rs t)
+stood rs t minute told taken its =
     ap
     (λ (x : Polled). settled_of
-    (record { round = round_with (record { replies = rs; count = t.count }) t.at (replied_by minute e x); lines = rest_state; passed = 0; at = t.at + 1; tried = 0; listening = 0 })
-    e.taken t.at 1 (mark (over_by (next_turn minute e t))) e.number)
+    (record { round = round_with (record { replies = rs; count = t.count }) t.at (replied_by minute told x); lines = rest_state; passed = 0; at = t.at + 1; tried = 0; listening = 0 })
+    taken t.at 1 (mark (over_by (next_turn minute told t))) (number_in told))
     (sym its)

@@ -5,6 +5,7 @@ ghost use Rattle.polling.specs.Inside.Boards.{begun_by, HoldsBoard, BeginsOn};
 
 use crate::{Begun, Polling};
 use board::Row;
+use frame::Fault;
 use round::{Polled, Round};
 
 // A reply before it is polled.
@@ -12,11 +13,11 @@ fn unanswered(minute: u32, address: u16, settings: u8) -> Polled
     ensures { result ≡ unanswered minute address settings 0 }
 {
     Polled {
-        minute: minute,
+        minute,
         count: 0,
         bytes: 0,
-        address: address,
-        settings: settings,
+        address,
+        settings,
         unused: 0,
         reply: [0; 8],
     }
@@ -25,30 +26,21 @@ fn unanswered(minute: u32, address: u16, settings: u8) -> Polled
 fn no_replies() -> [Polled; 30]
     ensures { result ≡ replicate 30 no_reply }
 {
-    let none = unanswered(0, 0, 0);
-    [none; 30]
+    [unanswered(0, 0, 0); 30]
 }
 
 fn begun_with(replies: [Polled; 30], count: usize, number: u8) -> Begun
     ensures { result ≡ begun_by replies count number }
 {
-    let round = Round {
-        replies: replies,
-        count: count,
-    };
-    let rest = lines::state::at_rest();
     let polling = Polling {
-        round: round,
-        lines: rest,
+        round: Round { replies, count },
+        lines: lines::state::at_rest(),
         passed: 0,
         at: 0,
         tried: 0,
         listening: 0,
     };
-    Begun {
-        polling: polling,
-        number: number,
-    }
+    Begun { polling, number }
 }
 
 // The replies of the first rows, and no reply behind them.
@@ -57,11 +49,8 @@ fn replies_of(held: [Row; 30], count: usize, minute: u32) -> [Polled; 30]
     ensures { result ≡ map (reply_for minute) (take count held) ++ replicate (30 - count) no_reply }
 {
     let mut replies = no_replies();
-    let mut i: usize = 0;
-    while i < count {
-        let row = held[i];
+    for (i, row) in held[..count].iter().enumerate() {
         replies[i] = unanswered(minute, row.address, row.settings);
-        i += 1;
     }
     replies
 }
@@ -71,10 +60,9 @@ pub(crate) fn begin(held: [Row; 30], len: usize, minute: u32) -> Begun
     requires { HoldsBoard held len }
     ensures { BeginsOn held len minute result }
 {
-    let found = board::value::find(held, len, 0);
-    if !found.kept {
-        return begun_with(no_replies(), 0, 38);
-    }
+    let Some(found) = board::value::find(held, len, 0) else {
+        return begun_with(no_replies(), 0, Fault::OutOfOrder.number());
+    };
     let replies = replies_of(held, found.free, minute);
     begun_with(replies, found.free, 0)
 }

@@ -1,7 +1,5 @@
 // What is drawn of a try: its delay, and then its poll, from where the last call ended.
-ghost use Rattle.std.specs.Prelude.{◌≡◌, false, ◌+◌, ◌-◌, ◌≤◌, min, drop, replicate};
-ghost use Rattle.frame.specs.Line.{first_bytes};
-ghost use Rattle.frame.specs.Poll.{poll_line};
+ghost use Rattle.std.specs.Prelude.{◌≡◌, false, drop, replicate};
 ghost use Rattle.polling.specs.Pace.{bad_pace};
 ghost use Rattle.polling.specs.Meant.{poll_drawn, try_drawn};
 ghost use Rattle.polling.specs.Inside.Puts.{Puts};
@@ -9,7 +7,7 @@ ghost use Rattle.polling.specs.Inside.Turns.{over_by, driven, told, DrawsTurn};
 
 use crate::turns::Turn;
 use crate::{Drew, Pace, ranges, turns};
-use frame::Written;
+use frame::Fault;
 use lines::SoFar;
 
 // What becomes of a turn that was drawn, and what the call tells of it.
@@ -24,16 +22,15 @@ pub(crate) struct Driven {
 fn drew(lines: SoFar, passed: u32, listening: u8, count: usize) -> Driven
     ensures { result ≡ driven lines passed listening (told count 0 0) }
 {
-    let told = Drew {
-        count: count,
-        over: 0,
-        number: 0,
-    };
     Driven {
-        lines: lines,
-        passed: passed,
-        listening: listening,
-        told: told,
+        lines,
+        passed,
+        listening,
+        told: Drew {
+            count,
+            over: 0,
+            number: 0,
+        },
     }
 }
 
@@ -41,67 +38,40 @@ fn drew(lines: SoFar, passed: u32, listening: u8, count: usize) -> Driven
 fn undrawn(t: Turn, over: u8, number: u8) -> Driven
     ensures { result ≡ driven t.lines t.passed t.listening (told 0 over number) }
 {
-    let lines = t.lines;
-    let told = Drew {
-        count: 0,
-        over: over,
-        number: number,
-    };
     Driven {
-        lines: lines,
+        lines: t.lines,
         passed: t.passed,
         listening: t.listening,
-        told: told,
+        told: Drew {
+            count: 0,
+            over,
+            number,
+        },
     }
-}
-
-// What is left of so many samples.
-fn left(size: usize, passed: usize) -> usize
-    ensures { result ≡ size - passed }
-{
-    if passed < size { size - passed } else { 0 }
-}
-
-fn least_of(a: usize, b: usize) -> usize
-    ensures { result ≡ min a b }
-{
-    if a < b { a } else { b }
 }
 
 // Puts down so many idle samples, or as many as fit.
 fn idle(out: &mut [u8], many: usize) -> usize
     ensures { Puts (replicate many 0) out.old result out.new }
 {
-    let end = least_of(many, out.len());
-    let mut i = 0;
-    while i < end {
-        out[i] = 0;
-        i += 1;
-    }
+    let end = many.min(out.len());
+    out[..end].fill(0);
     end
 }
 
-// The two bytes of a poll.
-fn poll_of(address: u16) -> [u8; 2]
-    requires { address ≤ 999 }
-    ensures { result ≡ first_bytes 2 (poll_line address false false) }
-{
-    let mut bytes: [u8; 2] = [0, 0];
-    frame::write_poll(address, false, false, &mut bytes);
-    bytes
-}
-
-// The poll from a sample on.
+// The poll from a sample on. An address that the frame writes no poll of has none.
 fn poll(p: Pace, address: u16, from: usize, out: &mut [u8]) -> usize
     requires { bad_pace p ≡ false }
     ensures { Puts (drop from (poll_drawn p address)) out.old result out.new }
 {
-    if 999 < address {
-        return 0;
+    let mut bytes = [0; 2];
+    match frame::write_poll(address, false, false, &mut bytes) {
+        Ok(_) => {
+            let done = drawing::sisal_draw(p.low as usize, p.still as usize, 16, &bytes, from, out);
+            done.count
+        }
+        Err(_) => 0,
     }
-    let bytes = poll_of(address);
-    let done = drawing::sisal_draw(p.low as usize, p.still as usize, 16, &bytes, from, out);
-    done.count
 }
 
 // A try from a sample on.
@@ -110,8 +80,8 @@ fn draw_try(p: Pace, address: u16, from: usize, out: &mut [u8]) -> usize
     ensures { Puts (drop from (try_drawn p address)) out.old result out.new }
 {
     let delay = p.delay as usize;
-    let end = idle(out, left(delay, from));
-    let more = poll(p, address, left(from, delay), &mut out[end..]);
+    let end = idle(out, delay.saturating_sub(from));
+    let more = poll(p, address, from.saturating_sub(delay), &mut out[end..]);
     end + more
 }
 
@@ -137,13 +107,13 @@ pub(crate) fn draw(t: Turn, p: Pace, out: &mut [u8]) -> Driven
     ensures { DrawsTurn t p out.old result out.new }
 {
     if ranges::bad_pace(p) {
-        return undrawn(t, 0, 20);
+        return undrawn(t, 0, Fault::BadTiming.number());
     }
-    if turns::is_over(t) {
+    if t.is_over() {
         return undrawn(t, 1, 0);
     }
     if t.listening != 0 {
-        let heard = turns::listens(t);
+        let heard = t.listens();
         return undrawn(heard, 0, 0);
     }
     draw_on(t, p, out)

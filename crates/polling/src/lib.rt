@@ -95,17 +95,7 @@ pub fn sisal_polling_begin(rows: &[Row], minute: u32) -> Begun
 pub fn sisal_polling_draw(polling: &mut Polling, pace: Pace, out: &mut [u8]) -> Drew
     ensures { DrawsPolling polling.old pace out.old (drew_with polling.new result) out.new }
 {
-    let place = turns::place(polling.at);
-    let turn = Turn {
-        entry: polling.round.replies[place],
-        count: polling.round.count,
-        lines: polling.lines,
-        passed: polling.passed,
-        at: polling.at,
-        tried: polling.tried,
-        listening: polling.listening,
-    };
-    let driven = drawing_out::draw(turn, pace, out);
+    let driven = drawing_out::draw(Turn::of(polling), pace, out);
     polling.lines = driven.lines;
     polling.passed = driven.passed;
     polling.listening = driven.listening;
@@ -117,16 +107,7 @@ pub fn sisal_polling_hear(polling: &mut Polling, pace: Pace, minute: u32, sample
     ensures { HearsPolling polling.old pace minute samples.now (settled_with polling.new result) }
 {
     let place = turns::place(polling.at);
-    let turn = Turn {
-        entry: polling.round.replies[place],
-        count: polling.round.count,
-        lines: polling.lines,
-        passed: polling.passed,
-        at: polling.at,
-        tried: polling.tried,
-        listening: polling.listening,
-    };
-    let outcome = settling::hear(turn, pace, minute, samples);
+    let outcome = settling::hear(Turn::of(polling), pace, minute, samples);
     polling.round.replies[place] = outcome.turn.entry;
     polling.lines = outcome.turn.lines;
     polling.passed = outcome.turn.passed;

@@ -1,24 +1,85 @@
 // A try listened to: the samples are handed to the hearing of the lines, cut at the limit that comes next: `wait`, and behind it, where the lines are not at
 // rest, `longest`.
-ghost use Rattle.std.specs.Prelude.{◌≡◌, false, ◌+◌, ◌<◌, ◌^◌};
+ghost use Rattle.std.specs.Prelude.{◌≡◌, false, ◌<◌, ◌^◌};
 ghost use Rattle.polling.specs.Pace.{bad_pace};
-ghost use Rattle.polling.specs.Listening.{still_going, settled_by, listen};
-ghost use Rattle.polling.specs.Inside.Ears.{Ready, limit_of, next_limit, end_of, room_to, cut_to, ear_of, no_message, closed_by};
+ghost use Rattle.polling.specs.Listening.{listen};
+ghost use Rattle.polling.specs.Inside.Ears.{Ready, HasRoom, limit_of, next_limit, end_of, cut_to, told_by, told_in, message_in, number_in, count_in, bytes_in, ear_of};
 
 use crate::Pace;
+use frame::Fault;
 use lines::{LinesTold, SoFar};
 
-// How a try stands: how many samples were taken, and what is left of the lines where it goes on; where it is settled, whether by a message, its bits, and
-// its number.
+// By what a try is settled: silence, a message with its bits, or the number of a spoiled one, or of a line given up. It stays a number, as the lines tell
+// it and as C is told: no call asks which it is.
 #[derive(Clone, Copy)]
-pub(crate) struct Ear {
-    pub so_far: SoFar,
-    pub taken: usize,
-    pub reply: [u8; 8],
-    pub count: u8,
-    pub number: u8,
-    pub settled: bool,
-    pub message: bool,
+pub(crate) enum Told {
+    Silence,
+    Message { count: u8, reply: [u8; 8] },
+    Spoiled(u8),
+}
+
+// How a try stands after so many samples: it goes on, and the lines are left so; or it is settled.
+#[derive(Clone, Copy)]
+pub(crate) enum Ear {
+    Open { left: SoFar, taken: usize },
+    Closed { told: Told, taken: usize },
+}
+
+impl Told {
+    // The lines have told of a message, or of a spoiled one.
+    fn of(told: LinesTold) -> Told
+        ensures { result ≡ told_in told }
+    {
+        if told.number != 0 {
+            return Told::Spoiled(told.number);
+        }
+        let reply = told.message;
+        Told::Message {
+            count: told.count,
+            reply,
+        }
+    }
+
+    // The limit is reached: silence where the lines are at rest; else given up, by 22 where a byte above 3 came.
+    fn at_limit(s: SoFar) -> Told
+        ensures { result ≡ told_by (end_of s) }
+    {
+        if lines::state::is_rest(s) {
+            return Told::Silence;
+        }
+        let fault = if s.fault == 22 {
+            Fault::SpoiledByByte
+        } else {
+            Fault::Spoiled
+        };
+        Told::Spoiled(fault.number())
+    }
+
+    pub(crate) fn is_message(self) -> bool
+        ensures { result ≡ message_in self }
+    {
+        matches!(self, Told::Message { .. })
+    }
+
+    // The number that is answered: 0 of a message and of silence.
+    pub(crate) fn number(self) -> u8
+        ensures { result ≡ number_in self }
+    {
+        match self {
+            Told::Spoiled(number) => number,
+            _ => 0,
+        }
+    }
+
+    // The bits of a message, and how many: none of any other.
+    pub(crate) fn bits(self) -> (u8, [u8; 8])
+        ensures { result ≡ (count_in self, bytes_in self) }
+    {
+        match self {
+            Told::Message { count, reply } => (count, reply),
+            _ => (0, [0; 8]),
+        }
+    }
 }
 
 // The limit by which it is settled: no low sample has come while the lines are at rest.
@@ -26,9 +87,10 @@ fn limit_of(p: Pace, s: SoFar) -> usize
     ensures { result ≡ limit_of p s }
 {
     if lines::state::is_rest(s) {
-        return p.wait as usize;
+        p.wait as usize
+    } else {
+        p.longest as usize
     }
-    p.longest as usize
 }
 
 // The limit that comes next: before `wait` it is that one, whatever the lines are; they are asked only behind it, so that a batch that ends before it
@@ -36,90 +98,24 @@ fn limit_of(p: Pace, s: SoFar) -> usize
 fn next_limit(p: Pace, s: SoFar, passed: usize) -> usize
     ensures { result ≡ next_limit p s passed }
 {
-    if passed < p.wait as usize {
-        return p.wait as usize;
-    }
-    limit_of(p, s)
+    let wait = p.wait as usize;
+    if passed < wait { wait } else { limit_of(p, s) }
 }
 
-// How many samples come before the limit or reach it: at least one.
-fn room_to(limit: usize, passed: usize) -> usize
-    ensures { result ≡ room_to limit passed }
-{
-    if passed < limit {
-        return limit - passed;
-    }
-    1
-}
-
-// As many of those that there are.
+// As many of the samples as come before the limit or reach it: at least one.
 fn cut(many: usize, limit: usize, passed: usize) -> usize
     ensures { result ≡ cut_to many limit passed }
 {
-    let room = room_to(limit, passed);
-    if room < many { room } else { many }
+    limit.saturating_sub(passed).max(1).min(many)
 }
 
-// Nothing is settled yet.
-fn left_open(s: SoFar, taken: usize) -> Ear
-    ensures { result ≡ ear_of (still_going s taken) }
-{
-    Ear {
-        so_far: s,
-        taken: taken,
-        reply: [0; 8],
-        count: 0,
-        number: 0,
-        settled: false,
-        message: false,
-    }
-}
-
-// No message came: by this number.
-fn none(taken: usize, number: u8) -> Ear
-    ensures { result ≡ no_message taken number }
-{
-    let rest = lines::state::at_rest();
-    let mut ear = left_open(rest, taken);
-    ear.number = number;
-    ear.settled = true;
-    ear
-}
-
-// The lines have told of a message, or of a spoiled one.
-fn closed(told: LinesTold, taken: usize) -> Ear
-    ensures { result ≡ closed_by told taken }
-{
-    if told.number != 0 {
-        return none(taken, told.number);
-    }
-    let mut ear = none(taken, 0);
-    let bits = told.message;
-    ear.reply = bits;
-    ear.count = told.count;
-    ear.message = true;
-    ear
-}
-
-// The limit is reached: silence where the lines are at rest; else given up, by 22 where a byte above 3 came.
-fn at_limit(s: SoFar, taken: usize) -> Ear
-    ensures { result ≡ ear_of (settled_by (end_of s) taken) }
-{
-    if lines::state::is_rest(s) {
-        return none(taken, 0);
-    }
-    if s.fault == 22 {
-        return none(taken, 22);
-    }
-    none(taken, 21)
-}
-
-// Listens up to the sample that settles the try, or to the last.
+// Listens up to the sample that settles the try, or to the last. A turn takes as many samples as the lines do, so no `for` counts them.
 pub(crate) fn listen(p: Pace, begun: SoFar, before: usize, samples: &[u8]) -> Ear
     requires p_value { bad_pace p ≡ false }
     requires ready { Ready begun }
     requires before_bound { before < 2 ^ 32 }
-    ensures { (result ≡ ear_of (listen p begun before samples.now)) × (result.settled ≡ false → before + result.taken < 2 ^ 32) }
+    ensures value { result ≡ ear_of (listen p begun before samples.now) }
+    ensures room { HasRoom before result }
 {
     let mut s = begun;
     let mut i = 0;
@@ -134,14 +130,20 @@ pub(crate) fn listen(p: Pace, begun: SoFar, before: usize, samples: &[u8]) -> Ea
             &samples[i..end],
         );
         i += told.taken;
-        if (told.count != 0) | (told.number != 0) {
-            return closed(told, i);
+        if told.count != 0 || told.number != 0 {
+            return Ear::Closed {
+                told: Told::of(told),
+                taken: i,
+            };
         }
         let left = told.so_far;
         if next_limit(p, left, before + i) <= before + i {
-            return at_limit(left, i);
+            return Ear::Closed {
+                told: Told::at_limit(left),
+                taken: i,
+            };
         }
         s = left;
     }
-    left_open(s, i)
+    Ear::Open { left: s, taken: i }
 }

@@ -1,46 +1,37 @@
-// What the programs print with, on standard output: words, numbers, and bytes as numbers or in hexadecimal; and the part of an array that is printed.
+// What the programs print with: bytes, a fault and a transmitter's settings, each made to stand in a format; and what the programs of the desk share.
 #![tactic(auto)]
 
-use std::io;
+mod desk;
+mod faults;
+mod settings;
 
-pub fn words(rt: &impl Print, text: &[u8]) -> io::Result<()> {
-    rt.write_all(text)
-}
+pub use desk::{BadArgument, Card, Stop, day_argument, end, read_card};
+pub use faults::{FaultNumber, FaultWords};
+pub use settings::{Mode, Parity, Settings, Transmitter};
+use std::fmt;
 
-// The first k bytes, or all where there are fewer.
-pub fn first(s: &[u8], k: usize) -> &[u8] {
-    if k <= s.len() {
-        return &s[..k];
-    }
-    s
-}
+// Bytes as numbers, each after a space.
+#[derive(Clone, Copy)]
+pub struct Numbers<'a>(pub &'a [u8]);
 
-pub fn number(rt: &impl Print, n: u64) -> io::Result<()> {
-    rt.print(n)
-}
-
-fn one(rt: &impl Print, b: u8, decimal: bool) -> io::Result<()> {
-    if decimal {
-        print!(rt; " {b}")
-    } else {
-        print!(rt; " {b:02x}")
+impl fmt::Display for Numbers<'_> {
+    fn fmt<W: fmt::Write>(&self, f: &mut fmt::Formatter<W>) -> fmt::Result {
+        for b in self.0 {
+            write!(f, " {b}")?;
+        }
+        Ok(())
     }
 }
 
-// Each byte after a space.
-fn each(rt: &impl Print, s: &[u8], decimal: bool) -> io::Result<()> {
-    for b in s {
-        one(rt, *b, decimal)?;
+// Bytes in hexadecimal, each after a space. A type of its own, since `{:x}` is for integers alone.
+#[derive(Clone, Copy)]
+pub struct Hex<'a>(pub &'a [u8]);
+
+impl fmt::Display for Hex<'_> {
+    fn fmt<W: fmt::Write>(&self, f: &mut fmt::Formatter<W>) -> fmt::Result {
+        for b in self.0 {
+            write!(f, " {b:02x}")?;
+        }
+        Ok(())
     }
-    Ok(())
-}
-
-// Bytes in hexadecimal.
-pub fn bytes(rt: &impl Print, s: &[u8]) -> io::Result<()> {
-    each(rt, s, false)
-}
-
-// Bytes as numbers.
-pub fn numbers(rt: &impl Print, s: &[u8]) -> io::Result<()> {
-    each(rt, s, true)
 }

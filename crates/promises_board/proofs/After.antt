@@ -7,21 +7,23 @@ use Prim.Native.Nat.{ℕ, ◌<◌, ◌≤◌}
 use native.Mathlib.Omega.{arith}
 use lib.Dec.{eqb, ltb}
 use lib.ListN.{set, drop}
-use borrow.Author.Tests.{lt-ltb, le-ltb, eqb-true}
+use borrow.Author.Tests.{lt-ltb, le-ltb, eqb-true, eqb-false}
 use Rattle.frame.specs.declared.Reading.{Reading}
-use Rattle.frame.specs.declared.Reply.TheVariants.{Read, Refused, Unreadable}
-use Rattle.frame.specs.Faults.{◌gives◌, first_of}
+use Rattle.frame.specs.Faults.{◌gives◌, first_of, number_of, fault}
 use Rattle.frame.specs.Line.{line, formed}
 use Rattle.frame.specs.Pick.{pick}
 use Rattle.frame.specs.Level.{Level, level_of, place_lost}
-use Rattle.frame.specs.declared.Reply.{Reply}
 use Rattle.frame.specs.Reply.{ReadsReply, mode_in, reply_tests, reply_fault, refused_by, reply_of, reading_at}
+use Rattle.frame.proofs.Numbers.{own_number, names-seven, reply-small}
 use Rattle.board.specs.declared.Row.{Row}
 use Rattle.board.specs.Row.{free_row, new_row, with_reading, with_fault, sets_fault, heard_at}
 use Rattle.board.specs.Rows.{place_of, place_free, row_of}
 use Rattle.board.specs.Calls.{enrol_number, fault_by, outside_at, hear_number, hear_place, hear_rows, find_number, looked_at, row_told, refused_look}
 use Rattle.promises_order.proofs.Order.{first_small}
 use Rattle.promises_order.specs.OldBoard.{old_enrol_rows as enrol_rows, old_remove_rows as remove_rows}
+use Rattle.std.specs.Prelude.{Result, Ok, Err}
+use Rattle.frame.specs.declared.faults.Fault.{Fault}
+use Rattle.frame.specs.declared.faults.Fault.TheVariants.{InNoChart}
 
 module _ (board : List Row) (settings address gauge : ℕ) where
   pub enrol-keeps : eqb (enrol_number board settings address gauge) 0 ≡ false → enrol_rows board settings address gauge ≡ board
@@ -94,54 +96,58 @@ module _ (board : List Row) (minute address count : ℕ) (reply : List ℕ) wher
   unfolding hear_rows
   hear-sets e = ap (λ (n : ℕ). pick (eqb n 0) good-rows (pick (sets_fault n) (fault-rows n) board)) e
 
--- What the frame answers: a reading and number 0, or a number that is not 0.
+-- What the frame answers: a reading and number 0, or a number that is not 0, with the place that its fault names.
 module _ (settings address count : ℕ) (reply : List ℕ) where
   abbrev level : Level
   level = level_of (mode_in settings) (line reply)
 
-  -- an answer, by whether there is a fault and whether it is 7
-  abbrev by : Bool → Bool → Reading → ℕ → Reply
-  by t s r n = pick t (Read r) (pick s (Unreadable (place_lost level)) (Refused n))
+  abbrev first : ℕ
+  first = reply_fault settings address count reply
 
-  refused-by : (t s : Bool) (f n : ℕ) (r : Reading) → Refused f ≡ by t s r n → (t ≡ false) × (s ≡ false) × (n ≡ f)
-  refused-by true s f n r e = let z : ◌≡◌ {A = ℕ} 0 1 = cc in absurd (omega arith)
-  refused-by false true f n r e = let z : ◌≡◌ {A = ℕ} 0 1 = cc in absurd (omega arith)
-  refused-by false false f n r e = (refl, refl, cc)
+  -- an answer, by whether there is a fault
+  abbrev by : Bool → Reading → Result Reading Fault
+  by t r = pick t (Ok r) (Err (refused_by level first))
 
-  lost-by : (t s : Bool) (p n : ℕ) (r : Reading) → Unreadable p ≡ by t s r n → (s ≡ true) × (p ≡ place_lost level)
-  lost-by true s p n r e = let z : ◌≡◌ {A = ℕ} 0 1 = cc in absurd (omega arith)
-  lost-by false true p n r e = (refl, cc)
-  lost-by false false p n r e = let z : ◌≡◌ {A = ℕ} 0 1 = cc in absurd (omega arith)
+  refused-by : (t : Bool) (f : Fault) (r : Reading) → Err f ≡ by t r → (t ≡ false) × (f ≡ refused_by level first)
+  refused-by true f r e = cc
+  refused-by false f r e = (refl, cc)
 
-  read-by : (t s : Bool) (n : ℕ) (r got : Reading) → Read got ≡ by t s r n → (t ≡ true) × (got ≡ r)
-  read-by true s n r got e = (refl, cc)
-  read-by false true n r got e = let z : ◌≡◌ {A = ℕ} 0 1 = cc in absurd (omega arith)
-  read-by false false n r got e = let z : ◌≡◌ {A = ℕ} 0 1 = cc in absurd (omega arith)
+  read-by : (t : Bool) (r got : Reading) → Ok got ≡ by t r → (t ≡ true) × (got ≡ r)
+  read-by true r got e = (refl, cc)
+  read-by false r got e = cc
 
-  abbrev fault : ℕ
-  fault = reply_fault settings address count reply
+  -- beside 7 its place, and beside any other number the number alone
+  seven : (s : Bool) (p : ℕ) → eqb first 7 ≡ s → InNoChart p ≡ pick s (InNoChart (place_lost level)) (fault first) → (first ≡ 7) × (p ≡ place_lost level)
+  seven true p v e = (eqb-true first 7 v, cc)
+  seven false p v e = let same : first ≡ 7 = names-seven first p (sym e) in absurd (eqb-false first 7 v same)
 
-  pub refused-is : (f : ℕ) → ReadsReply settings address count reply (Refused f) → (reply_fault settings address count reply ≡ f) × (eqb f 0 ≡ false) × (eqb f 7 ≡ false)
+  -- the number of a refusal is the fault's own
+  numbered : (s : Bool) (f : Fault) → eqb first 7 ≡ s → (first ≡ 0 → ⊥) → first ≤ 38 → f ≡ pick s (InNoChart (place_lost level)) (fault first) → number_of f ≡ first
+  numbered true f v some l e = ap number_of e ∙ sym (eqb-true first 7 v)
+  numbered false f v some l e = ap number_of e ∙ own_number first some l
+
+  pub refused-is : (f : Fault) → ReadsReply settings address count reply (Err f) → (reply_fault settings address count reply ≡ number_of f) × (eqb (number_of f) 0 ≡ false)
   unfolding reply_of
   refused-is f e =
-      let p = refused-by (eqb fault 0) (eqb fault 7) f fault (reading_at settings count (line reply)) e.answers in
-      (p.2, ap (λ (n : ℕ). eqb n 0) (sym p.2) ∙ p.0, ap (λ (n : ℕ). eqb n 7) (sym p.2) ∙ p.1)
+      let p = refused-by (eqb first 0) f (reading_at settings count (line reply)) e.answers in
+      let same : number_of f ≡ first = numbered (eqb first 7) f refl (eqb-false first 0 p.0) (reply-small settings address count reply) p.1 in
+      (sym same, ap (λ (n : ℕ). eqb n 0) same ∙ p.0)
 
-  pub lost-is : (place : ℕ) → ReadsReply settings address count reply (Unreadable place) → (reply_fault settings address count reply ≡ 7) × (place ≡ place_lost (level_of (mode_in settings) (line reply)))
+  pub lost-is : (place : ℕ) → ReadsReply settings address count reply (Err (InNoChart place)) → (reply_fault settings address count reply ≡ 7) × (place ≡ place_lost (level_of (mode_in settings) (line reply)))
   unfolding reply_of
   lost-is place e =
-      let p = lost-by (eqb fault 0) (eqb fault 7) place fault (reading_at settings count (line reply)) e.answers in
-      (eqb-true fault 7 p.0, p.1)
+      let p = refused-by (eqb first 0) (InNoChart place) (reading_at settings count (line reply)) e.answers in
+      seven (eqb first 7) place refl p.1
 
-  pub read_is : (r : Reading) → ReadsReply settings address count reply (Read r) → (reply_fault settings address count reply ≡ 0) × (r ≡ reading_at settings count (line reply))
+  pub read_is : (r : Reading) → ReadsReply settings address count reply (Ok r) → (reply_fault settings address count reply ≡ 0) × (r ≡ reading_at settings count (line reply))
   unfolding reply_of
   read_is r e =
-      let p = read-by (eqb fault 0) (eqb fault 7) fault (reading_at settings count (line reply)) r e.answers in
+      let p = read-by (eqb first 0) (reading_at settings count (line reply)) r e.answers in
       (eqb-true (reply_fault settings address count reply) 0 p.0, p.1)
 
-  pub reads : reply_fault settings address count reply ≡ 0 → ReadsReply settings address count reply (Read (reading_at settings count (line reply)))
+  pub reads : reply_fault settings address count reply ≡ 0 → ReadsReply settings address count reply (Ok (reading_at settings count (line reply)))
   unfolding reply_of
-  reads e = record { answers = sym (ap (λ (n : ℕ). pick (eqb n 0) (Read (reading_at settings count (line reply))) (refused_by level n)) e) }
+  reads e = record { answers = sym (ap (λ (n : ℕ). pick (eqb n 0) (Ok (reading_at settings count (line reply))) (Err (refused_by level n))) e) }
 
   -- settings above 15 are refused by 10; else, of an address up to 999 and a reply in the right form, the number is at most 9
   pub settings-10 : 15 < settings → reply_fault settings address count reply ≡ 10

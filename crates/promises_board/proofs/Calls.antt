@@ -8,10 +8,12 @@ use Prim.Native.Nat.{ℕ, ◌<◌, ◌≤◌}
 use native.Mathlib.Omega.{arith}
 use lib.Dec.{eqb}
 use lib.ListN.{length, take, drop, set}
-use borrow.Author.Tests.{eqb-false, lt-ltb, le-ltb}
+use borrow.Author.Tests.{eqb-false, ne_eqb, lt-ltb, le-ltb}
 use Rattle.frame.specs.declared.Reading.{Reading}
-use Rattle.frame.specs.declared.Reply.TheVariants.{Read, Refused, Unreadable}
-use Rattle.frame.specs.declared.Written.TheVariants.{Bytes, Refused as Refused-write}
+use Rattle.std.specs.Prelude.{Ok, Err}
+use Rattle.frame.specs.declared.faults.Fault.{Fault}
+use Rattle.frame.specs.declared.faults.Fault.TheVariants.{InNoChart}
+use Rattle.frame.specs.Faults.{number_of, verdict}
 use Rattle.frame.specs.Kinds.{is_set}
 use Rattle.frame.specs.Line.{line, first_bytes, formed}
 use Rattle.frame.specs.Pick.{pick}
@@ -26,9 +28,9 @@ use Rattle.board.specs.Row.{with_reading, with_fault, sets_fault, heard_at}
 use Rattle.board.specs.Rows.{board_of, beyond, place_of, row_of}
 use Rattle.board.specs.Calls.{heard_as, outside_at, hear_number, hear_place, row_told, row_poll_bytes}
 use Rattle.promises_order.specs.OldBoard.{OldHears as Hears, OldLooksUp as LooksUp, OldPollsRow as PollsRow}
-use Rattle.board.specs.Inside.ByValue.{may_poll, or_poll}
+use Rattle.board.specs.Inside.ByValue.{may_poll}
 use Rattle.board.proofs.Faults.{sets-by, sets-7, sets-26, not-10, not-11, not-14, not-17}
-use Rattle.board.proofs.Numbers.{hear-11, hear-14, hear-17, read_number, read-refused, read-outside, read-good, hear-read, find-11, find-17, find-0, may-11, may-17, may-by, may-28, may-0, denied, polled}
+use Rattle.board.proofs.Numbers.{hear-11, hear-14, hear-17, read_number, read-refused, read-outside, read-good, hear-read, find-11, find-17, find-0, may-11, may-17, may-by, may-28, may-0, denied, or_poll, polled}
 use Rattle.promises_order.specs.Places.{row_at}
 use Rattle.promises_order.specs.Calls.{today, Call, enrol, hear, remove, look_up, poll, Answer, Does}
 use Rattle.promises_order.proofs.Order.{board-order}
@@ -107,19 +109,21 @@ module _ (rows : List Row) (minute address count : ℕ) (reply : List ℕ) (answ
       (ap (λ (r : Row). with_fault (heard_at r minute) number (hear_place board address count reply)) (row_is rows address i w) ∙ ap (λ (m : ℕ). with_fault (heard_at (row_at rows i) minute) m (hear_place board address count reply)) is ∙ ap (with_fault (heard_at (row_at rows i) minute) n) named) (row_on rows address i w)
       (e.leaves ∙ ap (λ (b : List Row). b ++ beyond rows) (hear-faults (board_of rows) minute address count reply (ap (λ (m : ℕ). eqb m 0) is ∙ z) (ap (λ (m : ℕ). sets_fault m) is ∙ f)))
 
-  hear-faulty : address ≤ 999 → formed count reply ≡ true → (i : ℕ) → IsRowOf rows address i → (row_at rows i).settings ≤ 15 → (fault : ℕ) → ReadsReply (row_at rows i).settings address count reply (Refused fault)
-      → (answer ≡ heard_as fault 0) × (1 ≤ fault) × (fault ≤ 9) × OnlyRow rows i (with_fault (heard_at (row_at rows i) minute) fault 0) after
-  hear-faulty a f i p s fault read =
-      let is = refused-is (row_at rows i).settings address count reply fault read in
-      let same : number ≡ fault = by-frame a f i p fault is.0 is.1 in
-      let most : fault ≤ 9 = subst (λ (n : ℕ). n ≤ 9) is.0 (at-most-9 (row_at rows i).settings address count reply s a f) in
-      let some : 1 ≤ fault = positive fault is.1 in
-      (plain fault is.2 same, some, most, fault-set i p fault 0 same (no_place board minute address count reply (ap (λ (m : ℕ). eqb m 7) same ∙ is.2)) is.1 (sets-by fault some most))
+  hear-faulty : address ≤ 999 → formed count reply ≡ true → (i : ℕ) → IsRowOf rows address i → (row_at rows i).settings ≤ 15 → (f : Fault) → ReadsReply (row_at rows i).settings address count reply (Err f) → (number_of f ≡ 7 → ⊥)
+      → (answer ≡ heard_as (number_of f) 0) × (1 ≤ number_of f) × (number_of f ≤ 9) × OnlyRow rows i (with_fault (heard_at (row_at rows i) minute) (number_of f) 0) after
+  hear-faulty a w i p s f read other =
+      let n = number_of f in
+      let is = refused-is (row_at rows i).settings address count reply f read in
+      let not-seven : eqb n 7 ≡ false = ne_eqb n 7 other in
+      let same : number ≡ n = by-frame a w i p n is.0 is.1 in
+      let most : n ≤ 9 = subst (λ (k : ℕ). k ≤ 9) is.0 (at-most-9 (row_at rows i).settings address count reply s a w) in
+      let some : 1 ≤ n = positive n is.1 in
+      (plain n not-seven same, some, most, fault-set i p n 0 same (no_place board minute address count reply (ap (λ (m : ℕ). eqb m 7) same ∙ not-seven)) is.1 (sets-by n some most))
     where
       positive : (n : ℕ) → eqb n 0 ≡ false → 1 ≤ n
       positive n z = let ne : n ≡ 0 → ⊥ = eqb-false n 0 z in omega arith
 
-  hear-unreadable : address ≤ 999 → formed count reply ≡ true → (i : ℕ) → IsRowOf rows address i → (place : ℕ) → ReadsReply (row_at rows i).settings address count reply (Unreadable place)
+  hear-unreadable : address ≤ 999 → formed count reply ≡ true → (i : ℕ) → IsRowOf rows address i → (place : ℕ) → ReadsReply (row_at rows i).settings address count reply (Err (InNoChart place))
       → (answer ≡ heard_as 7 place) × OnlyRow rows i (with_fault (heard_at (row_at rows i) minute) 7 place) after
   hear-unreadable a f i p place read =
       let is = lost-is (row_at rows i).settings address count reply place read in
@@ -132,13 +136,13 @@ module _ (rows : List Row) (minute address count : ℕ) (reply : List ℕ) (answ
   tested : (i : ℕ) (r : Reading) → r ≡ reading_at (row_at rows i).settings count (line reply) → outside_at (row_at rows i) count reply ≡ outside_by (row_at rows i).settings (row_at rows i).gauge r.temperature
   tested i r e = ap (λ (x : Reading). outside_by (row_at rows i).settings (row_at rows i).gauge x.temperature) (sym e)
 
-  hear-outside : address ≤ 999 → formed count reply ≡ true → (i : ℕ) → IsRowOf rows address i → (r : Reading) → ReadsReply (row_at rows i).settings address count reply (Read r) → OutOfRange (row_at rows i) r.temperature → (answer ≡ heard_as 26 0) × OnlyRow rows i (with_fault (heard_at (row_at rows i) minute) 26 0) after
+  hear-outside : address ≤ 999 → formed count reply ≡ true → (i : ℕ) → IsRowOf rows address i → (r : Reading) → ReadsReply (row_at rows i).settings address count reply (Ok r) → OutOfRange (row_at rows i) r.temperature → (answer ≡ heard_as 26 0) × OnlyRow rows i (with_fault (heard_at (row_at rows i) minute) 26 0) after
   hear-outside a f i p r read out =
       let is = read_is (row_at rows i).settings address count reply r read in
       let same : number ≡ 26 = by_row a f i p ∙ read-outside address count reply (row_at rows i) is.0 (tested i r is.1 ∙ is-out (row_at rows i) r.temperature out) in
       (plain 26 refl same, fault-set i p 26 0 same (no_place board minute address count reply (ap (λ (m : ℕ). eqb m 7) same)) refl sets-26)
 
-  hear-heard : address ≤ 999 → formed count reply ≡ true → (i : ℕ) → IsRowOf rows address i → (r : Reading) → ReadsReply (row_at rows i).settings address count reply (Read r) → (OutOfRange (row_at rows i) r.temperature → ⊥) → (answer ≡ heard_as 0 0) × OnlyRow rows i (with_reading (heard_at (row_at rows i) minute) r minute) after
+  hear-heard : address ≤ 999 → formed count reply ≡ true → (i : ℕ) → IsRowOf rows address i → (r : Reading) → ReadsReply (row_at rows i).settings address count reply (Ok r) → (OutOfRange (row_at rows i) r.temperature → ⊥) → (answer ≡ heard_as 0 0) × OnlyRow rows i (with_reading (heard_at (row_at rows i) minute) r minute) after
   hear-heard a f i p r read within =
       let is = read_is (row_at rows i).settings address count reply r read in
       let zero : number ≡ 0 = by_row a f i p ∙ read-good address count reply (row_at rows i) is.0 (tested i r is.1 ∙ is-in (row_at rows i) r.temperature within) in (
@@ -210,11 +214,11 @@ module _ (rows : List Row) (address raise reset : ℕ) (out : List ℕ) (answer 
       either true = refl
       either false = refl
 
-  writes : address ≤ 999 → (i : ℕ) → IsRowOf rows address i → MayAsk (row_at rows i) raise reset → 2 ≤ length out → (answer ≡ 0) × WritesPoll address (is_set raise) (is_set reset) out (Bytes 2) after
+  writes : address ≤ 999 → (i : ℕ) → IsRowOf rows address i → MayAsk (row_at rows i) raise reset → 2 ≤ length out → (answer ≡ 0) × WritesPoll address (is_set raise) (is_set reset) out (Ok 2) after
   writes a i p m l =
       let w = by_may 0 (granted a i p m) in
       let z : write_poll_fault address out ≡ 0 = write-0 address out a l in
-      (w.0 ∙ z, record { answers = sym (ap (λ (n : ℕ). pick (eqb n 0) (Bytes 2) (Refused-write n)) z); leaves = w.1 })
+      (w.0 ∙ z, record { answers = sym (ap (λ (n : ℕ). verdict n 2) z); leaves = w.1 })
 
   pub poll-promise : PollPromise rows address raise reset out answer after
   poll-promise =
@@ -229,8 +233,8 @@ module _ (rows : List Row) (address raise reset : ℕ) (out : List ℕ) (answer 
             (w.0 ∙ f, w.1 ∙ ap (polled_bytes address raise reset out) f);
         polled = λ a i p m l.
             let w = writes a i p m l in
-            let left : PollLeft (record { address = address; raise = is_set raise; reset = is_set reset }) (take 2 after) = record { out = out; after = after; said = Bytes 2; long_enough = l; call = w.1; first = refl } in
-            let only = only-its-bytes.write-poll address (is_set raise) (is_set reset) out after (Bytes 2) w.1 in (
+            let left : PollLeft (record { address = address; raise = is_set raise; reset = is_set reset }) (take 2 after) = record { out = out; after = after; said = Ok 2; long_enough = l; call = w.1; first = refl } in
+            let only = only-its-bytes.write-poll address (is_set raise) (is_set reset) out after (Ok 2) w.1 in (
               w.0,
               record { answers = sym (poll-then-read (record { address = address; raise = is_set raise; reset = is_set reset }) a (take 2 after) left (poll_of (take 2 after)) (record { answers = refl })).1 },
               only.same_length,

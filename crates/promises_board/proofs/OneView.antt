@@ -23,10 +23,10 @@ use Rattle.board.specs.Row.{free_row, new_row, heard_at, with_reading, with_faul
 use Rattle.board.specs.Rows.{board_of, place_of, place_free, row_of}
 use Rattle.board.specs.Calls.{row_poll_number, row_poll_bytes, heard_as, enrol_number, hear_number, hear_place, find_number, looked_at, row_told, refused_look}
 use Rattle.promises_order.specs.OldBoard.{OldEnrols as Enrols, OldHears as Hears, OldRemoves as Removes, OldPollsRow as PollsRow}
-use Rattle.board.specs.Inside.ByValue.{may_poll, or_poll}
+use Rattle.board.specs.Inside.ByValue.{may_poll}
 use Rattle.board.proofs.Gauges.{profile-told, mark-told}
 use Rattle.board.proofs.Faults.{sets-some}
-use Rattle.board.proofs.Numbers.{enrol-10, enrol-11, enrol-27, enrol-18, enrol-19, enrol-0, hear-11, hear-14, hear-17, read_number, hear-read, find-0, may-11, may-17, may-by, denied, polled}
+use Rattle.board.proofs.Numbers.{enrol-10, enrol-11, enrol-27, enrol-18, enrol-19, enrol-0, hear-11, hear-14, hear-17, read_number, hear-read, find-0, may-11, may-17, may-by, denied, or_poll, polled}
 use Rattle.promises_order.specs.Places.{row_at, OnBoard}
 use Rattle.promises_board.specs.Calls.{Holds, IsRowOf, OnlyRow}
 use Rattle.promises_board.specs.History.{NoneTwice}

@@ -10,10 +10,6 @@ use lib.Dec.{eqb}
 use lib.ListN.{length, take, drop}
 use borrow.Author.Tests.{eqb-true, eqb-false, eq-eqb, ne_eqb, ltb-true, ltb-false, not-false}
 use Rattle.frame.specs.declared.Poll.{Poll}
-use Rattle.frame.specs.declared.PollAnswer.{PollAnswer}
-use Rattle.frame.specs.declared.PollAnswer.TheVariants.{Asked, Refused}
-use Rattle.frame.specs.declared.Written.TheVariants.{Bytes}
-use Rattle.frame.specs.declared.Written.TheVariants as written
 use Rattle.frame.specs.Kinds.{is_set}
 use Rattle.frame.specs.Line.{first_bytes}
 use Rattle.frame.specs.Pick.{pick}
@@ -39,11 +35,14 @@ use Rattle.promises_board.proofs.Calls.{poll-promise}
 use Rattle.promises_board.proofs.Done.{set-only, Enrolled, not-enrolled, took, enrol-done, Removed, not_removed, gave, remove-done, HearDone, not-heard, faulty, good, hear-done}
 use Rattle.promises_board.proofs.Orders.{poll_rest, poll-asks}
 use Rattle.promises_board.proofs.Readings.{still, board-readings}
+use Rattle.std.specs.Prelude.{Result, Ok, Err}
+use Rattle.frame.specs.declared.faults.Fault.{Fault}
+use Rattle.frame.specs.Faults.{fault}
 
 -- the poll in an answer
-abbrev poll_in : Poll → PollAnswer → Poll
-poll_in p (Asked q) = q
-poll_in p (Refused n) = p
+abbrev poll_in : Poll → Result Poll Fault → Poll
+poll_in p (Ok q) = q
+poll_in p (Err f) = p
 
 -- A poll that was written.
 module _ (rows : List Row) (address raise reset : ℕ) (out after : List ℕ) (e : PollsRow rows address raise reset out 0 after) where
@@ -69,12 +68,12 @@ module _ (rows : List Row) (address raise reset : ℕ) (out after : List ℕ) (e
   unfolding write_poll_fault
   write-0 = simp (clear.0, clear.1.1.1.0)
 
-  writes : WritesPoll address (is_set raise) (is_set reset) out (Bytes 2) after
+  writes : WritesPoll address (is_set raise) (is_set reset) out (Ok 2) after
   unfolding row_poll_bytes
   writes =
       let z = write-0 in
       record {
-        answers = sym (ap (λ (n : ℕ). pick (eqb n 0) (Bytes 2) (written.Refused n)) z);
+        answers = sym (ap (λ (n : ℕ). pick (eqb n 0) (Ok 2) (Err (fault n))) z);
         leaves = e.leaves ∙ ap (λ (n : ℕ). pick (eqb n 0) (first_bytes 2 (poll_line address (is_set raise) (is_set reset)) ++ drop 2 out) out) (sym e.answers ∙ sym z);
       }
 
@@ -82,17 +81,17 @@ module _ (rows : List Row) (address raise reset : ℕ) (out after : List ℕ) (e
   asked = record { address = address; raise = is_set raise; reset = is_set reset }
 
   -- what is read was asked
-  same : (p : Poll) → ReadsPoll (take 2 after) (Asked p) → p ≡ asked
-  same p reads = ap (poll_in asked) (poll-then-read asked in-range (take 2 after) (record { out = out; after = after; said = Bytes 2; long_enough = long; call = writes; first = refl }) (Asked p) reads).1
+  same : (p : Poll) → ReadsPoll (take 2 after) (Ok p) → p ≡ asked
+  same p reads = ap (poll_in asked) (poll-then-read asked in-range (take 2 after) (record { out = out; after = after; said = Ok 2; long_enough = long; call = writes; first = refl }) (Ok p) reads).1
 
-  not-both : (p : Poll) → ReadsPoll (take 2 after) (Asked p) → p.raise ≡ true → p.reset ≡ true → ⊥
+  not-both : (p : Poll) → ReadsPoll (take 2 after) (Ok p) → p.raise ≡ true → p.reset ≡ true → ⊥
   not-both p reads r s =
       let q = same p reads in
       let a : is_set raise ≡ true = sym (ap (λ (x : Poll). x.raise) q) ∙ r in
       let b : is_set reset ≡ true = sym (ap (λ (x : Poll). x.reset) q) ∙ s in
       differs (ap (λ (t : Bool). t && is_set reset) a ∙ b) refusals.1
 
-  marked : (p : Poll) → ReadsPoll (take 2 after) (Asked p) → (p.raise || p.reset) ≡ true → Marked rows address
+  marked : (p : Poll) → ReadsPoll (take 2 after) (Ok p) → (p.raise || p.reset) ≡ true → Marked rows address
   marked p reads r =
       record {
         at = place_of address (board_of rows);

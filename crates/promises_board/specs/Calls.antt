@@ -2,9 +2,7 @@
 -- stays. The cases are those of document 01 in its order, and they leave no input out; rows not so kept are refused by 38 before them
 -- (`promises_order/specs/Order.antt`). Places are said here by what stands in the rows and not by a search.
 use Rattle.std.specs.Prelude.{◌≡◌, true, false, ◌||◌, List, ℕ, ◌<◌, ◌≤◌, length, take, get_or}
-use Rattle.frame.specs.declared.PollAnswer.TheVariants.{Asked}
 use Rattle.frame.specs.declared.Reading.{Reading}
-use Rattle.frame.specs.declared.Reply.TheVariants.{Read, Refused, Unreadable}
 use Rattle.frame.specs.declared.Temperature.{Temperature}
 use Rattle.frame.specs.Kinds.{is_set}
 use Rattle.frame.specs.Line.{formed}
@@ -22,6 +20,10 @@ use Rattle.promises_order.specs.Places.{row_at, OnBoard}
 use Rattle.promises_order.specs.Calls.{today, Call, Answer, Does}
 use Rattle.promises_order.specs.Order.{SoKept, Front, IsPlaceFor, Inserted, Closed}
 use Rattle.promises_board.specs.Profiles.{OutOfRange, Checked}
+use Rattle.std.specs.Prelude.{Ok, Err}
+use Rattle.frame.specs.declared.faults.Fault.TheVariants.{InNoChart}
+use Rattle.frame.specs.Faults.{number_of}
+use Rattle.frame.specs.declared.faults.Fault.{Fault}
 
 -- A row in use holds this address.
 pub record Holds (row : Row) (address : ℕ) : Type 0 where
@@ -90,16 +92,17 @@ pub record HearPromise (rows : List Row) (minute address count : ℕ) (reply : L
   pub bad_settings : address ≤ 999 → formed count reply ≡ true → (i : ℕ) → IsRowOf rows address i → 15 < (row_at rows i).settings
       → (answer ≡ heard_as 10 0) × (after ≡ rows)
   pub faulty : address ≤ 999 → formed count reply ≡ true → (i : ℕ) → IsRowOf rows address i → (row_at rows i).settings ≤ 15
-      → (fault : ℕ) → ReadsReply (row_at rows i).settings address count reply (Refused fault)
-      → (answer ≡ heard_as fault 0) × (1 ≤ fault) × (fault ≤ 9) × OnlyRow rows i (with_fault (heard_at (row_at rows i) minute) fault 0) after
+      → (f : Fault) → ReadsReply (row_at rows i).settings address count reply (Err f) → (number_of f ≡ 7 → ⊥)
+      → (answer ≡ heard_as (number_of f) 0) × (1 ≤ number_of f) × (number_of f ≤ 9)
+      × OnlyRow rows i (with_fault (heard_at (row_at rows i) minute) (number_of f) 0) after
   pub unreadable : address ≤ 999 → formed count reply ≡ true → (i : ℕ) → IsRowOf rows address i
-      → (place : ℕ) → ReadsReply (row_at rows i).settings address count reply (Unreadable place)
+      → (place : ℕ) → ReadsReply (row_at rows i).settings address count reply (Err (InNoChart place))
       → (answer ≡ heard_as 7 place) × OnlyRow rows i (with_fault (heard_at (row_at rows i) minute) 7 place) after
   pub outside : address ≤ 999 → formed count reply ≡ true → (i : ℕ) → IsRowOf rows address i
-      → (r : Reading) → ReadsReply (row_at rows i).settings address count reply (Read r) → OutOfRange (row_at rows i) r.temperature
+      → (r : Reading) → ReadsReply (row_at rows i).settings address count reply (Ok r) → OutOfRange (row_at rows i) r.temperature
       → (answer ≡ heard_as 26 0) × OnlyRow rows i (with_fault (heard_at (row_at rows i) minute) 26 0) after
   pub heard : address ≤ 999 → formed count reply ≡ true → (i : ℕ) → IsRowOf rows address i
-      → (r : Reading) → ReadsReply (row_at rows i).settings address count reply (Read r) → (OutOfRange (row_at rows i) r.temperature → ⊥)
+      → (r : Reading) → ReadsReply (row_at rows i).settings address count reply (Ok r) → (OutOfRange (row_at rows i) r.temperature → ⊥)
       → (answer ≡ heard_as 0 0) × OnlyRow rows i (with_reading (heard_at (row_at rows i) minute) r minute) after
 
 -- Removing: 11, 17, and no row changes; or 0, and of the n rows in use those behind the row move up by one, and the last of their places is all zeros.
@@ -144,7 +147,7 @@ pub record PollPromise (rows : List Row) (address raise reset : ℕ) (out : List
   pub both : address ≤ 999 → (i : ℕ) → IsRowOf rows address i → is_set raise ≡ true → is_set reset ≡ true → (answer ≡ 28) × (after ≡ out)
   pub short : address ≤ 999 → (i : ℕ) → IsRowOf rows address i → MayAsk (row_at rows i) raise reset → length out < 2 → (answer ≡ 15) × (after ≡ out)
   pub polled : address ≤ 999 → (i : ℕ) → IsRowOf rows address i → MayAsk (row_at rows i) raise reset → 2 ≤ length out
-      → (answer ≡ 0) × ReadsPoll (take 2 after) (Asked (record { address = address; raise = is_set raise; reset = is_set reset }))
+      → (answer ≡ 0) × ReadsPoll (take 2 after) (Ok (record { address = address; raise = is_set raise; reset = is_set reset }))
       × (length after ≡ length out) × ((k : ℕ) → 2 ≤ k → get_or after k 0 ≡ get_or out k 0) × (bit_at (take 2 after) 2 ≡ 0)
 
 -- Whatever a contract allows keeps these promises, and it allows one outcome.

@@ -1,7 +1,6 @@
 -- Document 02, request 10: a row's poll. Said by the bits that stand in the output, of one call and after any calls.
 use Rattle.std.specs.Prelude.{◌≡◌, true, ◌&&◌, ◌||◌, List, ℕ, eqb, take}
 use Rattle.frame.specs.declared.Poll.{Poll}
-use Rattle.frame.specs.declared.PollAnswer.TheVariants.{Asked}
 use Rattle.frame.specs.Kinds.{is_set}
 use Rattle.frame.specs.Pick.{pick}
 use Rattle.frame.specs.Poll.{ReadsPoll}
@@ -12,6 +11,7 @@ use Rattle.promises_order.specs.Places.{row_at, Empty}
 use Rattle.promises_board.specs.Calls.{IsRowOf}
 use Rattle.promises_order.specs.Calls.{Records, Call, enrol, hear, remove, look_up, poll, Answer}
 use Rattle.promises_board.specs.History.{History, begun, called}
+use Rattle.std.specs.Prelude.{Ok}
 
 -- The address has a row, which is marked as a 6500.
 pub record Marked (rows : List Row) (address : ℕ) : Type 0 where
@@ -34,14 +34,14 @@ gauge_given (called c answer h e) address = gauge_by c answer address (gauge_giv
 pub record BoardPoll (calls : Records) : Type 0 where
   -- What is written is a poll of the address that was asked for, never with both bits set, and with one of them only to a marked row.
   pub its_address : (rows : List Row) (address raise reset : ℕ) (out after : List ℕ) (p : Poll) → calls.polls_row rows address raise reset out 0 after
-      → ReadsPoll (take 2 after) (Asked p) → p.address ≡ address
+      → ReadsPoll (take 2 after) (Ok p) → p.address ≡ address
   pub never_both : (rows : List Row) (address raise reset : ℕ) (out after : List ℕ) (p : Poll) → calls.polls_row rows address raise reset out 0 after
-      → ReadsPoll (take 2 after) (Asked p) → p.raise ≡ true → p.reset ≡ true → ⊥
+      → ReadsPoll (take 2 after) (Ok p) → p.raise ≡ true → p.reset ≡ true → ⊥
   pub only_marked : (rows : List Row) (address raise reset : ℕ) (out after : List ℕ) (p : Poll) → calls.polls_row rows address raise reset out 0 after
-      → ReadsPoll (take 2 after) (Asked p) → (p.raise || p.reset) ≡ true → Marked rows address
+      → ReadsPoll (take 2 after) (Ok p) → (p.raise || p.reset) ≡ true → Marked rows address
   -- No calls of a board begun empty make a poll raise or reset an address that was not enrolled with the mark.
   pub as-enrolled : (start rows : List Row) → Empty start → (h : History calls start rows) (address raise reset : ℕ) (out after : List ℕ) (p : Poll)
-      → calls.polls_row rows address raise reset out 0 after → ReadsPoll (take 2 after) (Asked p) → (p.raise || p.reset) ≡ true
+      → calls.polls_row rows address raise reset out 0 after → ReadsPoll (take 2 after) (Ok p) → (p.raise || p.reset) ≡ true
       → is6500 (gauge_given h address) ≡ true
   -- Removing clears profile and mark: enrolled again with gauge 0, a look tells gauge 0, and raise or reset is refused by 28.
   pub cleared : (rows one two : List Row) (settings address : ℕ) (told : Looked) → calls.removes rows address 0 one → calls.enrols one settings address 0 0 two

@@ -2,7 +2,6 @@
 -- calls.
 use Rattle.std.specs.Prelude.{◌≡◌, true, List, ℕ}
 use Rattle.frame.specs.declared.Reading.{Reading}
-use Rattle.frame.specs.declared.Reply.TheVariants.{Read}
 use Rattle.frame.specs.Reply.{ReadsReply}
 use Rattle.board.specs.declared.Heard.{Heard}
 use Rattle.board.specs.declared.Looked.{Looked}
@@ -11,11 +10,12 @@ use Rattle.board.specs.Gauge.{gauge_told}
 use Rattle.board.specs.Row.{none, good, never, at, more, sets_fault}
 use Rattle.board.specs.Calls.{heard_as, last_told, minute_told}
 use Rattle.promises_order.specs.Calls.{Records}
+use Rattle.std.specs.Prelude.{Ok}
 
 -- A reading that the frame makes of this reply, by these settings, for this address.
 pub record Reads (settings address count : ℕ) (reply : List ℕ) : Type 0 where
   pub reading : Reading
-  pub accepted : ReadsReply settings address count reply (Read reading)
+  pub accepted : ReadsReply settings address count reply (Ok reading)
 
 pub record BoardReadings (calls : Records) : Type 0 where
   -- A hearing that answered 0, then a look: the reading of that reply, by the row's settings, with its minute, fault 0, no faulty

@@ -9,14 +9,10 @@ use borrow.Author.Tests.{ltb-false}
 use lib.Dec.{eqb, ltb}
 use lib.ListN.{length, drop}
 use Rattle.frame.specs.declared.Poll.{Poll}
-use Rattle.frame.specs.declared.PollAnswer.{PollAnswer}
-use Rattle.frame.specs.declared.PollAnswer.TheVariants.{Asked}
-use Rattle.frame.specs.declared.Written.TheVariants.{Bytes}
-use Rattle.frame.specs.declared.Written.TheVariants as written_as
 use Rattle.frame.specs.Kinds.{is_set}
 use Rattle.frame.specs.Line.{first_bytes}
 use Rattle.frame.specs.Pick.{pick}
-use Rattle.frame.specs.Faults.{first_of}
+use Rattle.frame.specs.Faults.{first_of, fault}
 use Rattle.frame.specs.Poll.{ReadsPoll, WritesPoll, write_poll_fault, poll_line}
 use Rattle.board.specs.declared.Row.{Row}
 use Rattle.board.specs.Gauge.{unmarked, at_once}
@@ -26,6 +22,8 @@ use Rattle.board.specs.Calls.{row_poll_number, row_poll_bytes, PollsRow}
 use Rattle.promises_frame.proofs.Polls.{poll-then-read}
 use Rattle.promises_drawing.specs.Wire.{PollBytes, written, of_a_row, PollOnTheWire}
 use Rattle.promises_drawing.proofs.Heard.{drawn-and-heard}
+use Rattle.std.specs.Prelude.{Result, Ok, Err}
+use Rattle.frame.specs.declared.faults.Fault.{Fault}
 
 -- Five tests of which none gave its number, and the board's order before them.
 clear : (k a b c d e : Bool) → ◌≡◌ {A = ℕ} 0 (pick k (pick a 11 (pick b 17 (pick c 28 (pick d 28 (pick e 15 0))))) 38)
@@ -59,11 +57,11 @@ module _ (rows : List Row) (address raise reset : ℕ) (out after : List ℕ) (c
   unfolding write_poll_fault first_of
   write-0 = ap₂ (λ (x y : Bool). pick x 11 (pick y 15 0)) tests.1 tests.2
 
-  pub row-writes : WritesPoll address (is_set raise) (is_set reset) out (Bytes 2) after
+  pub row-writes : WritesPoll address (is_set raise) (is_set reset) out (Ok 2) after
   row-writes =
       let whole : List ℕ = first_bytes 2 (poll_line address (is_set raise) (is_set reset)) ++ drop 2 out in
       record {
-        answers = sym (ap (λ (n : ℕ). pick (eqb n 0) (Bytes 2) (written_as.Refused n)) write-0);
+        answers = sym (ap (λ (n : ℕ). pick (eqb n 0) (Ok 2) (Err (fault n))) write-0);
         leaves = left ∙ sym (ap (λ (n : ℕ). pick (eqb n 0) whole out) write-0);
       }
 
@@ -71,7 +69,7 @@ module _ (rows : List Row) (address raise reset : ℕ) (out after : List ℕ) (c
   in-range = (ltb-false 999 address tests.1, ltb-false (length out) 2 tests.2)
 
 -- The bytes of a poll read as that poll.
-reads-back : (p : Poll) (bytes : List ℕ) → PollBytes p bytes → (got : PollAnswer) → ReadsPoll bytes got → got ≡ Asked p
+reads-back : (p : Poll) (bytes : List ℕ) → PollBytes p bytes → (got : Result Poll Fault) → ReadsPoll bytes got → got ≡ Ok p
 reads-back p bytes (written h left) got r = (poll-then-read p h bytes left got r).1
 reads-back p bytes (of_a_row rows raise reset out after c e f first) got r =
     let in-r = in-range rows p.address raise reset out after c in
@@ -79,11 +77,11 @@ reads-back p bytes (of_a_row rows raise reset out after c e f first) got r =
     (record {
       out = out;
       after = after;
-      said = Bytes 2;
+      said = Ok 2;
       long_enough = in-r.1;
       call =
-          subst (λ (b : Bool). WritesPoll p.address b p.reset out (Bytes 2) after) (sym e)
-          (subst (λ (b : Bool). WritesPoll p.address (is_set raise) b out (Bytes 2) after) (sym f) (row-writes rows p.address raise reset out after c));
+          subst (λ (b : Bool). WritesPoll p.address b p.reset out (Ok 2) after) (sym e)
+          (subst (λ (b : Bool). WritesPoll p.address (is_set raise) b out (Ok 2) after) (sym f) (row-writes rows p.address raise reset out after c));
       first = first;
     })
     got r).1

@@ -1,8 +1,6 @@
 -- A poll on the wire: the 2 bytes of a poll, drawn and heard again, read as a poll of that address with that raise and reset.
 use Rattle.std.specs.Prelude.{◌≡◌, List, [], ◌++◌, ℕ, ◌≤◌, take, replicate}
 use Rattle.frame.specs.declared.Poll.{Poll}
-use Rattle.frame.specs.declared.PollAnswer.{PollAnswer}
-use Rattle.frame.specs.declared.PollAnswer.TheVariants.{Asked}
 use Rattle.frame.specs.Kinds.{is_set}
 use Rattle.frame.specs.Poll.{ReadsPoll}
 use Rattle.board.specs.declared.Row.{Row}
@@ -16,6 +14,8 @@ use Rattle.promises_frame.specs.Calls.{PollLeft}
 use Rattle.promises_lines.specs.History.{tellings, History}
 use Rattle.promises_lines.specs.Form.{bytes_in}
 use Rattle.promises_drawing.specs.Heard.{Spoken}
+use Rattle.std.specs.Prelude.{Result, Ok}
+use Rattle.frame.specs.declared.faults.Fault.{Fault}
 
 -- The 2 bytes that `write_poll` left first in an output that was long enough, or that `sisal_board_poll` left there where it answered 0.
 pub data PollBytes (p : Poll) (bytes : List ℕ) : Type 0 where
@@ -28,4 +28,4 @@ pub record PollOnTheWire : Type 0 where
       → (earlier batch rest : List ℕ) (s : SoFar) (a : LinesTold) → History t rest_state earlier [] s
       → HearsLines s t.least t.most t.gap batch a → (tellings a ≡ [] → ⊥)
       → earlier ++ take a.taken batch ++ rest ≡ sent ++ replicate t.gap 0
-      → (got : PollAnswer) → ReadsPoll (bytes_in a) got → got ≡ Asked p
+      → (got : Result Poll Fault) → ReadsPoll (bytes_in a) got → got ≡ Ok p

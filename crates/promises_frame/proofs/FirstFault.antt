@@ -3,25 +3,22 @@
 use mathlib.Core.Path.{◌≡◌, refl, sym, ap, subst, ◌∙◌}
 use mathlib.Core.Bool.{Bool, true, false, not, ◌||◌}
 use mathlib.Core.List.{List, [], ◌∷◌}
-use Prim.Native.Nat.{ℕ, zero, suc, ◌<◌}
+use Prim.Native.Nat.{ℕ, zero, suc, ◌<◌, ◌≤◌}
 use native.Mathlib.Omega.{arith}
 use lib.Dec.{eqb}
-use borrow.Author.Tests.{eqb-true}
+use borrow.Author.Tests.{eqb-true, eqb-false}
 use lib.ListN.{length, get_or}
-use Rattle.frame.specs.declared.Reply.TheVariants.{Read, Refused, Unreadable}
 use Rattle.frame.specs.declared.Reading.{Reading}
-use Rattle.frame.specs.declared.PollAnswer.TheVariants.{Asked}
-use Rattle.frame.specs.declared.PollAnswer.TheVariants as polled
-use Rattle.frame.specs.declared.Written.TheVariants.{Bytes}
-use Rattle.frame.specs.declared.Written.TheVariants as written
 use Rattle.frame.specs.Pick.{pick}
 use Rattle.frame.specs.Line.{line, bit, three_decimal}
-use Rattle.frame.specs.Faults.{Test, ◌gives◌, first_of}
+use Rattle.frame.specs.Faults.{Test, ◌gives◌, first_of, number_of, fault}
 use Rattle.frame.specs.Poll.{poll_fault, poll_at, poll_of, write_poll_fault, poll_number, written_number}
 use Rattle.frame.specs.Level.{Level, level_of, place_lost}
-use Rattle.frame.specs.Reply.{mode_in, refused_by, reply_fault, reading_at, reply_of, write_reply_fault, size_for, reply_number}
-use Rattle.frame.proofs.Answers.{number_is}
+use Rattle.frame.specs.Reply.{mode_in, refused_by, reply_fault, reply_tests, reading_at, reply_of, write_reply_fault, size_for, reply_number}
+use Rattle.frame.proofs.Numbers.{own_number, verdict_number, reply-small, write-small, poll-small, write-poll-small}
 use Rattle.promises_frame.specs.FirstFault.{applies, FirstThatApplies, reply_table, reply_order, write_table, poll_table, FirstFault}
+use Rattle.std.specs.Prelude.{Ok, Err}
+use Rattle.frame.specs.declared.faults.Fault.TheVariants.{InNoChart}
 
 -- The tests of a table in an order.
 abbrev pub asked : List Test → List ℕ → List Test
@@ -121,24 +118,31 @@ pub given : (table : List Test) (order : List ℕ) (number : ℕ) → number ≡
 given table order number e = subst (FirstThatApplies table order) (sym e) (is-first table order)
 
 -- a refusal of a reply has its number, with a place or without
-refusal-number : (l : Level) (f : ℕ) → reply_number (refused_by l f) ≡ f
-refusal-number l f = go (eqb f 7) refl
+refusal-number : (l : Level) (f : ℕ) → (f ≡ 0 → ⊥) → f ≤ 38 → number_of (refused_by l f) ≡ f
+refusal-number l f some small = go (eqb f 7) refl
   where
-    go : (t : Bool) → eqb f 7 ≡ t → reply_number (pick t (Unreadable (place_lost l)) (Refused f)) ≡ f
+    go : (t : Bool) → eqb f 7 ≡ t → number_of (pick t (InNoChart (place_lost l)) (fault f)) ≡ f
     go true e = sym (eqb-true f 7 e)
-    go false e = refl
+    go false e = own_number f some small
+
+reply-number-is : (l : Level) (r : Reading) (f : ℕ) → f ≤ 38 → reply_number (pick (eqb f 0) (Ok r) (Err (refused_by l f))) ≡ f
+reply-number-is l r f small = go (eqb f 0) refl
+  where
+    go : (t : Bool) → eqb f 0 ≡ t → reply_number (pick t (Ok r) (Err (refused_by l f))) ≡ f
+    go true e = sym (eqb-true f 0 e)
+    go false e = refusal-number l f (eqb-false f 0 e) small
 
 pub first-fault : FirstFault
 unfolding reply_of poll_of
 first-fault =
     record {
       read-reply = λ settings address count s got h. given (reply_table settings address count s) reply_order (reply_number got)
-          (ap reply_number h.answers ∙ number_is (Read (reading_at settings count (line s))) (refused_by (level_of (mode_in settings) (line s))) reply_number refl (refusal-number (level_of (mode_in settings) (line s))) (reply_fault settings address count s) ∙ reply-asks settings address count s);
+          (ap reply_number h.answers ∙ reply-number-is (level_of (mode_in settings) (line s)) (reading_at settings count (line s)) (reply_fault settings address count s) (reply-small settings address count s) ∙ reply-asks settings address count s);
       write-reply = λ settings address r out after said h. given (write_table settings address (size_for r) out) (10 ∷ 11 ∷ 15 ∷ []) (written_number said)
-          (ap written_number h.answers ∙ number_is (Bytes (size_for r)) written.Refused written_number refl (λ f. refl) (write_reply_fault settings address r out) ∙ write-asks settings address r out);
+          (ap written_number h.answers ∙ verdict_number written_number (λ _. refl) (λ _. refl) (write_reply_fault settings address r out) (size_for r) (write-small settings address r out) ∙ write-asks settings address r out);
       read-poll = λ s got h. given (poll_table s) (16 ∷ []) (poll_number got)
-          (ap poll_number h.answers ∙ number_is (Asked (poll_at (line s))) polled.Refused poll_number refl (λ f. refl) (poll_fault s) ∙ poll-asks s);
+          (ap poll_number h.answers ∙ verdict_number poll_number (λ _. refl) (λ _. refl) (poll_fault s) (poll_at (line s)) (poll-small s) ∙ poll-asks s);
       write-poll = λ address raise reset out after said h. given (write_table 0 address 2 out) (11 ∷ 15 ∷ []) (written_number said)
-          (ap written_number h.answers ∙ number_is (Bytes 2) written.Refused written_number refl (λ f. refl) (write_poll_fault address out) ∙ write-poll-asks address out);
+          (ap written_number h.answers ∙ verdict_number written_number (λ _. refl) (λ _. refl) (write_poll_fault address out) 2 (write-poll-small address out) ∙ write-poll-asks address out);
       one_number = one_number;
     }

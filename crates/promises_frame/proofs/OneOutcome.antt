@@ -2,10 +2,11 @@
 use mathlib.Core.Path.{◌≡◌, refl, sym, ◌∙◌}
 use mathlib.Core.List.{List}
 use Prim.Native.Nat.{ℕ}
-use Rattle.frame.specs.declared.Written.{Written}
 use Rattle.promises_frame.specs.OneOutcome.{OneOutcome}
+use Rattle.std.specs.Prelude.{Result}
+use Rattle.frame.specs.declared.faults.Fault.{Fault}
 
-pub pair : (a b : Written × List ℕ) → a.0 ≡ b.0 → a.1 ≡ b.1 → a ≡ b
+pub pair : (a b : (Result ℕ Fault) × List ℕ) → a.0 ≡ b.0 → a.1 ≡ b.1 → a ≡ b
 pair a b e f = λ i. (e i, f i)
 
 pub one-outcome : OneOutcome

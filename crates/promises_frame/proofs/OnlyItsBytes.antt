@@ -8,8 +8,6 @@ use lib.Dec.{eqb}
 use lib.ListN.{length, get_or, drop, length-append, length-drop}
 use lib.Seq.{get_or-append-add, get_or-drop}
 use borrow.Author.Tests.{eqb-true, ltb-false}
-use Rattle.frame.specs.declared.Written.{Written}
-use Rattle.frame.specs.declared.Written.TheVariants.{Bytes, Refused}
 use Rattle.frame.specs.Pick.{pick}
 use Rattle.frame.specs.Line.{first_bytes}
 use Rattle.frame.specs.Temperature.{is_absent}
@@ -20,6 +18,9 @@ use Rattle.promises_frame.specs.OnlyItsBytes.{OnlyFirst, OnlyItsBytes}
 use Rattle.promises_frame.proofs.Lines.{length-first_bytes}
 use Rattle.promises_frame.proofs.FirstFault.{all-clear, write-asks, write-poll-asks}
 use Rattle.promises_frame.proofs.ReplyHeard.{size_small}
+use Rattle.std.specs.Prelude.{Result, Ok, Err}
+use Rattle.frame.specs.declared.faults.Fault.{Fault}
+use Rattle.frame.specs.Faults.{fault}
 
 -- The rest of a list behind a new beginning of the same size.
 length-first : (size : ℕ) (a out : List ℕ) → length a ≡ size → size ≤ length out → length (a ++ drop size out) ≡ length out
@@ -34,12 +35,12 @@ behind-first size a out e i h =
 
 -- Any write of the first bytes of a line n that answers a fault f, or 0 only where there is room.
 only-first : (size n f : ℕ) (out : List ℕ) → size ≤ 8 → (f ≡ 0 → size ≤ length out)
-    → (said : Written) → said ≡ pick (eqb f 0) (Bytes size) (Refused f)
+    → (said : Result ℕ Fault) → said ≡ pick (eqb f 0) (Ok size) (Err (fault f))
     → (after : List ℕ) → after ≡ pick (eqb f 0) (first_bytes size n ++ drop size out) out
     → OnlyFirst size said out after
 only-first size n f out small room said = go (eqb f 0) refl
   where
-    go : (b : Bool) → eqb f 0 ≡ b → said ≡ pick b (Bytes size) (Refused f)
+    go : (b : Bool) → eqb f 0 ≡ b → said ≡ pick b (Ok size) (Err (fault f))
         → (after : List ℕ) → after ≡ pick b (first_bytes size n ++ drop size out) out → OnlyFirst size said out after
     go true e answer after is =
         let l : length (first_bytes size n) ≡ size = length-first_bytes size n small in

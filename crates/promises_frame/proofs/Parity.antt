@@ -7,7 +7,6 @@ use native.Mathlib.Nat.{mod-lt}
 use lib.Dec.{eqb, lit<}
 use lib.ListN.{length, get_or}
 use Rattle.frame.specs.declared.Reading.{Reading}
-use Rattle.frame.specs.declared.Reply.TheVariants.{Read}
 use Rattle.frame.specs.Pick.{pick}
 use Rattle.frame.specs.Line.{line, marks, first_bytes}
 use Rattle.frame.specs.Temperature.{is_absent}
@@ -23,6 +22,7 @@ use Rattle.promises_frame.proofs.ReplySent.{sent}
 use Rattle.promises_frame.proofs.ReplyHeard.{size_small}
 use Rattle.promises_frame.proofs.ReplyAccepted.{accepted, read-if}
 use Rattle.promises_frame.proofs.WrittenThenRead.{left-first}
+use Rattle.std.specs.Prelude.{Ok}
 
 eight-times : (short : Bool) → 8 * pick short 5 7 ≡ pick short 40 56
 eight-times true = refl
@@ -41,7 +41,7 @@ written settings address r hs ha bytes left =
     ∙ ap (λ (k : ℕ). k % 2) (sym all) ∙ (sent settings address r ha).parity
 
 -- The marks of an accepted reply.
-right : (settings address count : ℕ) (s : List ℕ) → AreBytes s → (r : Reading) → ReadsReply settings address count s (Read r)
+right : (settings address count : ℕ) (s : List ℕ) → AreBytes s → (r : Reading) → ReadsReply settings address count s (Ok r)
     → marks_among s count % 2 ≡ odd_parity settings
 unfolding reply_of
 right settings address count s ok r reads =
@@ -53,8 +53,8 @@ right settings address count s ok r reads =
     ∙ ap (marks_among s) (ap (λ (k : ℕ). 8 * k) size ∙ eight-times (eqb count 40) ∙ sym a.0) in
     ap (λ (k : ℕ). k % 2) (sym all) ∙ a.1.parity
 
-one-wrong : (settings address count : ℕ) (s t : List ℕ) → AreBytes s → AreBytes t → (r : Reading) → ReadsReply settings address count s (Read r)
-    → (j : ℕ) → OneWrong s t count j → (q : Reading) → ¬ ReadsReply settings address count t (Read q)
+one-wrong : (settings address count : ℕ) (s t : List ℕ) → AreBytes s → AreBytes t → (r : Reading) → ReadsReply settings address count s (Ok r)
+    → (j : ℕ) → OneWrong s t count j → (q : Reading) → ¬ ReadsReply settings address count t (Ok q)
 one-wrong settings address count s t os ot r reads j one q again =
     one.wrong
     (last_bit (marks_among t count) (marks_among s count) (bit_at t j) (bit_at s j) (odd_parity settings)

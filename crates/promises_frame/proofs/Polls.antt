@@ -9,12 +9,9 @@ use lib.ListN.{length, take, drop}
 use lib.Seq.{take_at}
 use borrow.Author.Tests.{le-ltb, eqb-true, not-false}
 use Rattle.frame.specs.declared.Poll.{Poll}
-use Rattle.frame.specs.declared.PollAnswer.{PollAnswer}
-use Rattle.frame.specs.declared.PollAnswer.TheVariants.{Asked, Refused}
-use Rattle.frame.specs.declared.Written.TheVariants.{Bytes}
 use Rattle.frame.specs.Pick.{pick}
 use Rattle.frame.specs.Line.{line, field, bit, put, mark, first_bytes, three_digits, three_decimal}
-use Rattle.frame.specs.Faults.{first_of}
+use Rattle.frame.specs.Faults.{first_of, fault}
 use Rattle.frame.specs.Poll.{poll_fault, poll_at, poll_of, poll_line, write_poll_fault, ReadsPoll}
 use Rattle.promises_frame.specs.Bits.{AreBytes}
 use Rattle.promises_frame.specs.WrittenAgain.{SamePoll}
@@ -24,6 +21,8 @@ use Rattle.promises_frame.proofs.Fields.{same-within}
 use Rattle.promises_frame.proofs.Digits.{mark-lt, mark-1, bit-lt, mark-bit, three, reads_three, three-small, same_digits}
 use Rattle.promises_frame.proofs.Bytes.{bits-written, bit-line}
 use Rattle.promises_frame.proofs.Lines.{length-first_bytes, line-first_bytes, first_bytes-line, same_first}
+use Rattle.std.specs.Prelude.{Result, Ok, Err}
+use Rattle.frame.specs.declared.faults.Fault.{Fault}
 
 -- The parts of a poll's line.
 record Parts (n raise reset x y z : ℕ) : Type 0 where
@@ -57,7 +56,7 @@ unfolding write_poll_fault first_of
 no-fault address out h k = rw (le-ltb 999 address h, le-ltb (length out) 2 k)
 
 pub left-first : (p : Poll) → p.address ≤ 999 → (bytes : List ℕ) (left : PollLeft p bytes)
-    → (left.said ≡ Bytes 2) × (bytes ≡ first_bytes 2 (poll_line p.address p.raise p.reset))
+    → (left.said ≡ Ok 2) × (bytes ≡ first_bytes 2 (poll_line p.address p.raise p.reset))
 left-first p h bytes left =
     let f = no-fault p.address left.out h left.long_enough in
     let n : ℕ = poll_line p.address p.raise p.reset in
@@ -73,7 +72,7 @@ same-poll : (p : Poll) (address : ℕ) (raise reset : Bool) → address ≡ p.ad
     → ◌≡◌ {A = Poll} (record { address = address; raise = raise; reset = reset }) p
 same-poll p address raise reset a b c = λ i. record { address = a i; raise = b i; reset = c i }
 
-read_back : (p : Poll) → p.address ≤ 999 → poll_of (first_bytes 2 (poll_line p.address p.raise p.reset)) ≡ Asked p
+read_back : (p : Poll) → p.address ≤ 999 → poll_of (first_bytes 2 (poll_line p.address p.raise p.reset)) ≡ Ok p
 unfolding poll_of
 read_back p h =
     let n : ℕ = poll_line p.address p.raise p.reset in
@@ -82,12 +81,12 @@ read_back p h =
     let d = reads_three n 5 p.address h of.hundreds of.tens of.ones in
     let f = clear-fault (first_bytes 2 n) n (length-first_bytes 2 n (omega arith)) e of.start d.0 in
     rw (f, e)
-    (ap Asked (same-poll p (three_digits n 5) (eqb (bit n 3) 1) (eqb (bit n 4) 1) d.1
+    (ap Ok (same-poll p (three_digits n 5) (eqb (bit n 3) 1) (eqb (bit n 4) 1) d.1
     (ap (λ (x : ℕ). eqb x 1) of.at-3 ∙ mark-1 p.raise)
     (ap (λ (x : ℕ). eqb x 1) of.at-4 ∙ mark-1 p.reset)))
 
-pub poll-then-read : (p : Poll) → p.address ≤ 999 → (bytes : List ℕ) (left : PollLeft p bytes) → (got : PollAnswer)
-    → ReadsPoll bytes got → (left.said ≡ Bytes 2) × (got ≡ Asked p)
+pub poll-then-read : (p : Poll) → p.address ≤ 999 → (bytes : List ℕ) (left : PollLeft p bytes) → (got : Result Poll Fault)
+    → ReadsPoll bytes got → (left.said ≡ Ok 2) × (got ≡ Ok p)
 poll-then-read p h bytes left got r =
     let l = left-first p h bytes left in
     (l.0, r.answers ∙ ap poll_of l.1 ∙ read_back p h)
@@ -105,10 +104,10 @@ accepted s e =
     let t = three-tests (not (eqb (length s) 2)) (eqb (bit (line s) 1) 0) (not (three_decimal (line s) 5)) e in
     (eqb-true (length s) 2 (not-false (eqb (length s) 2) t.0), t.1, not-false (three_decimal (line s) 5) t.2)
 
-asked-if : (f : ℕ) (q p : Poll) → Asked p ≡ pick (eqb f 0) (Asked q) (Refused f) → (f ≡ 0) × (q ≡ p)
+asked-if : (f : ℕ) (q p : Poll) → Ok p ≡ pick (eqb f 0) (Ok q) (Err (fault f)) → (f ≡ 0) × (q ≡ p)
 asked-if f q p = go (eqb f 0) refl
   where
-    go : (b : Bool) → eqb f 0 ≡ b → Asked p ≡ pick b (Asked q) (Refused f) → (f ≡ 0) × (q ≡ p)
+    go : (b : Bool) → eqb f 0 ≡ b → Ok p ≡ pick b (Ok q) (Err (fault f)) → (f ≡ 0) × (q ≡ p)
     go true k e = (eqb-true f 0 k, cc)
     go false k e = let z : ◌≡◌ {A = ℕ} 0 1 = cc in absurd (omega arith)
 
@@ -149,7 +148,7 @@ again-bytes s ok two start dec =
           ∙ ap (λ (k : ℕ). first_bytes k n) (sym two) ∙ first_bytes-line s ok (omega arith);
     }
 
-pub poll-again : (s : List ℕ) → AreBytes s → (p : Poll) → ReadsPoll s (Asked p) → (again : List ℕ) → PollLeft p again → SamePoll s again
+pub poll-again : (s : List ℕ) → AreBytes s → (p : Poll) → ReadsPoll s (Ok p) → (again : List ℕ) → PollLeft p again → SamePoll s again
 unfolding poll_of
 poll-again s ok p r bytes left =
     let n : ℕ = line s in

@@ -8,7 +8,6 @@ use lib.Dec.{eqb, leb}
 use lib.ListN.{length}
 use borrow.Author.Tests.{ltb-false, eqb-true, not-false}
 use Rattle.frame.specs.declared.Reading.{Reading}
-use Rattle.frame.specs.declared.Reply.TheVariants.{Read, Refused, Unreadable}
 use Rattle.frame.specs.declared.Temperature.{Temperature}
 use Rattle.frame.specs.declared.Temperature.TheVariants.{Absent}
 use Rattle.frame.specs.Pick.{pick}
@@ -21,6 +20,9 @@ use Rattle.promises_frame.specs.FirstFault.{reply_table, reply_order}
 use Rattle.promises_frame.proofs.Cases.{not-0}
 use Rattle.promises_frame.proofs.Digits.{bit-lt}
 use Rattle.promises_frame.proofs.FirstFault.{all-clear, reply-asks}
+use Rattle.std.specs.Prelude.{Ok, Err}
+use Rattle.frame.specs.declared.faults.Fault.TheVariants.{InNoChart}
+use Rattle.frame.specs.Faults.{fault}
 
 -- The facts that an accepted reply of 40 bits (`short`) or 56 has, at its line n.
 pub record Accepted (settings address : ℕ) (s : List ℕ) (n : ℕ) (short : Bool) (v : ℕ) (t : Temperature) : Type 0 where
@@ -92,10 +94,9 @@ accepted settings address count s e =
     )
 
 -- An answer that is a reading: no fault, and the reading at the line.
-pub read-if : (l : Level) (f : ℕ) (q r : Reading) → Read r ≡ pick (eqb f 0) (Read q) (refused_by l f) → (f ≡ 0) × (q ≡ r)
-read-if l f q r = go (eqb f 0) (eqb f 7) refl
+pub read-if : (l : Level) (f : ℕ) (q r : Reading) → Ok r ≡ pick (eqb f 0) (Ok q) (Err (refused_by l f)) → (f ≡ 0) × (q ≡ r)
+read-if l f q r = go (eqb f 0) refl
   where
-    go : (b s : Bool) → eqb f 0 ≡ b → Read r ≡ pick b (Read q) (pick s (Unreadable (place_lost l)) (Refused f)) → (f ≡ 0) × (q ≡ r)
-    go true s k e = (eqb-true f 0 k, cc)
-    go false true k e = let z : ◌≡◌ {A = ℕ} 0 1 = cc in absurd (omega arith)
-    go false false k e = let z : ◌≡◌ {A = ℕ} 0 1 = cc in absurd (omega arith)
+    go : (b : Bool) → eqb f 0 ≡ b → Ok r ≡ pick b (Ok q) (Err (refused_by l f)) → (f ≡ 0) × (q ≡ r)
+    go true k e = (eqb-true f 0 k, cc)
+    go false k e = let z : ◌≡◌ {A = ℕ} 0 1 = cc in absurd (omega arith)

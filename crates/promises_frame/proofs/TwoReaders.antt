@@ -7,7 +7,6 @@ use Prim.Native.Nat.{ℕ, ◌+◌, ◌*◌, ◌/◌, ◌%◌, ◌<◌, ◌≤◌
 use native.Mathlib.Omega.{arith}
 use lib.Dec.{T, eqb, eqb→eq, leb, leb→le}
 use borrow.Author.Tests.{eqb-true}
-use Rattle.frame.specs.declared.Reply.{Reply}
 use Rattle.frame.specs.Reply.{ReadsReply}
 use Rattle.frame.specs.Charts.{decimal, is_odd, turned, place_in, code_of}
 use Rattle.frame.specs.Pairs.{no_pair, pair_number, table_entry, index_of, ReadsReplyByPairs}
@@ -16,6 +15,9 @@ use Rattle.frame.proofs.Tables.{at-below}
 use Rattle.frame.proofs.PairsAreDigits.{entry-is, pairs-are-digits}
 use Rattle.frame.proofs.SecondReader.{same_second, same-reply}
 use Rattle.promises_frame.specs.TwoReaders.{TwoReaders}
+use Rattle.std.specs.Prelude.{Result}
+use Rattle.frame.specs.declared.faults.Fault.{Fault}
+use Rattle.frame.specs.declared.Reading.{Reading}
 
 -- The codes of the two digits of a number, and their entry.
 abbrev first_code : Bool → ℕ → ℕ
@@ -79,7 +81,7 @@ table-marks odd a b ha hb none =
     rw (first, second) at (unmarked odd (a * 16 + b) (omega arith)) in
     rw (entry-is odd a b ha hb) (found (λ e. none (entry-is odd a b ha hb ∙ e)))
 
-calls : (settings address count : ℕ) (s : List ℕ) (plain second : Reply)
+calls : (settings address count : ℕ) (s : List ℕ) (plain second : Result Reading Fault)
     → ReadsReply settings address count s plain → ReadsReplyByPairs settings address count s second → plain ≡ second
 calls settings address count s plain second p q = p.answers ∙ sym (q.answers ∙ same-reply settings address count s)
 

@@ -10,18 +10,21 @@ use lib.Dec.{T, eqb, leb, ltb, ltb→lt}
 use lib.ListN.{length, get_or}
 use lib.Pow.{pow_pos}
 use borrow.Author.Tests.{eqb-true, eqb-false, leb-true, ltb-true, lt-ltb}
-use Rattle.frame.specs.declared.Reply.{Reply}
-use Rattle.frame.specs.declared.Reply.TheVariants.{Read, Refused, Unreadable}
 use Rattle.frame.specs.Pick.{pick}
 use Rattle.frame.specs.Charts.{Chart, size_of, is_odd, turned, place_in, one_bit, two_bits, feet_tens, decimal, inches, sixteenths}
-use Rattle.frame.specs.Faults.{Test, first_of}
+use Rattle.frame.specs.Faults.{Test, first_of, number_of, place_named, fault}
 use Rattle.frame.specs.Level.{Level, Mode, known, lost, no_chart, place_lost, width_of, read_row, level_of, last_bit_of, mode_of, fractional_mode, decimal_mode, twenty_metre_mode, thirty_metre_mode}
 use Rattle.frame.specs.Line.{line, field, put}
 use Rattle.frame.specs.Reply.{ReadsReply, mode_in, reading_at, reply_tests, reply_fault, reply_of, reply_number}
 use Rattle.frame.proofs.Tables.{all_below, at-below}
 use Rattle.frame.proofs.Both.{both}
+use Rattle.frame.proofs.Numbers.{own_number, names-seven, reply-small}
 use Rattle.promises_frame.specs.Unreadable.{InChart, chart_at, code_at, FirstUnreadable, Named, NamesPlace, EveryCode, last_named, CanBeNamed, UnreadableDigit}
 use Rattle.promises_frame.proofs.Rows.{at_place}
+use Rattle.std.specs.Prelude.{Result, Ok, Err}
+use Rattle.frame.specs.declared.faults.Fault.{Fault}
+use Rattle.frame.specs.declared.faults.Fault.TheVariants.{InNoChart}
+use Rattle.frame.specs.declared.Reading.{Reading}
 
 -- A code is in its chart exactly where its place is below the chart's size.
 in-by : (c : Chart) (code : ℕ) → ltb (place_in code c.codes) (size_of c) ≡ true → InChart c code
@@ -121,14 +124,14 @@ not-given n (t ∷ ts) h some e =
     go rest false true f p e = eqb-false t.number n f e
 
 module _ (settings address count : ℕ) (reply : List ℕ) where
-  abbrev fault : ℕ
-  fault = reply_fault settings address count reply
+  abbrev number : ℕ
+  number = reply_fault settings address count reply
 
   abbrev level : Level
   level = level_of (mode_in settings) (line reply)
 
   -- fault 7 is given only where a digit is in no chart
-  no-chart : fault ≡ 7 → no_chart level ≡ true
+  no-chart : number ≡ 7 → no_chart level ≡ true
   unfolding reply_fault
   no-chart e = go (no_chart level) refl
     where
@@ -140,39 +143,39 @@ module _ (settings address count : ℕ) (reply : List ℕ) where
   is_lost (known v) e = let z : ◌≡◌ {A = ℕ} 0 1 = cc in absurd (omega arith)
   is_lost (lost k) e = refl
 
-  lost-at : fault ≡ 7 → level ≡ lost (place_lost level)
+  lost-at : number ≡ 7 → level ≡ lost (place_lost level)
   lost-at e = is_lost level (no-chart e)
 
-  abbrev by : Bool → Bool → ℕ → Reply
-  by none seven f = pick none (Read (reading_at settings count (line reply))) (pick seven (Unreadable (place_lost level)) (Refused f))
+  abbrev by : Bool → Bool → ℕ → Result Reading Fault
+  by none seven f = pick none (Ok (reading_at settings count (line reply))) (Err (pick seven (InNoChart (place_lost level)) (fault f)))
 
   -- an answer, by its fault
-  seven-by : (none seven : Bool) → eqb fault 0 ≡ none → eqb fault 7 ≡ seven → (got : Reply) → got ≡ by none seven fault → reply_number got ≡ 7 → NamesPlace settings reply got
+  seven-by : (none seven : Bool) → eqb number 0 ≡ none → eqb number 7 ≡ seven → (got : Result Reading Fault) → got ≡ by none seven number → reply_number got ≡ 7 → NamesPlace settings reply got
   seven-by true seven z v got e n = let bad : ◌≡◌ {A = ℕ} 0 7 = sym (ap reply_number e) ∙ n in absurd (omega arith)
-  seven-by false true z v got e n = record { place = place_lost level; named = e; level = lost-at (eqb-true fault 7 v) }
-  seven-by false false z v got e n = absurd (eqb-false fault 7 v (sym (ap reply_number e) ∙ n))
+  seven-by false true z v got e n = record { place = place_lost level; named = e; level = lost-at (eqb-true number 7 v) }
+  seven-by false false z v got e n =
+      let same : number_of (fault number) ≡ number = own_number number (eqb-false number 0 z) (reply-small settings address count reply) in
+      absurd (eqb-false number 7 v (sym same ∙ sym (ap reply_number e) ∙ n))
 
-  place-by : (none seven : Bool) → eqb fault 0 ≡ none → eqb fault 7 ≡ seven → (p : ℕ) → Unreadable p ≡ by none seven fault → level ≡ lost p
+  place-by : (none seven : Bool) → eqb number 0 ≡ none → eqb number 7 ≡ seven → (p : ℕ) → Err (InNoChart p) ≡ by none seven number → level ≡ lost p
   place-by true seven z v p e = let bad : ◌≡◌ {A = ℕ} 0 1 = cc in absurd (omega arith)
-  place-by false true z v p e = let same : place_lost level ≡ p = cc in lost-at (eqb-true fault 7 v) ∙ ap lost same
-  place-by false false z v p e = let bad : ◌≡◌ {A = ℕ} 0 1 = cc in absurd (omega arith)
+  place-by false true z v p e = let same : place_lost level ≡ p = cc in lost-at (eqb-true number 7 v) ∙ ap lost same
+  place-by false false z v p e = let same : fault number ≡ InNoChart p = cc in absurd (eqb-false number 7 v (names-seven number p same))
 
-  others_by : (none seven : Bool) → eqb fault 0 ≡ none → eqb fault 7 ≡ seven → (n : ℕ) → Refused n ≡ by none seven fault → n ≡ 7 → ⊥
-  others_by true seven z v n e s = let bad : ◌≡◌ {A = ℕ} 0 1 = cc in omega arith
-  others_by false true z v n e s = let bad : ◌≡◌ {A = ℕ} 0 1 = cc in omega arith
-  others_by false false z v n e s = let same : fault ≡ n = cc in eqb-false fault 7 v (same ∙ s)
-
-  seven-names : (got : Reply) → ReadsReply settings address count reply got → reply_number got ≡ 7 → NamesPlace settings reply got
+  seven-names : (got : Result Reading Fault) → ReadsReply settings address count reply got → reply_number got ≡ 7 → NamesPlace settings reply got
   unfolding reply_of
-  seven-names got r n = seven-by (eqb fault 0) (eqb fault 7) refl refl got r.answers n
+  seven-names got r n = seven-by (eqb number 0) (eqb number 7) refl refl got r.answers n
 
-  place-names : (p : ℕ) → ReadsReply settings address count reply (Unreadable p) → level ≡ lost p
+  place-names : (p : ℕ) → ReadsReply settings address count reply (Err (InNoChart p)) → level ≡ lost p
   unfolding reply_of
-  place-names p r = place-by (eqb fault 0) (eqb fault 7) refl refl p r.answers
+  place-names p r = place-by (eqb number 0) (eqb number 7) refl refl p r.answers
 
-  others-not : (n : ℕ) → ReadsReply settings address count reply (Refused n) → n ≡ 7 → ⊥
-  unfolding reply_of
-  others-not n r s = others_by (eqb fault 0) (eqb fault 7) refl refl n r.answers s
+  -- a fault that has number 7 names that place
+  others-name : (f : Fault) → ReadsReply settings address count reply (Err f) → number_of f ≡ 7 → f ≡ InNoChart (place_named f)
+  others-name f r n =
+      let named = (seven-names (Err f) r n).named in
+      let same : f ≡ InNoChart (seven-names (Err f) r n).place = cc in
+      same ∙ ap InNoChart (sym (ap place_named same))
 
 -- A digit's code has its chart's width, so a chart with every code of it has this one too.
 code_lt : (row : List Chart) (bits k : ℕ) → k < length row → code_at row bits k < 2 ^ (chart_at row k).width
@@ -274,7 +277,7 @@ occurs-3 (suc (suc (suc (suc zero)))) a b = record { bits = put 0b1010 33; fits 
 occurs-3 (suc (suc (suc (suc (suc p))))) a b = absurd (omega arith)
 
 -- The digit that a reply with fault 7 names, in the row of its mode.
-module _ (settings address count : ℕ) (reply : List ℕ) (p : ℕ) (r : ReadsReply settings address count reply (Unreadable p)) where
+module _ (settings address count : ℕ) (reply : List ℕ) (p : ℕ) (r : ReadsReply settings address count reply (Err (InNoChart p))) where
   abbrev row : List Chart
   row = (mode_in settings).row
 
@@ -295,7 +298,7 @@ unreadable-digit =
       seven = seven-names;
       place = λ settings address count reply got r p e.
           (ap reply_number e, place-names settings address count reply p (subst (ReadsReply settings address count reply) e r));
-      others = others-not;
+      others = others-name;
       never_the_first = not_first;
       every_code = never-named;
       possible = place-possible;

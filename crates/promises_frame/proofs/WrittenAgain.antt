@@ -7,7 +7,6 @@ use Prim.Native.Nat.{ℕ, suc, ◌%◌, ◌+◌, ◌-◌, ◌*◌, ◌^◌, ◌<
 use native.Mathlib.Omega.{arith}
 use lib.Dec.{eqb}
 use Rattle.frame.specs.declared.Reading.{Reading}
-use Rattle.frame.specs.declared.Reply.TheVariants.{Read}
 use Rattle.frame.specs.declared.Temperature.{Temperature}
 use Rattle.frame.specs.declared.Temperature.TheVariants.{Absent}
 use Rattle.frame.specs.Pick.{pick}
@@ -34,6 +33,7 @@ use Rattle.promises_frame.proofs.ReplyHeard.{size_small}
 use Rattle.promises_frame.proofs.ReplyAccepted.{Accepted, accepted, read-if}
 use Rattle.promises_frame.proofs.WrittenThenRead.{left-first}
 use Rattle.promises_frame.proofs.Polls.{poll-again}
+use Rattle.std.specs.Prelude.{Ok}
 
 -- A reply of 40 bits has no temperature, and one of 56 has one.
 absent-is : (ty short : Bool) (n : ℕ) (t : Temperature) → pick short (told Absent) (heat_of ty n) ≡ told t → is_absent t ≡ short
@@ -155,7 +155,7 @@ module _ (settings address : ℕ) (s : List ℕ) (ok : AreBytes s) (short : Bool
       written : (i : ℕ) → 1 ≤ i → i < pick short 40 56 → bit_at (first_bytes (pick short 5 7) w) i ≡ bit w i
       written i lo hi = bits-written (pick short 5 7) w i (size_small short) lo (eight-times short i hi)
 
-reply-again : (settings address count : ℕ) (s : List ℕ) → AreBytes s → (r : Reading) → ReadsReply settings address count s (Read r)
+reply-again : (settings address count : ℕ) (s : List ℕ) → AreBytes s → (r : Reading) → ReadsReply settings address count s (Ok r)
     → (again : List ℕ) → ReplyLeft settings address r again → (count_for r ≡ count) × SameReply (is1800 settings) count r.temperature s again
 unfolding reply_of
 reply-again settings address count s ok r reads bytes left =

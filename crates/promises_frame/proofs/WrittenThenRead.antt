@@ -8,9 +8,7 @@ use lib.ListN.{length, take, drop}
 use lib.Seq.{take_at}
 use borrow.Author.Tests.{le-ltb}
 use Rattle.frame.specs.declared.Reading.{Reading}
-use Rattle.frame.specs.declared.Reply.TheVariants.{Read, Unreadable}
 use Rattle.frame.specs.declared.Temperature.{Temperature}
-use Rattle.frame.specs.declared.Written.TheVariants.{Bytes}
 use Rattle.frame.specs.Line.{first_bytes}
 use Rattle.frame.specs.Faults.{first_of}
 use Rattle.frame.specs.Level.{known, lost, level_of}
@@ -27,6 +25,8 @@ use Rattle.promises_frame.proofs.TemperaturesBack.{in-range}
 use Rattle.promises_frame.proofs.ReplySent.{Sent, sent}
 use Rattle.promises_frame.proofs.ReplyHeard.{left-to-ask, level-bits, line-sent, heard, heat-sent, size_small}
 use Rattle.promises_frame.proofs.Polls.{poll-then-read}
+use Rattle.std.specs.Prelude.{Ok, Err}
+use Rattle.frame.specs.declared.faults.Fault.TheVariants.{InNoChart}
 
 -- What a write leaves first in a long enough buffer.
 no-fault : (settings address : ℕ) (r : Reading) (out : List ℕ) → settings ≤ 15 → address ≤ 999 → size_for r ≤ length out
@@ -35,7 +35,7 @@ unfolding write_reply_fault first_of
 no-fault settings address r out hs ha k = rw (le-ltb 15 settings hs, le-ltb 999 address ha, le-ltb (length out) (size_for r) k)
 
 pub left-first : (settings address : ℕ) (r : Reading) → settings ≤ 15 → address ≤ 999 → (bytes : List ℕ) (left : ReplyLeft settings address r bytes)
-    → (left.said ≡ Bytes (size_for r)) × (bytes ≡ first_bytes (size_for r) (reply_line settings address r))
+    → (left.said ≡ Ok (size_for r)) × (bytes ≡ first_bytes (size_for r) (reply_line settings address r))
 left-first settings address r hs ha bytes left =
     let f = no-fault settings address r left.out hs ha left.long_enough in
     let n : ℕ = reply_line settings address r in
@@ -60,10 +60,10 @@ module _ (settings address : ℕ) (r : Reading) (hs : settings ≤ 15) (ha : add
       left-to-ask settings address (count_for r) (first_bytes (size_for r) n) n (heard settings address r n of hs ha)
       ∙ rw (level-read hl, le-ltb (mode_in settings).largest r.level hl, heat-sent settings address r n of)
 
-  read_as : r.level ≤ (mode_in settings).largest → reply_of settings address (count_for r) (first_bytes (size_for r) n) ≡ Read (reading_back settings r)
+  read_as : r.level ≤ (mode_in settings).largest → reply_of settings address (count_for r) (first_bytes (size_for r) n) ≡ Ok (reading_back settings r)
   unfolding reply_of
   read_as hl = rw (no-fault-in hl, line-sent settings address r n of, level-read hl, heat-sent settings address r n of)
-      (ap₂ (λ (a b : Bool). Read (record { level = r.level; temperature = read_back (is1800 settings) r.temperature; alarm1 = a; alarm0 = b }))
+      (ap₂ (λ (a b : Bool). Ok (record { level = r.level; temperature = read_back (is1800 settings) r.temperature; alarm1 = a; alarm0 = b }))
       (ap (λ (x : ℕ). eqb x 1) of.top.alarm1 ∙ mark-1 r.alarm1)
       (ap (λ (x : ℕ). eqb x 1) of.top.alarm0 ∙ mark-1 r.alarm0))
 
@@ -75,7 +75,7 @@ module _ (settings address : ℕ) (r : Reading) (hs : settings ≤ 15) (ha : add
   unfolding first_of
   fault-out hl = left-to-ask settings address (count_for r) (first_bytes (size_for r) n) n (heard settings address r n of hs ha) ∙ rw (level-gone hl)
 
-  refused_as : (mode_in settings).largest < r.level → reply_of settings address (count_for r) (first_bytes (size_for r) n) ≡ Unreadable 1
+  refused_as : (mode_in settings).largest < r.level → reply_of settings address (count_for r) (first_bytes (size_for r) n) ≡ Err (InNoChart 1)
   unfolding reply_of
   refused_as hl = rw (fault-out hl, line-sent settings address r n of, level-gone hl)
 
@@ -93,7 +93,7 @@ written-then-read =
             l.0,
             h.answers ∙ ap (reply_of settings address (count_for r)) l.1
                 ∙ read_as settings address r can.settings_in can.address_in can.level_in
-                ∙ ap Read (same-reading settings r (read_back (is1800 settings) r.temperature) same),
+                ∙ ap Ok (same-reading settings r (read_back (is1800 settings) r.temperature) same),
           );
       poll = poll-then-read;
     }

@@ -1,14 +1,15 @@
 -- Document 01's bench checks marked *, as one table. Each is asked of whole replies, both ways: the bits as they are written, and what they read as.
 use Rattle.std.specs.Prelude.{◌≡◌, false, List, [], ◌∷◌, map, ℕ, ◌+◌, ◌*◌, ℤ}
 use Rattle.frame.specs.declared.Reading.{Reading}
-use Rattle.frame.specs.declared.Reply.{Reply}
-use Rattle.frame.specs.declared.Reply.TheVariants.{Read, Refused}
 use Rattle.frame.specs.declared.Temperature.{Temperature}
 use Rattle.frame.specs.declared.Temperature.TheVariants.{Degrees, Absent}
 use Rattle.frame.specs.Line.{field, put, first_bytes}
 use Rattle.frame.specs.Level.{mode_of, last_bit_of}
 use Rattle.frame.specs.Temperature.{signed}
 use Rattle.frame.specs.Reply.{count_for, size_for, parity_for, reply_line, reply_of}
+use Rattle.std.specs.Prelude.{Result, Ok, Err}
+use Rattle.frame.specs.declared.faults.Fault.{Fault}
+use Rattle.frame.specs.Faults.{fault}
 
 -- A reading without alarms.
 abbrev pub unalarmed : ℕ → Temperature → Reading
@@ -25,7 +26,7 @@ pub data Check : Type 0 where
 
 pub record Outcome : Type 0 where
   pub written : List ℕ
-  pub read : Reply
+  pub read : Result Reading Fault
 
 -- The bytes of a reply from address 0 with the bits given, its start and its parity set. The settings' other bits are 0: a 1900, even parity.
 abbrev pub around : (settings size bits : ℕ) → List ℕ
@@ -48,11 +49,11 @@ found (reply-fault settings address count bytes number) = record { written = [];
 
 -- What the document says.
 abbrev pub wanted : Check → Outcome
-wanted (level mode value bits) = record { written = bits ∷ []; read = Read (unalarmed value Absent) }
-wanted (level_fault mode bits number) = record { written = []; read = Refused number }
-wanted (degrees tenths bits) = record { written = bits ∷ []; read = Read (unalarmed 0 (Degrees tenths)) }
-wanted (reply settings address r bytes) = record { written = bytes; read = Read r }
-wanted (reply-fault settings address count bytes number) = record { written = []; read = Refused number }
+wanted (level mode value bits) = record { written = bits ∷ []; read = Ok (unalarmed value Absent) }
+wanted (level_fault mode bits number) = record { written = []; read = Err (fault number) }
+wanted (degrees tenths bits) = record { written = bits ∷ []; read = Ok (unalarmed 0 (Degrees tenths)) }
+wanted (reply settings address r bytes) = record { written = bytes; read = Ok r }
+wanted (reply-fault settings address count bytes number) = record { written = []; read = Err (fault number) }
 
 -- Modes 1 decimal, 0 fractional, 2 and 3 metres.
 abbrev pub starred : List Check

@@ -1,9 +1,6 @@
 -- First fault: document 01's table of numbers, the orders in which it is asked, and what it is to give the first that applies.
 use Rattle.std.specs.Prelude.{◌≡◌, Bool, true, false, not, ◌&&◌, ◌||◌, List, [], ◌∷◌, ℕ, ◌<◌, eqb, ltb, length, get_or}
-use Rattle.frame.specs.declared.PollAnswer.{PollAnswer}
 use Rattle.frame.specs.declared.Reading.{Reading}
-use Rattle.frame.specs.declared.Reply.{Reply}
-use Rattle.frame.specs.declared.Written.{Written}
 use Rattle.frame.specs.Pick.{pick}
 use Rattle.frame.specs.Line.{line, bit, formed, three_decimal, three_digits}
 use Rattle.frame.specs.Level.{level_of, fill_clear, no_chart, above_largest}
@@ -11,6 +8,9 @@ use Rattle.frame.specs.Temperature.{is_bad}
 use Rattle.frame.specs.Faults.{Test, ◌gives◌}
 use Rattle.frame.specs.Poll.{ReadsPoll, WritesPoll, poll_number, written_number}
 use Rattle.frame.specs.Reply.{ReadsReply, WritesReply, mode_in, heat_in, parity_right, size_for, reply_number}
+use Rattle.std.specs.Prelude.{Result}
+use Rattle.frame.specs.declared.faults.Fault.{Fault}
+use Rattle.frame.specs.declared.Poll.{Poll}
 
 -- Whether a number of a table applies.
 abbrev pub applies : List Test → ℕ → Bool
@@ -53,13 +53,13 @@ abbrev pub poll_table : List ℕ → List Test
 poll_table s = (not (eqb (length s) 2) || eqb (bit (line s) 1) 0 || not (three_decimal (line s) 5)) gives 16 ∷ []
 
 pub record FirstFault : Type 0 where
-  pub read-reply : (settings address count : ℕ) (s : List ℕ) (got : Reply) → ReadsReply settings address count s got
+  pub read-reply : (settings address count : ℕ) (s : List ℕ) (got : Result Reading Fault) → ReadsReply settings address count s got
       → FirstThatApplies (reply_table settings address count s) reply_order (reply_number got)
-  pub write-reply : (settings address : ℕ) (r : Reading) (out after : List ℕ) (said : Written) → WritesReply settings address r out said after
+  pub write-reply : (settings address : ℕ) (r : Reading) (out after : List ℕ) (said : Result ℕ Fault) → WritesReply settings address r out said after
       → FirstThatApplies (write_table settings address (size_for r) out) (10 ∷ 11 ∷ 15 ∷ []) (written_number said)
-  pub read-poll : (s : List ℕ) (got : PollAnswer) → ReadsPoll s got
+  pub read-poll : (s : List ℕ) (got : Result Poll Fault) → ReadsPoll s got
       → FirstThatApplies (poll_table s) (16 ∷ []) (poll_number got)
-  pub write-poll : (address : ℕ) (raise reset : Bool) (out after : List ℕ) (said : Written) → WritesPoll address raise reset out said after
+  pub write-poll : (address : ℕ) (raise reset : Bool) (out after : List ℕ) (said : Result ℕ Fault) → WritesPoll address raise reset out said after
       → FirstThatApplies (write_table 0 address 2 out) (11 ∷ 15 ∷ []) (written_number said)
   -- Of one table in one order, two numbers cannot both be the first.
   pub one_number : (table : List Test) (order : List ℕ) (a b : ℕ)

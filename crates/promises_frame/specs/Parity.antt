@@ -1,11 +1,11 @@
 -- Parity covers the whole reply, parity bit included, even or odd by setting.
 use Rattle.std.specs.Prelude.{◌≡◌, List, ℕ, zero, suc, ◌+◌, ◌*◌, ◌%◌, ◌≤◌, length}
 use Rattle.frame.specs.declared.Reading.{Reading}
-use Rattle.frame.specs.declared.Reply.TheVariants.{Read}
 use Rattle.frame.specs.Line.{marks}
 use Rattle.frame.specs.Reply.{ReadsReply, odd_parity, count_for}
 use Rattle.promises_frame.specs.Bits.{AreBytes, bit_at}
 use Rattle.promises_frame.specs.Calls.{ReplyLeft}
+use Rattle.std.specs.Prelude.{Ok}
 
 -- The marks among the first `count` bits.
 unfoldable pub marks_among : List ℕ → ℕ → ℕ
@@ -27,6 +27,6 @@ pub record ParityKept : Type 0 where
       → marks_among bytes (count_for r) % 2 ≡ odd_parity settings
   -- Where a reply is accepted, no reply that differs from it in a single bit is.
   pub one-wrong : (settings address count : ℕ) (s t : List ℕ) → AreBytes s → AreBytes t
-      → (r : Reading) → ReadsReply settings address count s (Read r)
+      → (r : Reading) → ReadsReply settings address count s (Ok r)
       → (j : ℕ) → OneWrong s t count j
-      → (q : Reading) → ¬ ReadsReply settings address count t (Read q)
+      → (q : Reading) → ¬ ReadsReply settings address count t (Ok q)

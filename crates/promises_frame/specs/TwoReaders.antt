@@ -1,10 +1,12 @@
 -- Document 02, request 07: the reader that takes two digits at a time from a table reads what the plain one reads.
 use Rattle.std.specs.Prelude.{◌≡◌, Bool, List, ℕ, ◌+◌, ◌*◌, ◌/◌, ◌%◌, ◌<◌, ◌≤◌}
-use Rattle.frame.specs.declared.Reply.{Reply}
 use Rattle.frame.specs.Charts.{decimal, is_odd, code_of}
 use Rattle.frame.specs.Level.{mode_of, read_row, level_of}
 use Rattle.frame.specs.Pairs.{no_pair, table_entry, index_of, decimals, read_pairs, second_level, ReadsReplyByPairs}
 use Rattle.frame.specs.Reply.{ReadsReply}
+use Rattle.std.specs.Prelude.{Result}
+use Rattle.frame.specs.declared.faults.Fault.{Fault}
+use Rattle.frame.specs.declared.Reading.{Reading}
 
 pub record TwoReaders : Type 0 where
   -- The table, by the chart alone: the codes of any two digits, the digit above them odd or not, have the number that the digits write.
@@ -21,5 +23,5 @@ pub record TwoReaders : Type 0 where
   -- So of any line, in every mode, both readers give the same level, or the same place,
   pub levels : (mode n : ℕ) → second_level mode n ≡ level_of (mode_of mode) n
   -- and of any bytes, at any settings, address and count, the two calls give one answer: the reading, or the refusal with its place.
-  pub calls : (settings address count : ℕ) (s : List ℕ) (plain second : Reply)
+  pub calls : (settings address count : ℕ) (s : List ℕ) (plain second : Result Reading Fault)
       → ReadsReply settings address count s plain → ReadsReplyByPairs settings address count s second → plain ≡ second

@@ -1,12 +1,15 @@
 -- Document 02, request 02: which digit was unreadable. Fault 7 names the place of the first digit in no chart, counted from 0 at the top.
 use Rattle.std.specs.Prelude.{◌≡◌, Bool, List, [], ◌∷◌, ℕ, zero, suc, ◌+◌, ◌/◌, ◌%◌, ◌^◌, ◌<◌, ◌≤◌, eqb, length, get_or}
-use Rattle.frame.specs.declared.Reply.{Reply}
-use Rattle.frame.specs.declared.Reply.TheVariants.{Refused, Unreadable}
 use Rattle.frame.specs.Charts.{Chart, size_of}
 use Rattle.frame.specs.Level.{Mode, lost, width_of, read_row, level_of, mode_of}
 use Rattle.frame.specs.Line.{line}
 use Rattle.frame.specs.Pick.{pick}
 use Rattle.frame.specs.Reply.{ReadsReply, mode_in, reply_number}
+use Rattle.std.specs.Prelude.{Result, Err}
+use Rattle.frame.specs.declared.faults.Fault.{Fault}
+use Rattle.frame.specs.declared.faults.Fault.TheVariants.{InNoChart}
+use Rattle.frame.specs.declared.Reading.{Reading}
+use Rattle.frame.specs.Faults.{number_of, place_named}
 
 -- A code stands in a chart, at some place.
 pub record InChart (c : Chart) (code : ℕ) : Type 0 where
@@ -38,9 +41,9 @@ pub record Named (row : List Chart) (bits at p : ℕ) : Type 0 where
   pub first : FirstUnreadable row bits digit
 
 -- A reply that names a place, and the place.
-pub record NamesPlace (settings : ℕ) (reply : List ℕ) (got : Reply) : Type 0 where
+pub record NamesPlace (settings : ℕ) (reply : List ℕ) (got : Result Reading Fault) : Type 0 where
   pub place : ℕ
-  pub named : got ≡ Unreadable place
+  pub named : got ≡ Err (InNoChart place)
   pub level : level_of (mode_in settings) (line reply) ≡ lost place
 
 -- A chart with every code of its width. Such are the chart of the first digit in each mode, and that of the sixteenths.
@@ -63,17 +66,18 @@ pub record UnreadableDigit : Type 0 where
   pub first : (row : List Chart) (bits : ℕ) (odd : Bool) (sofar at k : ℕ) → FirstUnreadable row bits k → read_row row bits odd sofar at ≡ lost (at + k)
   pub only : (row : List Chart) (bits : ℕ) (odd : Bool) (sofar at p : ℕ) → read_row row bits odd sofar at ≡ lost p → Named row bits at p
   -- A reply with fault 7 names its place, one that names a place has fault 7 and such a level, and no other refusal is 7.
-  pub seven : (settings address count : ℕ) (reply : List ℕ) (got : Reply) → ReadsReply settings address count reply got → reply_number got ≡ 7
+  pub seven : (settings address count : ℕ) (reply : List ℕ) (got : Result Reading Fault) → ReadsReply settings address count reply got → reply_number got ≡ 7
       → NamesPlace settings reply got
-  pub place : (settings address count : ℕ) (reply : List ℕ) (got : Reply) → ReadsReply settings address count reply got → (p : ℕ) → got ≡ Unreadable p
+  pub place : (settings address count : ℕ) (reply : List ℕ) (got : Result Reading Fault) → ReadsReply settings address count reply got → (p : ℕ) → got ≡ Err (InNoChart p)
       → (reply_number got ≡ 7) × (level_of (mode_in settings) (line reply) ≡ lost p)
-  pub others : (settings address count : ℕ) (reply : List ℕ) → (n : ℕ) → ReadsReply settings address count reply (Refused n) → n ≡ 7 → ⊥
+  pub others : (settings address count : ℕ) (reply : List ℕ) → (f : Fault) → ReadsReply settings address count reply (Err f) → number_of f ≡ 7
+      → f ≡ InNoChart (place_named f)
   -- The first digit of every mode has all codes, so it is never named, and the place is one of the mode's digits.
-  pub never_the_first : (settings address count : ℕ) (reply : List ℕ) (p : ℕ) → ReadsReply settings address count reply (Unreadable p)
+  pub never_the_first : (settings address count : ℕ) (reply : List ℕ) (p : ℕ) → ReadsReply settings address count reply (Err (InNoChart p))
       → (1 ≤ p) × (p < length (mode_in settings).row)
   -- Of any row, a digit whose chart has every code of its width is never named.
   pub every_code : (row : List Chart) (bits : ℕ) (odd : Bool) (sofar at k : ℕ) → EveryCode (chart_at row k) → read_row row bits odd sofar at ≡ lost (at + k) → ⊥
   -- So the place is 1 or 2 in mode 0, 1 to 3 in mode 1, 1 to 4 in modes 2 and 3; and each of these is some line's.
-  pub possible : (settings address count : ℕ) (reply : List ℕ) (p : ℕ) → ReadsReply settings address count reply (Unreadable p)
+  pub possible : (settings address count : ℕ) (reply : List ℕ) (p : ℕ) → ReadsReply settings address count reply (Err (InNoChart p))
       → (1 ≤ p) × (p ≤ last_named (settings % 4))
   pub each_occurs : (mode p : ℕ) → 1 ≤ p → p ≤ last_named mode → CanBeNamed (mode_of mode) p

@@ -1,15 +1,14 @@
 -- Accepted, then written again: the same bits, but for those not told and the parity over them.
 use Rattle.std.specs.Prelude.{◌≡◌, Bool, List, ℕ, ◌≤◌, ◌<◌, length}
 use Rattle.frame.specs.declared.Poll.{Poll}
-use Rattle.frame.specs.declared.PollAnswer.TheVariants.{Asked}
 use Rattle.frame.specs.declared.Reading.{Reading}
-use Rattle.frame.specs.declared.Reply.TheVariants.{Read}
 use Rattle.frame.specs.declared.Temperature.{Temperature}
 use Rattle.frame.specs.Poll.{ReadsPoll}
 use Rattle.frame.specs.Reply.{ReadsReply, is1800, count_for}
 use Rattle.promises_frame.specs.Bits.{AreBytes, bit_at}
 use Rattle.promises_frame.specs.NotTold.{NotTold, as_we_write}
 use Rattle.promises_frame.specs.Calls.{ReplyLeft, PollLeft}
+use Rattle.std.specs.Prelude.{Ok}
 
 -- A reply s of `count` bits, and the same reading written again. Bit `count` is the parity.
 pub record SameReply (is1800 : Bool) (count : ℕ) (t : Temperature) (s again : List ℕ) : Type 0 where
@@ -28,10 +27,10 @@ pub record WrittenAgain : Type 0 where
   -- Any bytes that `read_reply` accepts, at whatever settings, address and count: their reading, written at the same settings and address, has
   -- the same count and the same bits.
   pub reply : (settings address count : ℕ) (s : List ℕ) → AreBytes s
-      → (r : Reading) → ReadsReply settings address count s (Read r)
+      → (r : Reading) → ReadsReply settings address count s (Ok r)
       → (again : List ℕ) → ReplyLeft settings address r again
       → (count_for r ≡ count) × SameReply (is1800 settings) count r.temperature s again
   pub poll : (s : List ℕ) → AreBytes s
-      → (p : Poll) → ReadsPoll s (Asked p)
+      → (p : Poll) → ReadsPoll s (Ok p)
       → (again : List ℕ) → PollLeft p again
       → SamePoll s again

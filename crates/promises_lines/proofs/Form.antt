@@ -1,18 +1,17 @@
 -- In form: a message closes with 1 to 64 bits and zeros after them, which is the form of a reply; so of the tests of a reply 14 and 1 do not apply.
-use mathlib.Core.Path.{◌≡◌, refl, ap, ◌∙◌}
+use mathlib.Core.Path.{◌≡◌, refl, sym, ap, subst, ◌∙◌}
 use mathlib.Core.Bool.{Bool, true, false, not}
 use mathlib.Core.List.{List, [], ◌∷◌}
 use Prim.Native.Nat.{ℕ, ◌+◌, ◌*◌, ◌≤◌}
 use native.Mathlib.Omega.{arith}
 use lib.Dec.{eqb}
 use lib.ListN.{length, take}
-use borrow.Author.Tests.{ne_eqb}
-use Rattle.frame.specs.declared.Reply.{Reply}
-use Rattle.frame.specs.declared.Reply.TheVariants.{Read, Refused, Unreadable}
+use borrow.Author.Tests.{ne_eqb, eqb-false}
 use Rattle.frame.specs.Line.{bytes_for, formed, first_bytes, line}
 use Rattle.frame.specs.Level.{level_of, place_lost}
-use Rattle.frame.specs.Faults.{Test, first_of}
+use Rattle.frame.specs.Faults.{Test, first_of, number_of, fault}
 use Rattle.frame.specs.Reply.{ReadsReply, reply_number, reply_fault, reply_tests, reply_of, reading_at, refused_by, mode_in}
+use Rattle.frame.proofs.Numbers.{own_number, reply-small}
 use Rattle.lines.specs.declared.SoFar.{SoFar}
 use Rattle.lines.specs.declared.LinesTold.{LinesTold}
 use Rattle.lines.specs.Timing.{Timing, timing, bad_timing}
@@ -27,6 +26,10 @@ use Rattle.promises_frame.proofs.BitsAreBits.{bits-are-bits}
 use Rattle.promises_lines.proofs.Words.{Clear, pad-bit}
 use Rattle.promises_lines.proofs.Legal.{Closing, message, report}
 use Rattle.promises_lines.proofs.Ends.{Ends, still_open, closed_at, good, split, meant-legal, heard-by}
+use Rattle.std.specs.Prelude.{Result, Ok, Err}
+use Rattle.frame.specs.declared.faults.Fault.{Fault}
+use Rattle.frame.specs.declared.faults.Fault.TheVariants.{InNoChart}
+use Rattle.frame.specs.declared.Reading.{Reading}
 
 -- The front of eight bytes.
 pub front : (k n : ℕ) → take k (first_bytes 8 n) ≡ first_bytes k n
@@ -102,15 +105,16 @@ fault-neither settings address count s some e =
       ),
     )
 
-reply-neither : (settings address count : ℕ) (s : List ℕ) (r : Reply) → ReadsReply settings address count s r → Neither (reply_fault settings address count s) → Neither (reply_number r)
+reply-neither : (settings address count : ℕ) (s : List ℕ) (r : Result Reading Fault) → ReadsReply settings address count s r → Neither (reply_fault settings address count s) → Neither (reply_number r)
 unfolding reply_of
 reply-neither settings address count s r c n =
-    let fault : ℕ = reply_fault settings address count s in
+    let first : ℕ = reply_fault settings address count s in
     let level = level_of (mode_in settings) (line s) in
     rw c.answers
-    (of-pick (λ (x : Reply). Neither (reply_number x)) (eqb fault 0) (Read (reading_at settings count (line s))) (refused_by level fault)
+    (of-pick (λ (x : Result Reading Fault). Neither (reply_number x)) (eqb first 0) (Ok (reading_at settings count (line s))) (Err (refused_by level first))
     (λ e. (omega arith, omega arith))
-    (λ e. of-pick (λ (x : Reply). Neither (reply_number x)) (eqb fault 7) (Unreadable (place_lost level)) (Refused fault) (λ f. (omega arith, omega arith)) (λ f. n)))
+    (λ e. of-pick (λ (f : Fault). Neither (number_of f)) (eqb first 7) (InNoChart (place_lost level)) (fault first) (λ f. (omega arith, omega arith))
+    (λ f. subst Neither (sym (own_number first (eqb-false first 0 e) (reply-small settings address count s))) n)))
 
 handed-over : (s : SoFar) (least most gap : ℕ) (xs : List ℕ) (a : LinesTold) → bad_timing (timing least most gap) ≡ false → HearsLines s least most gap xs a → (a.count ≡ 0 → ⊥) → HandedOver a
 handed-over s least most gap xs a e c =

@@ -9,10 +9,6 @@ use lib.Dec.{eqb, ltb}
 use lib.ListN.{length, get_or, take, drop}
 use lib.Seq.{take_at}
 use Rattle.frame.specs.declared.Reading.{Reading}
-use Rattle.frame.specs.declared.Reply.{Reply}
-use Rattle.frame.specs.declared.Reply.TheVariants.{Read, Refused, Unreadable}
-use Rattle.frame.specs.declared.Written.{Written}
-use Rattle.frame.specs.declared.Written.TheVariants as written
 use Rattle.frame.specs.Pick.{pick}
 use Rattle.sheet.specs.Record.{Entry}
 use Rattle.sheet.specs.Slots.{list_of}
@@ -42,6 +38,9 @@ use Rattle.promises_picture.specs.OnPage.{titled, drawn, bar_of, bar_in, bars, w
 use Rattle.promises_picture.proofs.Read.{Part, nothing_said, then, text-is, says_is, a-tag, quiet-tag, lacks, words-first, form-next, all_words, one_number}
 use Rattle.promises_picture.proofs.PlainWords.{Plain, join, either, none, number, filled, chosen, a-year, a-month-day, a-moment, a-level, degrees, a-mode, a-type, a-fault, a-bound, a-last, a-heat, off-scale, all_kinds, all_lines}
 use Rattle.promises_picture.proofs.DrawnAsListed.{whole-line, whole-heat, marks-of, alarm1-of, alarm0-of}
+use Rattle.std.specs.Prelude.{Option, None, Some, Result, Ok, Err}
+use Rattle.frame.specs.declared.faults.Fault.{Fault}
+use Rattle.frame.specs.Faults.{fault, number_of, place_named}
 
 -- Texts joined otherwise: the parts of a heading, a frame, a mark and a table, each tag with the words behind it, and as the page's definition has them.
 heading-flat : (s h a g q m c t e : List ℕ) → s ++ ((h ++ (a ++ g)) ++ ((q ++ ((m ++ c) ++ t)) ++ e)) ≡ (s ++ (h ++ (a ++ (g ++ q)))) ++ m ++ c ++ t ++ e
@@ -599,7 +598,7 @@ says : Plain (ascii ": ")
 unfolding plain
 says = record { is = refl }
 
-fault-words : (b : Day) (m n place : ℕ) → Plain (moment_text b m ++ ascii ": " ++ fault_text n place)
+fault-words : (b : Option Day) (m n place : ℕ) → Plain (moment_text b m ++ ascii ": " ++ fault_text n place)
 fault-words b m n place = join (join (a-moment b m) says) (a-fault n place)
 
 bar-end : Plain (ascii ",0v1'>")
@@ -633,16 +632,16 @@ lacks-bar-end = refl
 bar-form : (m : ℕ) → ascii "<path d='M" ++ (in_decimal m ++ ascii ",0v1'><title>") ≡ fill (ascii "<path d='M~,0v1'><title>") (m ∷ [])
 bar-form m = sym (one_number (ascii "<path d='M") (ascii ",0v1'><title>") m lacks-bar lacks-bar-title)
 
-bar-is : (b : Day) (m n place : ℕ) → (ascii "<path d='M" ++ (in_decimal m ++ (ascii ",0v1'>" ++ ascii "<title>"))) ++ moment_text b m ++ ascii ": " ++ fault_text n place ++ ascii "</title></path>" ≡ faulty_mark_text b m n place
+bar-is : (b : Option Day) (m n place : ℕ) → (ascii "<path d='M" ++ (in_decimal m ++ (ascii ",0v1'>" ++ ascii "<title>"))) ++ moment_text b m ++ ascii ": " ++ fault_text n place ++ ascii "</title></path>" ≡ faulty_mark_text b m n place
 unfolding faulty_mark_text
 bar-is b m n place = ap (λ (f : List ℕ). f ++ moment_text b m ++ ascii ": " ++ fault_text n place ++ ascii "</title></path>") (bar-form m)
 
-bar-read : (b : Day) (m n place : ℕ) → (ascii "path d='M" ++ (in_decimal m ++ ascii ",0v1'>")) ∷ (ascii "title>" ++ (moment_text b m ++ ascii ": " ++ fault_text n place)) ∷ [] ≡ bar_of b m n place
+bar-read : (b : Option Day) (m n place : ℕ) → (ascii "path d='M" ++ (in_decimal m ++ ascii ",0v1'>")) ∷ (ascii "title>" ++ (moment_text b m ++ ascii ": " ++ fault_text n place)) ∷ [] ≡ bar_of b m n place
 unfolding bar_of
 bar-read b m n place =
     ap (λ (f : List ℕ). f ∷ (ascii "title>" ++ (moment_text b m ++ ascii ": " ++ fault_text n place)) ∷ []) (sym (one_number (ascii "path d='M") (ascii ",0v1'>") m lacks-bar-read lacks-bar-end))
 
-bar-part : (b : Day) (m n place : ℕ) → Part (faulty_mark_text b m n place) (bar_of b m n place)
+bar-part : (b : Option Day) (m n place : ℕ) → Part (faulty_mark_text b m n place) (bar_of b m n place)
 bar-part b m n place =
     says_is
     (bar-read b m n place)
@@ -650,11 +649,10 @@ bar-part b m n place =
     (mark-flat (ascii "<path d='M") (in_decimal m) (ascii ",0v1'>") (ascii "<title>") (moment_text b m) (ascii ": ") (fault_text n place) (ascii "</title></path>") ∙ bar-is b m n place)
     (then (mark-tag (join (number m) bar-end)) (then (title-tag (fault-words b m n place)) mark-end)))
 
-mark-part : (b : Day) (m : ℕ) (reply : Reply) → Part (joined (mark_in b m reply)) (bar_in b m reply)
+mark-part : (b : Option Day) (m : ℕ) (reply : Result Reading Fault) → Part (joined (mark_in b m reply)) (bar_in b m reply)
 unfolding joined
-mark-part b m (Read r) = nothing_said
-mark-part b m (Refused n) = text-is (sym (append-nil (faulty_mark_text b m n 0))) (bar-part b m n 0)
-mark-part b m (Unreadable place) = text-is (sym (append-nil (faulty_mark_text b m 7 place))) (bar-part b m 7 place)
+mark-part b m (Ok r) = nothing_said
+mark-part b m (Err f) = text-is (sym (append-nil (faulty_mark_text b m (number_of f) (place_named f)))) (bar-part b m (number_of f) (place_named f))
 
 joined-none : [] ≡ joined []
 unfolding joined
@@ -665,7 +663,7 @@ unfolding joined
 joined-both [] us = refl
 joined-both (t ∷ ts) us = append_assoc t (joined ts) (joined us) ∙ ap (λ (r : List ℕ). t ++ r) (joined-both ts us)
 
-marks-part : (b : Day) (l : List Entry) → Part (joined (faulty_marks b l)) (bars b l)
+marks-part : (b : Option Day) (l : List Entry) → Part (joined (faulty_marks b l)) (bars b l)
 unfolding faulty_marks bars
 marks-part b [] = text-is joined-none nothing_said
 marks-part b (e ∷ l) =
@@ -691,10 +689,9 @@ unfolding joined
 one-dot true m = text-is (sym (append-nil (fill (ascii "<path d='M~,0h1'/>") (m ∷ [])))) (dot-part m)
 one-dot false m = nothing_said
 
-alarm-part : (which : Reading → Bool) (m : ℕ) (reply : Reply) → Part (joined (alarm_in which m reply)) (dot_in which m reply)
-alarm-part which m (Read r) = one-dot (which r) m
-alarm-part which m (Refused n) = text-is joined-none nothing_said
-alarm-part which m (Unreadable place) = text-is joined-none nothing_said
+alarm-part : (which : Reading → Bool) (m : ℕ) (reply : Result Reading Fault) → Part (joined (alarm_in which m reply)) (dot_in which m reply)
+alarm-part which m (Ok r) = one-dot (which r) m
+alarm-part which m (Err f) = text-is joined-none nothing_said
 
 alarms-part : (which : Reading → Bool) (l : List Entry) → Part (joined (alarms which l)) (dots which l)
 unfolding alarms dots
@@ -703,7 +700,7 @@ alarms-part which (e ∷ l) =
     text-is (joined-both (alarm_in which e.minute (reply_in e)) (alarms which l)) (then (alarm-part which e.minute (reply_in e)) (alarms-part which l))
 
 -- the faults in words
-item-part : (b : Day) (m n place : ℕ) → Part (drawing.said_as b 1 m n place) (words_of b m n place)
+item-part : (b : Option Day) (m n place : ℕ) → Part (drawing.said_as b 1 m n place) (words_of b m n place)
 unfolding words_of fill choice first others
 item-part b m n place =
     let words = moment_text b m ++ ascii ": " ++ fault_text n place in
@@ -714,24 +711,23 @@ no-alarm-word : (m : ℕ) (r : Reading) → [] ≡ drawing.alarm_mark 5 m r
 unfolding drawing.alarm_mark
 no-alarm-word m r = refl
 
-said-as : (b : Day) (m n place : ℕ) → drawing.said_as b 1 m n place ≡ drawing.fault_mark b 5 m n place
+said-as : (b : Option Day) (m n place : ℕ) → drawing.said_as b 1 m n place ≡ drawing.fault_mark b 5 m n place
 unfolding drawing.fault_mark
 said-as b m n place = refl
 
-word-part : (b : Day) (m : ℕ) (reply : Reply) → Part (drawing.mark_text b 5 m reply) (words_in b m reply)
-word-part b m (Read r) = text-is (no-alarm-word m r) nothing_said
-word-part b m (Refused n) = text-is (said-as b m n 0) (item-part b m n 0)
-word-part b m (Unreadable place) = text-is (said-as b m 7 place) (item-part b m 7 place)
+word-part : (b : Option Day) (m : ℕ) (reply : Result Reading Fault) → Part (drawing.mark_text b 5 m reply) (words_in b m reply)
+word-part b m (Ok r) = text-is (no-alarm-word m r) nothing_said
+word-part b m (Err f) = text-is (said-as b m (number_of f) (place_named f)) (item-part b m (number_of f) (place_named f))
 
-words_opened : (b : Day) (j : Bool) (e : Entry) (l : List Entry) → drawing.mark_text b 5 e.minute (reply_in e) ++ layer_text b 5 false l ≡ layer_text b 5 j (e ∷ l)
+words_opened : (b : Option Day) (j : Bool) (e : Entry) (l : List Entry) → drawing.mark_text b 5 e.minute (reply_in e) ++ layer_text b 5 false l ≡ layer_text b 5 j (e ∷ l)
 unfolding layer_text drawing.part_text drawing.line_goes_on
 words_opened b j e l = refl
 
-words-none : (b : Day) (j : Bool) → [] ≡ layer_text b 5 j []
+words-none : (b : Option Day) (j : Bool) → [] ≡ layer_text b 5 j []
 unfolding layer_text
 words-none b j = refl
 
-words-part : (b : Day) (j : Bool) (l : List Entry) → Part (layer_text b 5 j l) (in_words b l)
+words-part : (b : Option Day) (j : Bool) (l : List Entry) → Part (layer_text b 5 j l) (in_words b l)
 unfolding in_words
 words-part b j [] = text-is (words-none b j) nothing_said
 words-part b j (e ∷ l) = text-is (words_opened b j e l) (then (word-part b e.minute (reply_in e)) (words-part b false l))
@@ -757,27 +753,20 @@ dash : Plain (ascii "-")
 unfolding plain
 dash = record { is = refl }
 
-day-part : (begin : Day) (n : ℕ) → Part (ascii "<span>" ++ day_on_axis begin n ++ ascii "</span>") []
+counted-day : (n : ℕ) → Part (ascii "<span>" ++ fill (ascii "~") (n ∷ []) ++ ascii "</span>") []
+counted-day n = then (span-tag (filled (ascii "~") (n ∷ []) tick-form)) span-closed
+
+dated-day : (d : Day) → Part (ascii "<span>" ++ page.date_on_axis d ++ ascii "</span>") []
+dated-day d =
+    let flat : (60 ∷ (ascii "span>" ++ (year_text d.year ++ ascii "-"))) ++ ((60 ∷ (ascii "wbr/>" ++ month_day_text d)) ++ ascii "</span>") ≡ ascii "<span>" ++ page.date_on_axis d ++ ascii "</span>" = simp append_assoc in
+    text-is flat (then (span-tag (join (a-year d.year) dash)) (then (break-tag (a-month-day d)) span-closed))
+
+day-part : (begin : Option Day) (n : ℕ) → Part (ascii "<span>" ++ day_on_axis begin n ++ ascii "</span>") []
 unfolding day_on_axis
-day-part begin n = go (eqb begin.day 0)
-  where
-    d : Day
-    d = days_from begin n
+day-part None n = counted-day n
+day-part (Some d) n = dated-day (days_from d n)
 
-    counted : Part (ascii "<span>" ++ fill (ascii "~") (n ∷ []) ++ ascii "</span>") []
-    counted = then (span-tag (filled (ascii "~") (n ∷ []) tick-form)) span-closed
-
-    flat : (60 ∷ (ascii "span>" ++ (year_text d.year ++ ascii "-"))) ++ ((60 ∷ (ascii "wbr/>" ++ month_day_text d)) ++ ascii "</span>") ≡ ascii "<span>" ++ page.date_on_axis d ++ ascii "</span>"
-    flat = simp append_assoc
-
-    dated : Part (ascii "<span>" ++ page.date_on_axis d ++ ascii "</span>") []
-    dated = text-is flat (then (span-tag (join (a-year d.year) dash)) (then (break-tag (a-month-day d)) span-closed))
-
-    go : (t : Bool) → Part (ascii "<span>" ++ pick t (fill (ascii "~") (n ∷ [])) (page.date_on_axis d) ++ ascii "</span>") []
-    go true = counted
-    go false = dated
-
-tick-part : (begin : Day) (i shown day : ℕ) → Part (tick_text begin i shown day) []
+tick-part : (begin : Option Day) (i shown day : ℕ) → Part (tick_text begin i shown day) []
 unfolding tick_text
 tick-part begin i shown day = go (ltb i shown)
   where
@@ -785,7 +774,7 @@ tick-part begin i shown day = go (ltb i shown)
     go true = day-part begin day
     go false = nothing_said
 
-days-part : (begin : Day) (from to : ℕ) → Part (days_text (axis_of begin from to)) []
+days-part : (begin : Option Day) (from to : ℕ) → Part (days_text (axis_of begin from to)) []
 unfolding days_text
 days-part begin from to =
     let a = axis_of begin from to in
@@ -825,7 +814,7 @@ lacks-replies : lacks (ascii "</td></tr><tr><th>replies</th><td>") ≡ true
 unfolding lacks
 lacks-replies = refl
 
-figures-part : (b : Day) (x : Line) (g : Gauged) → Part (figures_text b x g) ((ascii "td>" ++ bound_text x.settings x.lowest) ∷ (ascii "td>" ++ bound_text x.settings x.highest) ∷ (ascii "td>" ++ last_text b x.settings g) ∷ (ascii "td>" ++ heat_text g ++ off_text 0 (get_or g.counts 16 0) ++ off_text 1 (get_or g.counts 17 0)) ∷ (ascii "td>" ++ fill (ascii "~ good, ~ faulty") (x.good ∷ x.faulty ∷ []) ++ kinds_text g.counts 1 15) ∷ [])
+figures-part : (b : Option Day) (x : Line) (g : Gauged) → Part (figures_text b x g) ((ascii "td>" ++ bound_text x.settings x.lowest) ∷ (ascii "td>" ++ bound_text x.settings x.highest) ∷ (ascii "td>" ++ last_text b x.settings g) ∷ (ascii "td>" ++ heat_text g ++ off_text 0 (get_or g.counts 16 0) ++ off_text 1 (get_or g.counts 17 0)) ∷ (ascii "td>" ++ fill (ascii "~ good, ~ faulty") (x.good ∷ x.faulty ∷ []) ++ kinds_text g.counts 1 15) ∷ [])
 unfolding figures_text levels_text
 figures-part b x g =
     let low = bound_text x.settings x.lowest in
@@ -847,7 +836,7 @@ no-good : Part (ascii "<p>No reply was good, so no level is drawn.</p>\n") []
 unfolding up_to read_of passed_over closes name_of one_of alike
 no-good = record { starts = λ u h. refl; reads = λ u h. refl }
 
-module _ (l : List Entry) (begin : Day) (from to : ℕ) (x : Line) (m : List Entry) (own : entries_of_pair (pair_of x) l ≡ m) where
+module _ (l : List Entry) (begin : Option Day) (from to : ℕ) (x : Line) (m : List Entry) (own : entries_of_pair (pair_of x) l ≡ m) where
   abbrev frame-of : ℕ → List Entry → ℕ → ℕ → List ℕ
   frame-of layer r top height =
       begin_text layer x.address (axis_of begin from to).from top (axis_of begin from to).span height ++ (layer_text (axis_of begin from to).begin layer false r
@@ -914,7 +903,7 @@ words-end : Part (ascii "</ul></details></section>\n") []
 unfolding up_to read_of passed_over closes name_of one_of alike
 words-end = record { starts = λ u h. refl; reads = λ u h. refl }
 
-module _ (l : List Entry) (begin : Day) (from to k : ℕ) where
+module _ (l : List Entry) (begin : Option Day) (from to k : ℕ) where
   abbrev x : Line
   x = line_for l k
 
@@ -960,7 +949,7 @@ module _ (l : List Entry) (begin : Day) (from to k : ℕ) where
   unfolding section_of axis_of line_for figures
   section-part = section-whole
 
-sections-part : (l : List Entry) (begin : Day) (from to : ℕ) (ks : List ℕ) → Part (sections_text l (axis_of begin from to) (map (line_for l) ks)) (sections_of begin l ks)
+sections-part : (l : List Entry) (begin : Option Day) (from to : ℕ) (ks : List ℕ) → Part (sections_text l (axis_of begin from to) (map (line_for l) ks)) (sections_of begin l ks)
 unfolding sections_text sections_of
 sections-part l begin from to [] = nothing_said
 sections-part l begin from to (k ∷ ks) = then (section-part l begin from to k) (sections-part l begin from to ks)
@@ -1047,7 +1036,7 @@ until : Plain (ascii " to ")
 unfolding plain
 until = record { is = refl }
 
-when-plain : (begin : Day) (t : Tally) → Plain (when_text begin t)
+when-plain : (begin : Option Day) (t : Tally) → Plain (when_text begin t)
 unfolding when_text
 when-plain begin t = either (eqb t.records 0) no_record (join (join (a-moment begin t.first) until) (a-moment begin t.last))
 
@@ -1112,7 +1101,7 @@ main-part a b =
     let form : fill (ascii "<main style='--s:~;--d:~'>\n") (a ∷ b ∷ []) ≡ ascii "<main style='--s:" ++ (in_decimal a ++ (ascii ";--d:" ++ (in_decimal b ++ ascii "'>\n"))) = form-next (ascii "<main style='--s:") (ascii ";--d:~'>\n") a (b ∷ []) lacks-main ∙ ap (λ (r : List ℕ). ascii "<main style='--s:" ++ (in_decimal a ++ r)) (one_number (ascii ";--d:") (ascii "'>\n") b lacks-days lacks-main-end) in
     text-is (sym form) (main-tag (join (number a) (join of-days (join (number b) main-close))))
 
-module _ (name : List ℕ) (p : Plain name) (begin : Day) (t : Tally) where
+module _ (name : List ℕ) (p : Plain name) (begin : Option Day) (t : Tally) where
   counts-part : Part (counts_text name begin t ++ ascii "</p>\n") ((ascii "h1>" ++ name) ∷ [])
   unfolding counts_text
   counts-part =
@@ -1132,7 +1121,7 @@ page-end : Part (ascii "</main></body></html>\n") []
 unfolding up_to read_of passed_over closes name_of one_of alike
 page-end = record { starts = λ u h. refl; reads = λ u h. refl }
 
-page-part : (s name : List ℕ) (begin : Day) → Plain name → Part (page_of s name begin) (above_of name ++ sections_of begin (list_of s) (in_order (kept_pairs (list_of s))) ++ [])
+page-part : (s name : List ℕ) (begin : Option Day) → Plain name → Part (page_of s name begin) (above_of name ++ sections_of begin (list_of s) (in_order (kept_pairs (list_of s))) ++ [])
 unfolding page_of
 page-part s name begin p =
     let l = list_of s in
@@ -1152,17 +1141,17 @@ read_whole {a} {ts} p =
     ap read_of (sym (append-nil a)) ∙ p.reads [] nothing-before ∙ ap (λ (r : List (List ℕ)). ts ++ r) nothing_read ∙ append-nil ts
 
 -- what a call that wrote leaves begins with its text
-first-bytes : (there : Bool) (needed : ℕ) (text out after : List ℕ) (answer : Written) (n : ℕ) → Writes there needed text out answer after → answer ≡ written.Bytes n → take n after ≡ text
+first-bytes : (there : Bool) (needed : ℕ) (text out after : List ℕ) (answer : Result ℕ Fault) (n : ℕ) → Writes there needed text out answer after → answer ≡ Ok n → take n after ≡ text
 first-bytes there needed text out after answer n writes said = go (eqb (write_fault there needed out) 0) refl
   where
     go : (t : Bool) → eqb (write_fault there needed out) 0 ≡ t → take n after ≡ text
     go true e =
-        let answered : written.Bytes n ≡ written.Bytes (length text) = sym said ∙ writes.answers ∙ simp e in
+        let answered : Ok n ≡ Ok (length text) = sym said ∙ writes.answers ∙ simp e in
         let size : n ≡ length text = cc in
         let left : after ≡ text ++ drop (length text) out = writes.leaves ∙ simp e in
         ap (take n) left ∙ take_at text (drop (length text) out) n (sym size)
     go false e =
-        let answered : written.Bytes n ≡ written.Refused (write_fault there needed out) = sym said ∙ writes.answers ∙ simp e in
+        let answered : Ok n ≡ Err (fault (write_fault there needed out)) = sym said ∙ writes.answers ∙ simp e in
         let z : ◌≡◌ {A = ℕ} 0 1 = cc in
         absurd (omega arith)
 

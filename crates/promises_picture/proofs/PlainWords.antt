@@ -6,6 +6,7 @@ use Prim.Native.Nat.{ℕ, zero, suc, ◌-◌, ◌/◌, ◌%◌}
 use native.Mathlib.Omega.{arith}
 use lib.Dec.{eqb, ltb}
 use lib.ListN.{get_or}
+use Rattle.std.specs.Prelude.{Option, None, Some}
 use Rattle.frame.specs.Pick.{pick}
 use Rattle.summary.specs.Line.{no_level}
 use Rattle.listing.specs.Text.{ascii, in_decimal}
@@ -83,11 +84,12 @@ day-form : plain (ascii "day ~") ≡ true
 unfolding plain
 day-form = refl
 
-a-day : (begin : Day) (n : ℕ) → Plain (day_text begin n)
+a-day : (begin : Option Day) (n : ℕ) → Plain (day_text begin n)
 unfolding day_text
-a-day begin n = either (eqb begin.day 0) (filled (ascii "day ~") (n ∷ []) day-form) (a-date (days_from begin n))
+a-day None n = filled (ascii "day ~") (n ∷ []) day-form
+a-day (Some d) n = a-date (days_from d n)
 
-pub a-moment : (begin : Day) (m : ℕ) → Plain (moment_text begin m)
+pub a-moment : (begin : Option Day) (m : ℕ) → Plain (moment_text begin m)
 unfolding moment_text
 a-moment begin m = join (join (join (join (a-day begin (m / 1440)) comma) (two (m / 60 % 24))) colon) (two (m % 60))
 
@@ -152,7 +154,7 @@ pub a-bound : (settings n : ℕ) → Plain (bound_text settings n)
 unfolding bound_text
 a-bound settings n = either (eqb n no_level) said-none (a-level settings n)
 
-pub a-last : (begin : Day) (settings : ℕ) (g : Gauged) → Plain (last_text begin settings g)
+pub a-last : (begin : Option Day) (settings : ℕ) (g : Gauged) → Plain (last_text begin settings g)
 unfolding last_text
 a-last begin settings g = either (eqb g.last no_level) said-none (join (join (a-level settings g.last) comma) (a-moment begin g.when))
 

@@ -9,11 +9,9 @@ use lib.ListN.{length, take, drop, replicate}
 use lib.Seq.{take_all, drop-length, take-append_seam}
 use borrow.Author.Tests.{le-ltb}
 use Rattle.frame.specs.declared.Poll.{Poll}
-use Rattle.frame.specs.declared.Written.TheVariants.{Bytes}
-use Rattle.frame.specs.declared.Written.TheVariants as written_as
 use Rattle.frame.specs.Pick.{pick}
 use Rattle.frame.specs.Line.{first_bytes, formed}
-use Rattle.frame.specs.Faults.{first_of}
+use Rattle.frame.specs.Faults.{first_of, fault}
 use Rattle.frame.specs.Poll.{WritesPoll, write_poll_fault, poll_line}
 use Rattle.drawing.specs.Pulses.{drawing}
 use Rattle.drawing.specs.Calls.{draw_fault, done, portion, Draws}
@@ -26,6 +24,7 @@ use Rattle.promises_drawing.specs.Sending.{Sending, begun, called}
 use Rattle.promises_drawing.proofs.Places.{drawing-long}
 use Rattle.promises_polling.specs.Turns.{PollSamples}
 use Rattle.promises_polling.proofs.Paces.{fine-pace}
+use Rattle.std.specs.Prelude.{Ok, Err}
 
 module _ (address : ℕ) (small : address ≤ 999) where
   abbrev pub poll : Poll
@@ -39,10 +38,10 @@ module _ (address : ℕ) (small : address ≤ 999) where
   write-fine = ap (λ (b : Bool). pick b 11 0) (le-ltb 999 address small)
 
   -- The writer of polls leaves these bytes in an output of two.
-  writes : WritesPoll address false false (0 ∷ 0 ∷ []) (Bytes 2) (poll_bytes ++ [])
+  writes : WritesPoll address false false (0 ∷ 0 ∷ []) (Ok 2) (poll_bytes ++ [])
   writes =
       record {
-        answers = sym (ap (λ (n : ℕ). pick (eqb n 0) (Bytes 2) (written_as.Refused n)) write-fine);
+        answers = sym (ap (λ (n : ℕ). pick (eqb n 0) (Ok 2) (Err (fault n))) write-fine);
         leaves = sym (ap (λ (n : ℕ). pick (eqb n 0) (poll_bytes ++ []) (0 ∷ 0 ∷ [])) write-fine);
       }
 
@@ -54,7 +53,7 @@ module _ (address : ℕ) (small : address ≤ 999) where
       record {
         out = 0 ∷ 0 ∷ [];
         after = poll_bytes ++ [];
-        said = Bytes 2;
+        said = Ok 2;
         long_enough = omega arith;
         call = writes;
         first = sym (ap (λ (n : ℕ). take n (poll_bytes ++ [])) (sym two-long) ∙ take-append_seam poll_bytes []);

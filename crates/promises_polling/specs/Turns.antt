@@ -1,8 +1,6 @@
 -- In turn: what is drawn from the beginning of a round to its end is, for each row in use, in rising address order, one to `tries` times its delay and then its poll; and
 -- every drawn poll, heard and read again, is of that address.
 use Rattle.std.specs.Prelude.{◌≡◌, false, List, [], ◌∷◌, ◌++◌, ℕ, zero, suc, ◌+◌, ◌*◌, ◌<◌, ◌≤◌, length, take, replicate}
-use Rattle.frame.specs.declared.PollAnswer.{PollAnswer}
-use Rattle.frame.specs.declared.PollAnswer.TheVariants.{Asked}
 use Rattle.frame.specs.Pick.{pick}
 use Rattle.frame.specs.Poll.{ReadsPoll}
 use Rattle.board.specs.declared.Row.{Row}
@@ -25,6 +23,9 @@ use Rattle.promises_lines.specs.History as lines
 use Rattle.promises_lines.specs.Form.{bytes_in}
 use Rattle.promises_drawing.specs.Sending.{Sending}
 use Rattle.promises_polling.specs.History.{any, Verdict, History}
+use Rattle.std.specs.Prelude.{Result, Ok}
+use Rattle.frame.specs.declared.faults.Fault.{Fault}
+use Rattle.frame.specs.declared.Poll.{Poll}
 
 -- The addresses of the rows in use, as they stand.
 unfoldable pub addresses_in : List Row → List ℕ
@@ -70,4 +71,4 @@ pub record PollsInTurn : Type 0 where
       → (earlier batch rest : List ℕ) (s : SoFar) (a : LinesTold) → lines.History t rest_state earlier [] s
       → HearsLines s t.least t.most t.gap batch a → (tellings a ≡ [] → ⊥)
       → earlier ++ take a.taken batch ++ rest ≡ sent ++ replicate t.gap 0
-      → (got : PollAnswer) → ReadsPoll (bytes_in a) got → got ≡ Asked (record { address = address; raise = false; reset = false })
+      → (got : Result Poll Fault) → ReadsPoll (bytes_in a) got → got ≡ Ok (record { address = address; raise = false; reset = false })

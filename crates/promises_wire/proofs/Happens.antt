@@ -11,8 +11,7 @@ use lib.Dec.{eqb}
 use lib.ListN.{length, take, drop, replicate, length-map, length-replicate}
 use lib.Seq.{take-append_seam}
 use Rattle.frame.specs.declared.Reading.{Reading}
-use Rattle.frame.specs.declared.Written.TheVariants.{Bytes, Refused}
-use Rattle.frame.specs.Faults.{first_of}
+use Rattle.frame.specs.Faults.{first_of, fault}
 use Rattle.frame.specs.Temperature.{is_absent}
 use Rattle.frame.specs.Pick.{pick}
 use Rattle.frame.specs.Line.{mark}
@@ -47,6 +46,7 @@ use Rattle.promises_wire.specs.Month.{Replies, Month, round_saved}
 use Rattle.promises_wire.specs.Month as month
 use Rattle.promises_wire.specs.TankToDesk.{PolledSo, SentSo, CanBe, no_more, one_more}
 use Rattle.promises_wire.proofs.Polled.{Held, heard-so, replies-are}
+use Rattle.std.specs.Prelude.{Ok, Err}
 
 -- Any samples.
 pub any-samples : (q : Asked) (samples : List ℕ) → PolledSo q samples
@@ -260,9 +260,9 @@ a-listing sheet =
       record {
         out = out;
         after = text ++ drop (length text) out;
-        said = Bytes (length text);
+        said = Ok (length text);
         call = record {
-          answers = sym (ap (λ (k : ℕ). pick (eqb k 0) (Bytes (length text)) (Refused k)) fine);
+          answers = sym (ap (λ (k : ℕ). pick (eqb k 0) (Ok (length text)) (Err (fault k))) fine);
           leaves = sym (ap (λ (k : ℕ). pick (eqb k 0) (text ++ drop (length text) out) out) fine);
         };
         accepted = refl;

@@ -7,9 +7,6 @@ use Prim.Native.Nat.{ℕ, ◌+◌, ◌-◌, ◌≤◌, min}
 use native.Mathlib.Omega.{arith}
 use lib.Dec.{eqb}
 use Rattle.frame.specs.Pick.{pick}
-use Rattle.frame.specs.declared.Reply.{Reply}
-use Rattle.sheet.specs.declared.Saved.{Saved}
-use Rattle.sheet.specs.declared.Saved.TheVariants.{Stores, Refused}
 use Rattle.sheet.specs.Record.{Entry, length_of}
 use Rattle.sheet.specs.Slots.{size_allowed, list_of}
 use Rattle.sheet.specs.Stores.{after}
@@ -41,6 +38,10 @@ use Rattle.promises_wire.proofs.Stored.{Order, order, Stored, none_yet, stored, 
 use Rattle.promises_wire.proofs.Rounds.{orders_from, Paged, unpaged, paged, keep-is-save, no_stores, round-stored}
 use Rattle.promises_wire.proofs.Listed.{known_order, stores_as, list-as, listed-as}
 use Rattle.promises_wire.proofs.Polled.{replies-are, fit-poll, all_fit}
+use Rattle.std.specs.Prelude.{Result, Ok, Err}
+use Rattle.frame.specs.declared.faults.Fault.{Fault}
+use Rattle.frame.specs.declared.Reading.{Reading}
+use Rattle.frame.specs.Faults.{fault}
 
 -- The records of mornings, as they are given their stores.
 unfoldable pub orders_in : List Morning → List Order
@@ -56,7 +57,7 @@ orders-more (x ∷ ms) m =
 
 -- They are what is known of the polls.
 known-poll : (given : ℕ) (p : Poll) → known_order (order (poll_entry p) given) ≡ known_save given p
-known-poll given p = ap (λ (r : Reply). record { entry = poll_entry p; says = r; given = given }) (sym p.read.reads.answers)
+known-poll given p = ap (λ (r : Result Reading Fault). record { entry = poll_entry p; says = r; given = given }) (sym p.read.reads.answers)
 
 shared-are : (given : ℕ) (ps : List Poll) → map known_order (orders_from given (map poll_entry ps)) ≡ shared given ps
 unfolding orders_from shared
@@ -113,7 +114,7 @@ module _ (n : ℕ) (few : n ≤ 2048) where
         (subst (λ (k : ℕ). Stored n (orders_in ms ++ orders_from k (map poll_entry ps)) (saved_all allowance (standing sheet held 0 0 0) (map poll_entry ps)).sheet) whole all))
 
     -- one reply
-    one_more : (p : Poll) (allowance : ℕ) (answer : Saved) (t : List ℕ) → Saves sheet (poll_entry p) allowance answer t
+    one_more : (p : Poll) (allowance : ℕ) (answer : Result ℕ Fault) (t : List ℕ) → Saves sheet (poll_entry p) allowance answer t
         → Stored n (orders_in (ms ++ morning (p ∷ []) allowance ∷ [])) t
     unfolding orders_from
     one_more p allowance answer t m = more-orders ms (p ∷ []) allowance t (stored (order (poll_entry p) allowance) answer t c.stores (fit-poll p) m)
@@ -124,7 +125,7 @@ module _ (n : ℕ) (few : n ≤ 2048) where
   -- a save with its summary is that save on the sheet
   plain-save : (s : List ℕ) → size_allowed s ≡ true → (page : Summary) → page ≡ summary_of (list_of s) → (e : Entry) (allowance : ℕ) (answer : Kept) (t : List ℕ)
       → SavesWith s page e allowance answer t
-      → Saves s e allowance (pick (eqb (save_fault s e) 0) (Stores (min allowance (length_of e + 2))) (Refused (save_fault s e))) t
+      → Saves s e allowance (pick (eqb (save_fault s e) 0) (Ok (min allowance (length_of e + 2))) (Err (fault (save_fault s e)))) t
   plain-save s size page is e allowance answer t m =
       record {
         answers = refl;

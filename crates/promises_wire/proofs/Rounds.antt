@@ -9,7 +9,6 @@ use borrow.Author.Tests.{ne_eqb, eqb-true, eqb-false, le-ltb, ltb-false}
 use lib.Dec.{eqb, ltb}
 use lib.ListN.{length}
 use Rattle.frame.specs.Pick.{pick}
-use Rattle.sheet.specs.declared.Saved.TheVariants.{Stores, Refused}
 use Rattle.sheet.specs.Record.{Entry, length_of}
 use Rattle.sheet.specs.Slots.{size_allowed, slots, next, list_of}
 use Rattle.sheet.specs.Stores.{after}
@@ -27,6 +26,8 @@ use Rattle.promises_card.specs.Summary.Chain.{Step}
 use Rattle.promises_card.specs.Summary.Chain as chain
 use Rattle.promises_card.proofs.Summary.AtAnyMoment.{at-any-moment}
 use Rattle.promises_wire.proofs.Stored.{Order, order, Fit, Stored, stored, skipped, size_of, no_slot}
+use Rattle.std.specs.Prelude.{Ok, Err}
+use Rattle.frame.specs.Faults.{fault}
 
 -- The records of a round as they are given their stores.
 unfoldable pub orders_from : ℕ → List Entry → List Order
@@ -142,10 +143,10 @@ module _ (n : ℕ) (few : n ≤ 2048) where
     same : save_refusal s page e ≡ save_fault s e
     same = fault-same s size page p e
 
-    saves : save_fault s e ≡ 0 → Saves s e left (Stores (min left (length_of e + 2))) (after s e left)
+    saves : save_fault s e ≡ 0 → Saves s e left (Ok (min left (length_of e + 2))) (after s e left)
     saves clear =
         record {
-          answers = sym (ap (λ (k : ℕ). pick (eqb k 0) (Stores (min left (length_of e + 2))) (Refused k)) clear);
+          answers = sym (ap (λ (k : ℕ). pick (eqb k 0) (Ok (min left (length_of e + 2))) (Err (fault k))) clear);
           leaves = sym (ap (λ (k : ℕ). pick (eqb k 0) (after s e left) s) clear);
         }
 
@@ -154,7 +155,7 @@ module _ (n : ℕ) (few : n ≤ 2048) where
     by-fault true f =
         let clear : save_refusal s page e ≡ 0 = eqb-true (save_refusal s page e) 0 f in
         let given : allowance - (stores + min left (length_of e + 2)) ≡ left - (length_of e + 2) = omega arith in
-        let now = stored (order e left) (Stores (min left (length_of e + 2))) (after s e left) st fit (saves (sym same ∙ clear)) in
+        let now = stored (order e left) (Ok (min left (length_of e + 2))) (after s e left) st fit (saves (sym same ∙ clear)) in
         let all = rest (after s e left) (pick (closes_record e left) (page_with e page) page) (closed + pick (closes_record e left) 1 0)
         (stores + min left (length_of e + 2)) (os ++ order e left ∷ []) now (paged-after s size e fit left page p clear) in
         subst (λ (l : List Order). Stored n l (end (with_stores left x e)))

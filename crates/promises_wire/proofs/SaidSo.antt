@@ -6,12 +6,11 @@ use mathlib.Core.List.{List, [], ◌∷◌, ◌++◌, map, append-nil}
 use Prim.Native.Nat.{ℕ, suc, ◌+◌, ◌-◌, ◌*◌, ◌/◌, ◌≤◌}
 use native.Mathlib.Omega.{arith}
 use borrow.Author.Tests.{le-ltb}
+use lib.Dec.{eqb}
 use lib.ListN.{length, get_or, take, replicate, length-append, length-replicate, length-map}
 use lib.Seq.{take_all}
 use Rattle.frame.specs.declared.Reading.{Reading}
-use Rattle.frame.specs.declared.Reply.{Reply}
-use Rattle.frame.specs.declared.Reply.TheVariants.{Read, Refused, Unreadable}
-use Rattle.frame.specs.Faults.{first_of}
+use Rattle.frame.specs.Faults.{first_of, number_of, place_named, fault}
 use Rattle.frame.specs.Pick.{pick}
 use Rattle.frame.specs.Line.{mark, formed, first_bytes}
 use Rattle.frame.specs.Temperature.{is_absent}
@@ -40,6 +39,8 @@ use Rattle.promises_wire.specs.Heard.{HeardOnLines, heard}
 use Rattle.promises_wire.specs.Wire.{Drawing, samples_of, Sent}
 use Rattle.promises_wire.specs.TankToDesk.{AskedAlike, SaysSo, ListedFault}
 use Rattle.promises_wire.proofs.Polled.{Held, heard-so, same-held, read_held}
+use Rattle.std.specs.Prelude.{Result, Ok, Err}
+use Rattle.frame.specs.declared.faults.Fault.{Fault}
 
 -- The bytes of a reply that was sent, their form, and what they are read as.
 module _ (x : Sent) where
@@ -53,9 +54,9 @@ module _ (x : Sent) where
   sent-bytes =
       subst AreBytes (sym written) (bytes-first_bytes (size_for r) (reply_line x.asked.settings x.asked.address r) (size_small (is_absent r.temperature)))
 
-  sent-reads : ReadsReply x.asked.settings x.asked.address (count_for r) x.bytes (Read r)
+  sent-reads : ReadsReply x.asked.settings x.asked.address (count_for r) x.bytes (Ok r)
   sent-reads =
-      let got : Reply = reply_of x.asked.settings x.asked.address (count_for r) x.bytes in
+      let got : (Result Reading Fault) = reply_of x.asked.settings x.asked.address (count_for r) x.bytes in
       record {
         answers = sym (written-then-read.reply x.asked.settings x.asked.address r x.can_say x.bytes x.left got (record { answers = refl })).1;
       }
@@ -118,7 +119,7 @@ module _ (x : Sent) where
   heard-bits = handed-bits a ∙ is-heard.1 ∙ x.draws.shows
 
 -- The same question, read alike.
-read_alike : (p q : Asked) → AskedAlike p q → (count : ℕ) (bytes : List ℕ) (says : Reply) → ReadsReply q.settings q.address count bytes says
+read_alike : (p q : Asked) → AskedAlike p q → (count : ℕ) (bytes : List ℕ) (says : Result Reading Fault) → ReadsReply q.settings q.address count bytes says
     → ReadsReply p.settings p.address count bytes says
 read_alike p q s count bytes says h = record { answers = h.answers ∙ sym (λ i. reply_of (s.settings i) (s.address i) count bytes) }
 
@@ -135,16 +136,16 @@ said-so x p alike e =
     record {
       says = p.read.reads.answers
           ∙ (λ i. reply_of p.asked.settings p.asked.address (same.0 i) (same.1 i))
-          ∙ sym (read_alike p.asked x.asked alike (count_for x.reading) x.bytes (Read x.reading) (sent-reads x)).answers;
+          ∙ sym (read_alike p.asked x.asked alike (count_for x.reading) x.bytes (Ok x.reading) (sent-reads x)).answers;
       entry = λ i. entry_for p.asked (same.0 i) (same.1 i);
     }
 
 -- No bits.
-no-bits-read : (settings address : ℕ) (bytes : List ℕ) → settings ≤ 15 → address ≤ 999 → formed 0 bytes ≡ true → reply_of settings address 0 bytes ≡ Refused 1
+no-bits-read : (settings address : ℕ) (bytes : List ℕ) → settings ≤ 15 → address ≤ 999 → formed 0 bytes ≡ true → reply_of settings address 0 bytes ≡ Err (fault 1)
 unfolding reply_of reply_fault first_of
 no-bits-read settings address bytes s a f = rw (le-ltb 15 settings s, le-ltb 999 address a, f)
 
-pub silent-is : (p : Poll) → bits_sensed p.asked.timing p.sensed.runs ≡ [] → p.read.says ≡ Refused 1
+pub silent-is : (p : Poll) → bits_sensed p.asked.timing p.sensed.runs ≡ [] → p.read.says ≡ Err (fault 1)
 silent-is p e =
     let none : p.read.count ≡ 0 = sym (bits-long p.read.count p.read.bytes) ∙ ap length (p.read.bits_are ∙ e) in
     p.read.reads.answers ∙ ap (λ (k : ℕ). reply_of p.asked.settings p.asked.address k p.read.bytes) none
@@ -184,19 +185,26 @@ module _ (x : Sent) (p : Poll) (alike : AskedAlike p.asked x.asked) (other : Lis
   reads_so : ReadsReply p.asked.settings p.asked.address count bytes p.read.says
   reads_so = subst (λ (k : ℕ). ReadsReply p.asked.settings p.asked.address k bytes p.read.says) as_many p.read.reads
 
-  never-read : (q : Reading) → p.read.says ≡ Read q → ⊥
+  never-read : (q : Reading) → p.read.says ≡ Ok q → ⊥
   never-read q is =
       parity-kept.one-wrong p.asked.settings p.asked.address count x.bytes bytes (sent-bytes x) p.read.are_bytes x.reading
-      (read_alike p.asked x.asked alike count x.bytes (Read x.reading) (sent-reads x)) j wrong-so q
-      (subst (λ (y : Reply). ReadsReply p.asked.settings p.asked.address count bytes y) is reads_so)
+      (read_alike p.asked x.asked alike count x.bytes (Ok x.reading) (sent-reads x)) j wrong-so q
+      (subst (λ (y : Result Reading Fault). ReadsReply p.asked.settings p.asked.address count bytes y) is reads_so)
 
   pub one-bit-fault : ListedFault p
   one-bit-fault = go p.read.says refl
     where
-      go : (y : Reply) → p.read.says ≡ y
+      go : (y : Result Reading Fault) → p.read.says ≡ y
           → (rest : List ℕ)
           × (in_decimal p.asked.minute ++ ascii " " ++ in_decimal p.asked.address ++ ascii " " ++ reply_text y
           ≡ in_decimal p.asked.minute ++ ascii " " ++ in_decimal p.asked.address ++ ascii " " ++ (ascii "fault " ++ rest))
-      go (Read q) is = absurd (never-read q is)
-      go (Refused n) is = (in_decimal n, refl)
-      go (Unreadable place) is = (ascii "7 " ++ in_decimal place, refl)
+      go (Ok q) is = absurd (never-read q is)
+      go (Err f) is = (
+        pick (eqb (number_of f) 7) (ascii "7 " ++ in_decimal (place_named f)) (in_decimal (number_of f)),
+        ap (λ (t : List ℕ). in_decimal p.asked.minute ++ ascii " " ++ in_decimal p.asked.address ++ ascii " " ++ t) (begins (eqb (number_of f) 7)),
+      )
+        where
+          begins : (b : Bool) → pick b (ascii "fault 7 " ++ in_decimal (place_named f)) (ascii "fault " ++ in_decimal (number_of f))
+              ≡ ascii "fault " ++ pick b (ascii "7 " ++ in_decimal (place_named f)) (in_decimal (number_of f))
+          begins true = refl
+          begins false = refl

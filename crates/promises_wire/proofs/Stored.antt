@@ -10,7 +10,6 @@ use borrow.Author.Tests.{eq-eqb, ne_eqb, lt-ltb, le-ltb, le-leb, lt-leb}
 use lib.Dec.{leb, ltb}
 use lib.ListN.{length}
 use Rattle.frame.specs.Pick.{pick}
-use Rattle.sheet.specs.declared.Saved.{Saved}
 use Rattle.sheet.specs.Record.{Entry, passes, length_of}
 use Rattle.sheet.specs.Slots.{Slot, spoiled, holds, size_allowed, slots, next}
 use Rattle.sheet.specs.Save.{save_fault, stores_made, Saves}
@@ -21,6 +20,8 @@ use Rattle.promises_card.specs.Sheet.SlotsInOrder.{has_slot, slot_of_save, slots
 use Rattle.promises_card.proofs.Sheet.Fates.{Fate, refused, idle, broken, closed, fate}
 use Rattle.promises_card.proofs.Sheet.ListAndFull.{slots-of, long-so, sized}
 use Rattle.promises_card.proofs.Sheet.SlotsInOrder.{fills}
+use Rattle.std.specs.Prelude.{Result}
+use Rattle.frame.specs.declared.faults.Fault.{Fault}
 
 -- A record to be saved, and the stores that it is given.
 pub record Order : Type 0 where
@@ -44,7 +45,7 @@ slot_for o = pick (leb (length_of o.entry + 2) o.given) (holds o.entry) spoiled
 -- Saved by the contract of a save, or not tried, where no store or no slot was left for it.
 pub data Stored (n : ℕ) : List Order → List ℕ → Type 0 where
   none_yet : Stored n [] (blank_sheet n)
-  stored : {os : List Order} {s : List ℕ} (o : Order) (answer : Saved) (t : List ℕ) → Stored n os s → Fit o.entry
+  stored : {os : List Order} {s : List ℕ} (o : Order) (answer : Result ℕ Fault) (t : List ℕ) → Stored n os s → Fit o.entry
       → Saves s o.entry o.given answer t → Stored n (os ++ o ∷ []) t
   skipped : {os : List Order} {s : List ℕ} (o : Order) → Stored n os s → takes_slot n (next s) o ≡ false → Stored n (os ++ o ∷ []) s
 
@@ -76,7 +77,7 @@ and-false true = refl
 and-false false = refl
 
 -- What one save adds to the slots filled.
-module _ (n : ℕ) (s t : List ℕ) (o : Order) (fit : Fit o.entry) (answer : Saved) (k : ℕ) (all : slots s ≡ n) (at : k ≡ next s) where
+module _ (n : ℕ) (s t : List ℕ) (o : Order) (fit : Fit o.entry) (answer : Result ℕ Fault) (k : ℕ) (all : slots s ≡ n) (at : k ≡ next s) where
   abbrev x : Save
   x = record { entry = o.entry; minute_fits = fit.minute_fits; allowance = o.given; answer = answer }
 

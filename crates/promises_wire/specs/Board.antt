@@ -1,7 +1,5 @@
 -- The board beside the card: each reply is heard on it too. What it shows of a transmitter is made from what the transmitter's polls say, and from nothing else.
 use Rattle.std.specs.Prelude.{◌≡◌, List, [], ◌∷◌, ◌++◌, ℕ, eqb}
-use Rattle.frame.specs.declared.Reply.{Reply}
-use Rattle.frame.specs.declared.Reply.TheVariants.{Read, Refused, Unreadable}
 use Rattle.frame.specs.Pick.{pick}
 use Rattle.board.specs.declared.Heard as board
 use Rattle.board.specs.declared.Looked.{Looked}
@@ -13,6 +11,10 @@ use Rattle.promises_order.specs.Places.{row_at}
 use Rattle.promises_board.specs.Calls.{IsRowOf}
 use Rattle.promises_wire.specs.Polls.{Poll}
 use Rattle.promises_wire.specs.Heard.{HeardOnLines}
+use Rattle.std.specs.Prelude.{Result, Ok, Err}
+use Rattle.frame.specs.declared.faults.Fault.{Fault}
+use Rattle.frame.specs.declared.Reading.{Reading}
+use Rattle.frame.specs.Faults.{number_of, place_named}
 
 -- A board from some rows on, and the polls whose replies were heard on it, the oldest first. Each was polled with the settings of its row, if it has one.
 pub data OnTheBoard (start : List Row) : List Poll → List Row → Type 0 where
@@ -41,12 +43,11 @@ abbrev pub after_fault : (minute fault place : ℕ) → BoardShows → BoardShow
 after_fault minute fault place s =
     record { last = s.last; fault = fault; place = place; faulty = more s.faulty; minute = at minute }
 
-abbrev pub after_reply : (settings gauge minute : ℕ) → Reply → BoardShows → BoardShows
-after_reply settings gauge minute (Read r) s =
+abbrev pub after_reply : (settings gauge minute : ℕ) → Result Reading Fault → BoardShows → BoardShows
+after_reply settings gauge minute (Ok r) s =
     pick (outside_by settings gauge r.temperature) (after_fault minute 26 0 s)
     (record { last = good r minute; fault = 0; place = 0; faulty = 0; minute = at minute })
-after_reply settings gauge minute (Refused fault) s = after_fault minute fault 0 s
-after_reply settings gauge minute (Unreadable place) s = after_fault minute 7 place s
+after_reply settings gauge minute (Err f) s = after_fault minute (number_of f) (place_named f) s
 
 -- After polls, of which those of this address count.
 unfoldable pub shown_by : (settings gauge address : ℕ) → BoardShows → List Poll → BoardShows

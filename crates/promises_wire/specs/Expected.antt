@@ -1,17 +1,19 @@
 -- The listing and the list of records that polls are to give, made from what they say and where the saves were cut: no sheet, no slot's bytes and no line is
 -- spoken of.
 use Rattle.std.specs.Prelude.{Bool, ◌&&◌, List, [], ◌∷◌, ◌++◌, ℕ, suc, ◌+◌, ◌-◌, leb, ltb, length}
-use Rattle.frame.specs.declared.Reply.{Reply}
 use Rattle.frame.specs.Pick.{pick}
 use Rattle.sheet.specs.Record.{Entry}
 use Rattle.listing.specs.Text.{ascii, in_decimal}
 use Rattle.listing.specs.Lines.{reply_text}
 use Rattle.promises_wire.specs.Polls.{Poll, poll_entry}
+use Rattle.std.specs.Prelude.{Result}
+use Rattle.frame.specs.declared.faults.Fault.{Fault}
+use Rattle.frame.specs.declared.Reading.{Reading}
 
 -- What a depot knows of a save: the record with its minute, address and bits, what these say, and how many stores the save was given.
 pub record KnownSave : Type 0 where
   pub entry : Entry
-  pub says : Reply
+  pub says : Result Reading Fault
   pub given : ℕ
 
 -- A record has 11 stores besides the reply's bytes: version, settings, 4 of the minute, 2 of the address, the bit count, and 2 of the length.

@@ -1,7 +1,6 @@
 -- A month on one sheet, which was blank: mornings on which transmitters are polled and their replies are saved, by any of the four calls that save; and the power may
 -- go at any moment. A sheet that such a month left is taken on by going on with it.
 use Rattle.std.specs.Prelude.{List, [], ◌∷◌, ◌++◌, ℕ, ◌≤◌}
-use Rattle.sheet.specs.declared.Saved.{Saved}
 use Rattle.sheet.specs.Record.{Entry}
 use Rattle.sheet.specs.Save.{Saves}
 use Rattle.summary.specs.declared.Summary.{Summary}
@@ -18,6 +17,8 @@ use Rattle.promises_card.specs.Sheet.History.{blank_sheet}
 use Rattle.promises_wire.specs.Polls.{Poll, entry_for}
 use Rattle.promises_wire.specs.Heard.{HeardOnLines}
 use Rattle.promises_wire.specs.Expected.{Morning}
+use Rattle.std.specs.Prelude.{Result}
+use Rattle.frame.specs.declared.faults.Fault.{Fault}
 
 -- The replies of polls, each as it was heard after its poll.
 pub data Replies : List Poll → List Entry → Type 0 where
@@ -36,7 +37,7 @@ pub data Month (n : ℕ) : List Morning → List ℕ → Page → Type 0 where
   summed : {ms : List Morning} {sheet : List ℕ} {page : Page} (made : Made) → Month n ms sheet page → MakesSummary sheet made
       → Month n ms sheet (kept made.summary)
   -- One reply saved, or a round, without a summary: one that was held before is let go.
-  one_saved : {ms : List Morning} {sheet : List ℕ} {page : Page} (p : Poll) (e : Entry) (allowance : ℕ) (answer : Saved) (after : List ℕ)
+  one_saved : {ms : List Morning} {sheet : List ℕ} {page : Page} (p : Poll) (e : Entry) (allowance : ℕ) (answer : Result ℕ Fault) (after : List ℕ)
       → Month n ms sheet page → Replies (p ∷ []) (e ∷ []) → Saves sheet e allowance answer after
       → Month n (ms ++ morning (p ∷ []) allowance ∷ []) after none
   round_saved : {ms : List Morning} {sheet : List ℕ} {page : Page} (ps : List Poll) (r : Round) (allowance : ℕ) (answer : Rounded) (after : List ℕ)

@@ -1,6 +1,5 @@
 -- A poll as a depot knows it: what was asked, what was sensed on the two lines after it, and what the bits that these tell are read as.
 use Rattle.std.specs.Prelude.{◌≡◌, true, false, List, [], ◌∷◌, map, ℕ, ◌^◌, ◌<◌, ◌≤◌}
-use Rattle.frame.specs.declared.Reply.{Reply}
 use Rattle.frame.specs.Line.{formed}
 use Rattle.frame.specs.Reply.{ReadsReply}
 use Rattle.sheet.specs.Record.{Entry, entry_of}
@@ -9,6 +8,9 @@ use Rattle.lines.specs.Timing.{Timing, bad_timing}
 use Rattle.promises_frame.specs.Bits.{AreBytes}
 use Rattle.promises_lines.specs.History.{Said, bits_of}
 use Rattle.promises_lines.specs.Runs.{Run, spelled, InRuns, by_runs}
+use Rattle.std.specs.Prelude.{Result}
+use Rattle.frame.specs.declared.faults.Fault.{Fault}
+use Rattle.frame.specs.declared.Reading.{Reading}
 
 -- The timing numbers by which the answer is heard, the transmitter's settings, the minute, and the address that was polled.
 pub record Asked : Type 0 where
@@ -43,7 +45,7 @@ pub record SensedAndRead (q : Asked) (x : Sensed) : Type 0 where
   pub are_bytes : AreBytes bytes
   pub in-form : formed count bytes ≡ true
   pub bits_are : bits_of count bytes ≡ bits_sensed q.timing x.runs
-  pub says : Reply
+  pub says : Result Reading Fault
   pub reads : ReadsReply q.settings q.address count bytes says
 
 pub record Poll : Type 0 where

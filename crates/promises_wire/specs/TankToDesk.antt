@@ -1,7 +1,6 @@
 -- From the tank to the desk: whatever the lines, the batches and the power did, the desk shows what the transmitters said, poll by poll.
 use Rattle.std.specs.Prelude.{◌≡◌, List, [], ◌∷◌, ◌++◌, map, ℕ, ◌<◌, ◌≤◌, length, take}
 use Rattle.frame.specs.declared.Reading.{Reading}
-use Rattle.frame.specs.declared.Reply.TheVariants.{Read, Refused}
 use Rattle.frame.specs.Reply.{count_for}
 use Rattle.sheet.specs.Record.{Entry}
 use Rattle.listing.specs.Text.{ascii, in_decimal}
@@ -28,6 +27,8 @@ use Rattle.promises_wire.specs.Wire.{samples_of, evenly, Sent}
 use Rattle.promises_wire.specs.Expected.{says_text, records_for, listing_for, Morning, known_save, known_in}
 use Rattle.promises_wire.specs.Month.{Replies, Month}
 use Rattle.promises_wire.specs.Board.{OnTheBoard, shows_in, shown_by}
+use Rattle.std.specs.Prelude.{Ok, Err}
+use Rattle.frame.specs.Faults.{fault}
 
 -- Asked alike: the same timing, settings and address.
 pub record AskedAlike (p q : Asked) : Type 0 where
@@ -37,7 +38,7 @@ pub record AskedAlike (p q : Asked) : Type 0 where
 
 -- A poll says what was sent: its reading, in just the bits that were written.
 pub record SaysSo (x : Sent) (p : Poll) : Type 0 where
-  pub says : p.read.says ≡ Read x.reading
+  pub says : p.read.says ≡ Ok x.reading
   pub entry : poll_entry p ≡ entry_for p.asked (count_for x.reading) x.bytes
 
 -- What is listed of a poll is its minute and address, and then "fault".
@@ -115,7 +116,7 @@ pub record TankToDesk : Type 0 where
   -- Said so: where a reading that can be said was sent after a poll, drawn within the timing, that reading is what the poll says.
   pub said-so : (x : Sent) (p : Poll) → AskedAlike p.asked x.asked → p.sensed.samples ≡ samples_of x.drawing → SaysSo x p
   -- A silent or spoiled one says "fault 1".
-  pub silent : (p : Poll) → bits_sensed p.asked.timing p.sensed.runs ≡ [] → p.read.says ≡ Refused 1
+  pub silent : (p : Poll) → bits_sensed p.asked.timing p.sensed.runs ≡ [] → p.read.says ≡ Err (fault 1)
   -- One bit of what was sent changed: its line says "fault".
   pub one_bit : (x : Sent) (p : Poll) → AskedAlike p.asked x.asked → (other : List ℕ) (j : ℕ) → OneWrong x.bytes other (count_for x.reading) j
       → bits_sensed p.asked.timing p.sensed.runs ≡ bits_of (count_for x.reading) other

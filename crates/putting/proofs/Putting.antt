@@ -1,14 +1,23 @@
 -- Text put into an output, one part after another. Assumes nothing.
 use mathlib.Core.Path.{◌≡◌, refl, sym, ap, ◌∙◌}
-use mathlib.Core.List.{List, [], ◌∷◌, ◌++◌}
+use mathlib.Core.List.{List, [], ◌∷◌, ◌++◌, append_assoc}
 use Prim.Native.Nat.{ℕ, suc, ◌+◌, ◌<◌, ◌≤◌}
 use native.Mathlib.Nat.{add-zero, le_trans}
 use native.Mathlib.Numerals.{add-one}
 use native.Mathlib.Omega.{arith}
-use lib.ListN.{length, set, length-append}
+use lib.ListN.{length, set, take, drop, length-append}
 use lib.Seq.{sets, set_comm}
+use Rattle.std.proofs.lemmas.List.Edits.{sets-eq, paste_all}
+use Rattle.std.proofs.lemmas.Slice.{put_mid-paste}
+use borrow.Rule.Slice.PartMut.{put_mid}
 use Rattle.frame.proofs.Parts.{sets-append}
 use Rattle.putting.specs.Puts.{Puts}
+
+-- a word copied into its part of the output
+pub word_copied : (word out part : List ℕ) (at k : ℕ) → part ≡ word → k ≡ length word → at + length word ≤ length out → put_mid at k out part ≡ sets out at word
+word_copied word out part at k copied size fits =
+    put_mid-paste at k out part word k copied refl size ∙ paste_all out at word k size ∙ sym (append_assoc (take at out) word (drop (at + k) out))
+    ∙ ap (λ (n : ℕ). take at out ++ word ++ drop (at + n) out) size ∙ sym (sets-eq word out at fits)
 
 -- a byte put just before a text
 set_before : (vs l : List ℕ) (i k b : ℕ) → i < k → set (sets l k vs) i b ≡ sets (set l i b) k vs

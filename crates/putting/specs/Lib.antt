@@ -1,3 +1,4 @@
 -- What is put into an output, and what that leaves.
 pub mod Digit
 pub mod Puts
+pub mod Adds

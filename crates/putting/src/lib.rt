@@ -1,26 +1,31 @@
-// Bytes put into an output from a place on, one after another. Each call answers the place after what it put. The calls are for other crates, which see to
-// the room themselves; none is handed to a host.
+// Bytes put into an output, one after another. The methods are for other crates, which see to the room themselves; none is handed to a host.
 #![tactic(auto)]
 
-ghost use Rattle.std.specs.Prelude.{[], ◌∷◌, ◌+◌, ◌≤◌, ◌<◌, length};
-ghost use Rattle.putting.specs.Puts.{Puts};
+ghost use Rattle.std.specs.Prelude.{[], ◌∷◌, length};
+ghost use Rattle.putting.specs.Adds.{Adds, HasRoom};
 
-pub fn put_byte(out: &mut [u8], at: usize, byte: u8) -> usize
-    requires { at < length out.old }
-    ensures { Puts (byte ∷ []) 1 out.old at result out.new }
-{
-    out[at] = byte;
-    at + 1
+// An output, and the place up to which it is written.
+#[derive(Drop)]
+pub struct Text<'a> {
+    pub out: &'a mut [u8],
+    pub at: usize,
 }
 
-pub fn put_word(out: &mut [u8], at: usize, word: &[u8]) -> usize
-    requires { at + length word.now ≤ length out.old }
-    ensures { Puts word.now (length word.now) out.old at result out.new }
-{
-    let mut i = 0;
-    while i < word.len() {
-        out[at + i] = word[i];
-        i += 1;
+impl<'a> Text<'a> {
+    pub fn byte(&mut self, byte: u8)
+        requires { HasRoom self.old 1 }
+        ensures { Adds (byte ∷ []) 1 self.old self.new }
+    {
+        self.out[self.at] = byte;
+        self.at += 1;
     }
-    at + word.len()
+
+    pub fn word(&mut self, word: &[u8])
+        requires { HasRoom self.old (length word.now) }
+        ensures { Adds word.now (length word.now) self.old self.new }
+    {
+        let end = self.at + word.len();
+        self.out[self.at..end].copy_from_slice(word);
+        self.at = end;
+    }
 }

@@ -3,3 +3,5 @@ pub mod Turns
 pub mod Trying
 pub mod Lent
 pub mod Counting
+pub mod Thirty
+pub mod Refusing

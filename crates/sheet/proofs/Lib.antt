@@ -12,6 +12,7 @@ pub mod Records
 pub mod Seen
 pub mod Storing
 pub mod Refusals
+pub mod SaveNumbers
 -- Where stores go, the slot that a save takes, the last used slot, and one save.
 pub mod StorePlaces
 pub mod TakenSlot

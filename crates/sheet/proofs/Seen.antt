@@ -16,8 +16,6 @@ use Rattle.sheet.specs.declared.Found.{Found}
 use Rattle.sheet.specs.declared.Found.TheVariants.{Blank, Spoiled, Foreign, Record, Refused}
 use Rattle.sheet.specs.declared.Head.{Head}
 use Rattle.sheet.specs.declared.Looked.{Looked}
-use Rattle.sheet.specs.declared.view.Counted.{Counted}
-use Rattle.sheet.specs.declared.view.Counted.TheVariants as counted
 use Rattle.sheet.specs.Bytes.{FF, all_blank}
 use Rattle.sheet.specs.Record.{is_record, fields_of}
 use Rattle.sheet.specs.Slots.{Slot, blank, spoiled, foreign, holds, size_allowed, slots, slot_at, slot_of, record_in, list_up_to}
@@ -25,6 +23,9 @@ use Rattle.sheet.specs.Look.{Looks, look_told, head_of, entry_with, record_told}
 use Rattle.sheet.specs.View.{Counts, slots_counted}
 use Rattle.sheet.proofs.Records.{record-passes, passes-formed, formed-few}
 use Rattle.sheet.proofs.SlotParts.{look-within}
+use Rattle.std.specs.Prelude.{Result, Ok, Err}
+use Rattle.frame.specs.declared.faults.Fault.{Fault}
+use Rattle.frame.specs.Faults.{fault}
 
 abbrev bits_told : Found → ℕ
 bits_told Blank = 0
@@ -82,23 +83,24 @@ few-slots s h = go (eqb (length s % 32) 0) (leb (length s) 65536) refl h
     go true false e q = let z : ◌≡◌ {A = ℕ} 0 1 = cc in absurd (omega arith)
     go false b e q = let z : ◌≡◌ {A = ℕ} 0 1 = cc in absurd (omega arith)
 
-by_size : (s : List ℕ) (a : Bool) → size_allowed s ≡ a → slots_counted s ≡ pick a (counted.Slots (slots s)) (counted.Refused 12)
+by_size : (s : List ℕ) (a : Bool) → size_allowed s ≡ a → slots_counted s ≡ pick a (Ok (slots s)) (Err (fault 12))
 unfolding slots_counted
 by_size s a e = simp e
 
-module _ (s : List ℕ) (answer : Counted) (n : ℕ) (counts : Counts s answer) where
+module _ (s : List ℕ) (answer : Result ℕ Fault) (n : ℕ) (counts : Counts s answer) where
   -- slots were told: the size is allowed, and those are its slots
-  pub told-slots : answer ≡ counted.Slots n → (size_allowed s ≡ true) × (n ≡ slots s)
+  pub told-slots : answer ≡ Ok n → (size_allowed s ≡ true) × (n ≡ slots s)
   told-slots e = go (size_allowed s) refl
     where
       go : (a : Bool) → size_allowed s ≡ a → (size_allowed s ≡ true) × (n ≡ slots s)
       go true q = let told = sym e ∙ counts.answers ∙ by_size s true q in (q, cc)
       go false q = let told = sym e ∙ counts.answers ∙ by_size s false q in let z : ◌≡◌ {A = ℕ} 0 1 = cc in absurd (omega arith)
 
-  -- refused: the size is not allowed, and the number is 12
-  pub told-refused : answer ≡ counted.Refused n → (size_allowed s ≡ false) × (n ≡ 12)
+module _ (s : List ℕ) (answer : Result ℕ Fault) (f : Fault) (counts : Counts s answer) where
+  -- refused: the size is not allowed, and the fault is 12
+  pub told-refused : answer ≡ Err f → (size_allowed s ≡ false) × (f ≡ fault 12)
   told-refused e = go (size_allowed s) refl
     where
-      go : (a : Bool) → size_allowed s ≡ a → (size_allowed s ≡ false) × (n ≡ 12)
+      go : (a : Bool) → size_allowed s ≡ a → (size_allowed s ≡ false) × (f ≡ fault 12)
       go true q = let told = sym e ∙ counts.answers ∙ by_size s true q in let z : ◌≡◌ {A = ℕ} 0 1 = cc in absurd (omega arith)
       go false q = let told = sym e ∙ counts.answers ∙ by_size s false q in (q, cc)

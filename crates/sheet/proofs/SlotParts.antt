@@ -6,6 +6,7 @@ use Prim.Native.Nat.{ℕ, ◌<◌, ◌≤◌}
 use native.Mathlib.Omega.{arith}
 use borrow.Author.Tests.{lt-ltb, ne_eqb}
 use lib.ListN.{length, length-take, length-drop}
+use Rattle.frame.specs.Faults.{fault}
 use Rattle.sheet.specs.declared.Found.TheVariants.{Refused}
 use Rattle.sheet.specs.Slots.{size_allowed, slots, slot_at, slot_of}
 use Rattle.sheet.specs.Look.{bare, look_told, part_of, look_of}
@@ -20,7 +21,7 @@ slot-short s k far long =
     omega arith
 
 -- any other part is no slot
-pub no_slot : (x : List ℕ) → (length x ≡ 32 → ⊥) → part_of x ≡ bare (Refused 12)
+pub no_slot : (x : List ℕ) → (length x ≡ 32 → ⊥) → part_of x ≡ bare (Refused (fault 12))
 unfolding part_of
 no_slot x h = simp (ne_eqb (length x) 32 h)
 

@@ -1,6 +1,7 @@
 -- Document 01, "The month sheet": what a look at a slot answers.
 use Rattle.std.specs.Prelude.{◌≡◌, ◌&&◌, List, [], ◌∷◌, ◌++◌, ℕ, ◌-◌, eqb, ltb, length, take, replicate}
 use Rattle.frame.specs.Pick.{pick}
+use Rattle.frame.specs.Faults.{number_of, fault}
 use Rattle.frame.specs.Line.{bytes_for}
 use Rattle.sheet.specs.declared.Head.{Head}
 use Rattle.sheet.specs.declared.Found.{Found}
@@ -29,11 +30,11 @@ look_told (holds e) = record { found = Record (head_of e); reply = e.reply ++ re
 
 -- A part of a sheet that is read as a slot has 32 bytes; any other is refused.
 unfoldable pub part_of : List ℕ → Looked
-part_of x = pick (eqb (length x) 32) (look_told (slot_of x)) (bare (Refused 12))
+part_of x = pick (eqb (length x) 32) (look_told (slot_of x)) (bare (Refused (fault 12)))
 
 -- Looking at a slot: 12 where the sheet's size is not allowed or the slot lies beyond the last.
 unfoldable pub look_of : List ℕ → ℕ → Looked
-look_of s k = pick (size_allowed s && ltb k (slots s)) (look_told (slot_of (slot_at s k))) (bare (Refused 12))
+look_of s k = pick (size_allowed s && ltb k (slots s)) (look_told (slot_of (slot_at s k))) (bare (Refused (fault 12)))
 
 -- What `look` answers.
 pub record Looks (sheet : List ℕ) (slot : ℕ) (answer : Looked) : Type 0 where
@@ -45,7 +46,7 @@ found_number Blank = 0
 found_number Spoiled = 0
 found_number Foreign = 0
 found_number (Record h) = 0
-found_number (Refused n) = n
+found_number (Refused f) = number_of f
 
 -- The records that an answer tells: one, whole, or none.
 abbrev pub record_told : Found → List ℕ → List Entry
@@ -54,4 +55,4 @@ record_told Spoiled r = []
 record_told Foreign r = []
 record_told (Record h) r =
     entry_with h (take (bytes_for h.count) r) ∷ []
-record_told (Refused n) r = []
+record_told (Refused f) r = []

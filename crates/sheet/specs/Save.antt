@@ -1,9 +1,8 @@
 -- Document 01, "The month sheet" and "Fault numbers": what a save answers, and the sheet after it.
-use Rattle.std.specs.Prelude.{◌≡◌, not, List, [], ◌∷◌, ◌++◌, ℕ, ◌+◌, min, eqb, leb}
+use Rattle.std.specs.Prelude.{◌≡◌, Result, Ok, Err, not, List, [], ◌∷◌, ◌++◌, ℕ, ◌+◌, min, eqb, leb}
 use Rattle.frame.specs.Pick.{pick}
-use Rattle.frame.specs.Faults.{◌gives◌, first_of}
-use Rattle.sheet.specs.declared.Saved.{Saved}
-use Rattle.sheet.specs.declared.Saved.TheVariants.{Stores, Refused}
+use Rattle.frame.specs.declared.faults.Fault.{Fault}
+use Rattle.frame.specs.Faults.{◌gives◌, first_of, number_of, verdict}
 use Rattle.sheet.specs.Record.{Entry, checks, length_of}
 use Rattle.sheet.specs.Slots.{size_allowed, slots, next}
 use Rattle.sheet.specs.Stores.{after}
@@ -19,15 +18,15 @@ save_fault s e = into_fault s (next s) e
 
 -- What `save` answers, and the sheet after it: the stores made, the smaller of the allowance and length plus 2, and exactly those; or the
 -- refusal's number, and the sheet as it was.
-pub record Saves (sheet : List ℕ) (e : Entry) (allowance : ℕ) (answer : Saved) (left : List ℕ) : Type 0 where
-  pub answers : answer ≡ pick (eqb (save_fault sheet e) 0) (Stores (min allowance (length_of e + 2))) (Refused (save_fault sheet e))
+pub record Saves (sheet : List ℕ) (e : Entry) (allowance : ℕ) (answer : Result ℕ Fault) (left : List ℕ) : Type 0 where
+  pub answers : answer ≡ verdict (save_fault sheet e) (min allowance (length_of e + 2))
   pub leaves : left ≡ pick (eqb (save_fault sheet e) 0) (after sheet e allowance) sheet
 
 -- The paper's number of an answer, 0 where nothing is refused, and the stores made.
-abbrev pub saved_number : Saved → ℕ
-saved_number (Stores n) = 0
-saved_number (Refused n) = n
+abbrev pub saved_number : Result ℕ Fault → ℕ
+saved_number (Ok n) = 0
+saved_number (Err f) = number_of f
 
-abbrev pub stores_made : Saved → ℕ
-stores_made (Stores n) = n
-stores_made (Refused n) = 0
+abbrev pub stores_made : Result ℕ Fault → ℕ
+stores_made (Ok n) = n
+stores_made (Err f) = 0

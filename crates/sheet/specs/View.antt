@@ -1,19 +1,19 @@
 -- Document 01, "The sheet is seen through a view of the lent bytes, one slot at a time".
-use Rattle.std.specs.Prelude.{◌≡◌, List, [], ℕ, ◌/◌, ltb, length}
+use Rattle.std.specs.Prelude.{◌≡◌, Result, Ok, Err, List, [], ℕ, ◌/◌, ltb, length}
 use Rattle.std.specs.Borrow.{Bor}
 use Rattle.frame.specs.Pick.{pick}
 use Rattle.sheet.specs.declared.Looked.{Looked}
 use Rattle.sheet.specs.declared.view.Sheet.{Sheet}
-use Rattle.sheet.specs.declared.view.Counted.{Counted}
-use Rattle.sheet.specs.declared.view.Counted.TheVariants.{Slots, Refused}
+use Rattle.frame.specs.declared.faults.Fault.{Fault}
+use Rattle.frame.specs.Faults.{number_of, fault}
 use Rattle.sheet.specs.Slots.{length_allowed, size_allowed, slots, slot_at}
 use Rattle.sheet.specs.Look.{part_of}
 
 -- What `count_slots` answers: the slots of a sheet, or 12 where its size is not allowed.
-unfoldable pub slots_counted : List ℕ → Counted
-slots_counted s = pick (size_allowed s) (Slots (slots s)) (Refused 12)
+unfoldable pub slots_counted : List ℕ → Result ℕ Fault
+slots_counted s = pick (size_allowed s) (Ok (slots s)) (Err (fault 12))
 
-pub record Counts (sheet : List ℕ) (answer : Counted) : Type 0 where
+pub record Counts (sheet : List ℕ) (answer : Result ℕ Fault) : Type 0 where
   pub answers : answer ≡ slots_counted sheet
 
 -- The slots that so many bytes make: none where the size is not allowed.
@@ -34,10 +34,10 @@ pub record Sees (bytes : List ℕ) (slots slot : ℕ) (answer : Looked) : Type 0
   pub answers : answer ≡ seen_of bytes slots slot
 
 -- The paper's number of an answer, 0 where nothing is refused, and the slots that it tells.
-abbrev pub counted_number : Counted → ℕ
-counted_number (Slots n) = 0
-counted_number (Refused n) = n
+abbrev pub counted_number : Result ℕ Fault → ℕ
+counted_number (Ok n) = 0
+counted_number (Err f) = number_of f
 
-abbrev pub slots_told : Counted → ℕ
-slots_told (Slots n) = n
-slots_told (Refused n) = 0
+abbrev pub slots_told : Result ℕ Fault → ℕ
+slots_told (Ok n) = n
+slots_told (Err f) = 0

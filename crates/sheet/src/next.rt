@@ -1,47 +1,25 @@
 // Finding the slot that a save goes to.
-ghost use Rattle.std.specs.Prelude.{◌≡◌, ◌-◌, ◌≤◌};
+ghost use Rattle.std.specs.Prelude.{◌≡◌, ◌<◌, ◌≤◌};
 ghost use Rattle.sheet.specs.Slots.{slots, next};
-ghost use Rattle.sheet.specs.Inside.Passing.{Passes, StopsAt};
+ghost use Rattle.sheet.specs.Inside.Passing.{StopsAt};
 
 use crate::bytes::blank;
 
-// The first of the last eight slots.
-fn eight_before(slots: usize) -> usize
-    ensures { result ≡ slots - 8 }
-{
-    if 8 < slots { slots - 8 } else { 0 }
-}
-
-// Passes over the blank slots that end the first `from`, one by one, but not below `low`. Answers how many slots are left.
-fn pass_slots(sheet: &[u8], from: usize, low: usize) -> usize
+// Passes over the blank slots that end the first `from`, MANY at a time, but not below `low`. Answers how many slots are left. A part of MANY slots has a
+// constant size, so it is tested by a few wide operations. The count goes down by MANY, and it is the answer, so a `for` over parts would be no plainer.
+fn pass<const MANY: usize>(sheet: &[u8], from: usize, low: usize) -> usize
+    requires some { 0 < MANY }
     requires low_le_from { low ≤ from }
     requires from_bound { from ≤ slots sheet.now }
-    ensures { StopsAt sheet.now from low result }
+    ensures { StopsAt sheet.now MANY from low result }
 {
     let mut k = from;
-    while low < k {
-        let slot = k - 1;
-        let at = 32 * slot;
-        if !blank(&sheet[at..at + 32]) {
-            return slot + 1;
-        }
-        k -= 1;
-    }
-    low
-}
-
-// Passes over the blank slots that end the first `from`, eight at a time: a part of that size is tested by a few wide operations.
-fn pass_blocks(sheet: &[u8], from: usize) -> usize
-    requires { from ≤ slots sheet.now }
-    ensures { Passes sheet.now from result }
-{
-    let mut k = from;
-    while 8 <= k {
-        let at = 32 * (k - 8);
-        if !blank(&sheet[at..at + 256]) {
+    while MANY <= k - low {
+        let at = 32 * (k - MANY);
+        if !blank(&sheet[at..at + 32 * MANY]) {
             return k;
         }
-        k -= 8;
+        k -= MANY;
     }
     k
 }
@@ -52,10 +30,11 @@ pub fn next_slot(sheet: &[u8]) -> usize
     ensures { result ≡ next sheet.now }
 {
     let slots = sheet.len() / 32;
-    let low = eight_before(slots);
-    let near = pass_slots(sheet, slots, low);
+    let low = slots.saturating_sub(8);
+    let near = pass::<1>(sheet, slots, low);
     if low < near {
         return near;
     }
-    pass_slots(sheet, pass_blocks(sheet, near), 0)
+    let far = pass::<8>(sheet, near, 0);
+    pass::<1>(sheet, far, 0)
 }

@@ -5,14 +5,15 @@ ghost use Rattle.sheet.specs.Look.{part_of, bare};
 use crate::record::{head_in, is_record, reply_in};
 use crate::words::blank_slot;
 use crate::{Found, Looked};
+use frame::Fault;
 
 // An answer without reply bytes.
-pub(crate) fn no_reply(found: Found) -> Looked
+pub(crate) fn bare(found: Found) -> Looked
     ensures { result ≡ bare found }
 {
     Looked {
-        found: found,
-        reply: [0u8; 8],
+        found,
+        reply: [0; 8],
     }
 }
 
@@ -20,22 +21,20 @@ pub(crate) fn no_reply(found: Found) -> Looked
 pub(crate) fn read_slot(part: &[u8]) -> Looked
     ensures { result ≡ part_of part.now }
 {
-    if part.len() != 32 {
-        return no_reply(Found::Refused(12));
-    }
+    let Ok(part) = <&[u8; 32]>::try_from(part) else {
+        return bare(Found::Refused(Fault::NoSheet));
+    };
     if part[0] == 0xff {
-        if blank_slot(part) {
-            return no_reply(Found::Blank);
-        }
-        return no_reply(Found::Spoiled);
+        let blank = blank_slot(part);
+        return bare(if blank { Found::Blank } else { Found::Spoiled });
     }
-    if is_record(part) {
-        let head = head_in(part);
-        let reply = reply_in(part, head.count);
-        return Looked {
-            found: Found::Record(head),
-            reply: reply,
-        };
+    if !is_record(part) {
+        return bare(Found::Foreign);
     }
-    no_reply(Found::Foreign)
+    let head = head_in(part);
+    let reply = reply_in(part, head.count);
+    Looked {
+        found: Found::Record(head),
+        reply,
+    }
 }

@@ -1,5 +1,5 @@
 // The stores of a save, made one after another.
-ghost use Rattle.std.specs.Prelude.{◌≡◌, [], ◌∷◌, ◌+◌, ◌-◌, ◌≤◌, ◌<◌, min, length, set, take};
+ghost use Rattle.std.specs.Prelude.{◌≡◌, [], ◌∷◌, ◌+◌, ◌≤◌, ◌<◌, length, set, take};
 ghost use Rattle.sheet.specs.Record.{after_length};
 ghost use Rattle.sheet.specs.Stores.{◌puts◌, made, ascending};
 ghost use Rattle.sheet.specs.Look.{entry_with};
@@ -15,43 +15,14 @@ fn store(sheet: &mut [u8], place: usize, byte: u8)
     sheet[place] = byte;
 }
 
-fn smaller(a: usize, b: usize) -> usize
-    ensures { result ≡ min a b }
-{
-    if a < b { a } else { b }
-}
-
-// What is left of an allowance after so many stores.
-fn left_after(allowance: usize, stores: usize) -> usize
-    ensures { result ≡ allowance - stores }
-{
-    if stores < allowance {
-        allowance - stores
-    } else {
-        0
-    }
-}
-
 // The bytes of a record between its length and its reply.
 pub fn before_reply(head: Head) -> [u8; 9]
     requires { head.count ≤ 64 }
     ensures { result ≡ after_length (entry_with head []) }
 {
-    let settings = head.settings;
-    let minute = head.minute;
-    let address = head.address;
-    let count = head.count;
-    [
-        1u8,
-        settings,
-        ((minute >> 24) % 256) as u8,
-        ((minute >> 16) % 256) as u8,
-        ((minute >> 8) % 256) as u8,
-        (minute % 256) as u8,
-        ((address >> 8) % 256) as u8,
-        (address % 256) as u8,
-        count as u8,
-    ]
+    let [m0, m1, m2, m3] = head.minute.to_be_bytes();
+    let [a0, a1] = head.address.to_be_bytes();
+    [1, head.settings, m0, m1, m2, m3, a0, a1, head.count as u8]
 }
 
 // Stores the first `many` bytes of a row, ascending from a place. Each turn has its own test, and the loop ends at a constant: so the compiler writes the
@@ -62,12 +33,10 @@ fn store_row(sheet: &mut [u8], at: usize, row: &[u8], many: usize)
     requires many_in_bounds_2 { at + many ≤ length sheet.old }
     ensures { sheet.new ≡ made sheet.old (take many (ascending at row.now)) }
 {
-    let mut i = 0;
-    while i < 9 {
+    for i in 0..9 {
         if i < many {
             store(sheet, at + i, row[i]);
         }
-        i += 1;
     }
 }
 
@@ -77,14 +46,12 @@ fn store_length(sheet: &mut [u8], at: usize, size: usize, many: usize)
     requires at_in_bounds { at + 2 ≤ length sheet.old }
     ensures { sheet.new ≡ made sheet.old (take many ((at + 1) puts size ∷ at puts 0 ∷ [])) }
 {
-    if many == 0 {
-        return;
+    if 0 < many {
+        store(sheet, at + 1, size as u8);
     }
-    store(sheet, at + 1, size as u8);
-    if many == 1 {
-        return;
+    if 1 < many {
+        store(sheet, at, 0);
     }
-    store(sheet, at, 0);
 }
 
 // Makes a record's first stores into the slot that begins at `at`, as many as are allowed, and answers how many: from the version on, ascending; then the
@@ -103,9 +70,9 @@ pub(crate) fn make_stores(
 {
     let bytes = before_reply(head);
     let size = 9 + reply.len();
-    let of_reply = left_after(allowance, 9);
-    store_row(sheet, at + 2, &bytes, smaller(allowance, 9));
-    store_row(sheet, at + 11, reply, smaller(of_reply, reply.len()));
-    store_length(sheet, at, size, left_after(allowance, size));
-    smaller(allowance, size + 2)
+    let of_reply = allowance.saturating_sub(9);
+    store_row(sheet, at + 2, &bytes, allowance.min(9));
+    store_row(sheet, at + 11, reply, of_reply.min(reply.len()));
+    store_length(sheet, at, size, allowance.saturating_sub(size));
+    allowance.min(size + 2)
 }

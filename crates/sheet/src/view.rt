@@ -3,29 +3,15 @@
 ghost use Rattle.std.specs.Prelude.{◌≡◌};
 ghost use Rattle.sheet.specs.Look.{Looks};
 ghost use Rattle.sheet.specs.View.{Opens, Counts, Sees, slots_for};
-ghost use Rattle.sheet.specs.Inside.Span.{span_of};
 
-use crate::slot::read_slot;
-use crate::{Looked, size_allowed};
+use crate::slot::{bare, read_slot};
+use crate::{Found, Looked, size_allowed};
+use frame::Fault;
 
 #[derive(Clone, Copy)]
 pub struct Sheet<'a> {
     pub bytes: &'a [u8],
     pub slots: usize,
-}
-
-// How many slots a sheet has, or the number of the refusal.
-#[derive(Clone, Copy)]
-pub enum Counted {
-    Slots(usize),
-    Refused(u8),
-}
-
-// The bytes from one place of a sheet to another.
-#[derive(Clone, Copy)]
-struct Span {
-    from: usize,
-    to: usize,
 }
 
 // The slots that so many bytes make: none where a sheet may not have that size.
@@ -35,31 +21,14 @@ fn slots_for(len: usize) -> usize
     if size_allowed(len) { len / 32 } else { 0 }
 }
 
-// Where a slot lies. A slot that the view does not count, or whose 32 bytes are not there, lies nowhere: its part is empty, and the slot reader
-// refuses it. So a view whose count of slots is wrong reads nothing outside its bytes.
-fn span_of(len: usize, slots: usize, slot: usize) -> Span
-    ensures { result ≡ span_of len slots slot }
-{
-    if slot < slots {
-        if slot < len / 32 {
-            let at = 32 * slot;
-            return Span {
-                from: at,
-                to: at + 32,
-            };
-        }
-    }
-    Span { from: 0, to: 0 }
-}
-
 // How many slots a sheet has. Refuses by 12.
-pub fn count_slots(bytes: &[u8]) -> Counted
+pub fn count_slots(bytes: &[u8]) -> Result<usize, Fault>
     ensures { Counts bytes.now result }
 {
     if size_allowed(bytes.len()) {
-        Counted::Slots(bytes.len() / 32)
+        Ok(bytes.len() / 32)
     } else {
-        Counted::Refused(12)
+        Err(Fault::NoSheet)
     }
 }
 
@@ -71,14 +40,17 @@ pub fn open<'a>(bytes: &'a [u8]) -> Sheet<'a>
     Sheet { bytes, slots }
 }
 
-// What a slot of the view reads as. Refuses by 12.
+// What a slot of the view reads as. Refuses by 12 a slot that the view does not count, or whose 32 bytes are not there: so a view whose count of slots is
+// wrong reads nothing outside its bytes.
 pub fn slot_in<'a>(sheet: Sheet<'a>, slot: usize) -> Looked
     ensures { Sees sheet.entry.bytes.now sheet.entry.slots slot result }
 {
-    let span = span_of(sheet.bytes.len(), sheet.slots, slot);
-    let from = span.from;
-    let to = span.to;
-    read_slot(&sheet.bytes[from..to])
+    if slot < sheet.slots && slot < sheet.bytes.len() / 32 {
+        let at = 32 * slot;
+        read_slot(&sheet.bytes[at..at + 32])
+    } else {
+        bare(Found::Refused(Fault::NoSheet))
+    }
 }
 
 // What a slot of a sheet reads as, seen through its view: for callers that have the sheet's bytes. Refuses by 12.

@@ -8,9 +8,9 @@ mod sites;
 use std::io;
 
 fn main(rt: HostRuntime) -> io::Result<()> {
-    print::words(&rt, b"proposed plans\n")?;
+    println!(rt; "proposed plans")?;
     sites::small(&rt)?;
     sites::alike(&rt)?;
-    print::words(&rt, b"a fitter's plans for 5000/0 5000/0 1/0\n")?;
+    println!(rt; "a fitter's plans for 5000/0 5000/0 1/0")?;
     sites::drawn(&rt)
 }

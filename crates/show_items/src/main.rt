@@ -8,13 +8,13 @@ mod vectors;
 use std::io;
 
 fn main(rt: HostRuntime) -> io::Result<()> {
-    print::words(&rt, b"asked and answered\n")?;
+    println!(rt; "asked and answered")?;
     vectors::kinds(&rt)?;
-    print::words(&rt, b"the ends of each range\n")?;
+    println!(rt; "the ends of each range")?;
     vectors::ends(&rt)?;
-    print::words(&rt, b"refused when written\n")?;
+    println!(rt; "refused when written")?;
     vectors::unwritten(&rt)?;
-    print::words(&rt, b"refused when read\n")?;
+    println!(rt; "refused when read")?;
     vectors::unframed(&rt)?;
     vectors::no_item(&rt)
 }

@@ -1,96 +1,115 @@
 // An item record shown: the bytes that it is written as, and what they read as.
 use enraf::ItemTold;
-use std::io;
+use print::{FaultNumber, Hex};
+use std::{fmt, io};
 
-fn fault(rt: &impl Print, number: u8) -> io::Result<()> {
-    print::words(rt, b" fault ")?;
-    print::number(rt, number as u64)?;
-    print::words(rt, b"\n")
+// What a record is: the item alone, a setting, and so on. The discriminant is the number that the calls take and answer.
+#[derive(Clone, Copy, PartialEq, Eq)]
+pub(crate) enum Kind {
+    Alone = 1,
+    Setting = 2,
+    Taken = 3,
+    SettingTaken = 4,
+    Value = 5,
+    Error = 6,
+    None = 7,
 }
 
-fn kind(rt: &impl Print, kind: u8) -> io::Result<()> {
-    match kind {
-        1 => print::words(rt, b" alone"),
-        2 => print::words(rt, b" setting"),
-        3 => print::words(rt, b" taken"),
-        4 => print::words(rt, b" setting taken"),
-        5 => print::words(rt, b" value"),
-        6 => print::words(rt, b" error"),
-        _ => print::words(rt, b" ?"),
+impl From<u8> for Kind {
+    fn from(number: u8) -> Kind {
+        match number {
+            1 => Kind::Alone,
+            2 => Kind::Setting,
+            3 => Kind::Taken,
+            4 => Kind::SettingTaken,
+            5 => Kind::Value,
+            6 => Kind::Error,
+            _ => Kind::None,
+        }
     }
 }
 
-// The first k characters of an item's data.
-fn data(rt: &impl Print, characters: [u8; 16], k: usize) -> io::Result<()> {
-    print::words(rt, print::first(&characters, k))
+impl fmt::Display for Kind {
+    fn fmt<W: fmt::Write>(&self, f: &mut fmt::Formatter<W>) -> fmt::Result {
+        f.write_str(match self {
+            Kind::Alone => "alone",
+            Kind::Setting => "setting",
+            Kind::Taken => "taken",
+            Kind::SettingTaken => "setting taken",
+            Kind::Value => "value",
+            Kind::Error => "error",
+            Kind::None => "?",
+        })
+    }
+}
+
+// A record that is written.
+#[derive(Clone, Copy)]
+pub(crate) struct Item<'a> {
+    pub(crate) ciu: u16,
+    pub(crate) gauge: u16,
+    pub(crate) letters: &'a [u8; 2],
+    pub(crate) kind: Kind,
+    pub(crate) error: u16,
+    pub(crate) characters: &'a [u8],
 }
 
 // What an accepted record tells, in words.
-fn told(rt: &impl Print, t: ItemTold) -> io::Result<()> {
-    let letters = [t.first, t.second];
-    let characters = t.characters;
-    print::words(rt, b" CIU ")?;
-    print::number(rt, t.ciu as u64)?;
-    print::words(rt, b" gauge ")?;
-    print::number(rt, t.gauge as u64)?;
-    print::words(rt, b" item ")?;
-    print::words(rt, &letters)?;
-    kind(rt, t.kind)?;
-    if t.length != 0 {
-        print::words(rt, b" \"")?;
-        data(rt, characters, t.length as usize)?;
-        print::words(rt, b"\"")?;
+fn told(rt: &impl Print, item: ItemTold) -> io::Result<()> {
+    let kind = Kind::from(item.kind);
+    let (first, second) = (char::from(item.first), char::from(item.second));
+    print!(rt;
+        " CIU {} gauge {} item {first}{second} {kind}",
+        item.ciu, item.gauge
+    )?;
+    if item.length != 0 {
+        print!(rt; " \"")?;
+        rt.write_all(&item.characters[..16.min(usize::from(item.length))])?;
+        print!(rt; "\"")?;
     }
-    if t.kind == 6 {
-        print::words(rt, b" ")?;
-        print::number(rt, t.error as u64)?;
+    if kind == Kind::Error {
+        print!(rt; " {}", item.error)?;
     }
-    print::words(rt, b"\n")
+    println!(rt)
 }
 
-fn answer(rt: &impl Print, t: ItemTold) -> io::Result<()> {
-    if t.number != 0 {
-        fault(rt, t.number)
-    } else {
-        told(rt, t)
+fn answer(rt: &impl Print, item: ItemTold) -> io::Result<()> {
+    if item.number != 0 {
+        return println!(rt; " {}", FaultNumber(item.number));
     }
+    told(rt, item)
 }
 
 // Writes an item, prints the bytes, reads them back and prints what they tell.
-pub(crate) fn both_ways(
-    rt: &impl Print,
-    ciu: u16,
-    gauge: u16,
-    letters: &[u8; 2],
-    kind: u8,
-    error: u16,
-    data: &[u8],
-) -> io::Result<()> {
+pub(crate) fn both_ways(rt: &impl Print, item: Item<'_>) -> io::Result<()> {
+    let Item {
+        ciu,
+        gauge,
+        letters: [first, second],
+        kind,
+        error,
+        characters,
+    } = item;
     let mut out = [0u8; 28];
     let done = enraf::sisal_write_item(
-        ciu, gauge, letters[0], letters[1], kind, error, data, &mut out,
+        ciu, gauge, *first, *second, kind as u8, error, characters, &mut out,
     );
-    let count = done.count;
     if done.number != 0 {
-        print::words(rt, b"write")?;
-        return fault(rt, done.number);
+        return println!(rt; "write {}", FaultNumber(done.number));
     }
-    print::words(rt, b"write")?;
-    print::bytes(rt, print::first(&out, count))?;
-    print::words(rt, b"\n read")?;
-    answer(rt, enraf::sisal_read_item(print::first(&out, count)))
+    let written = &out[..28.min(done.count)];
+    print!(rt; "write{}\n read", Hex(written))?;
+    answer(rt, enraf::sisal_read_item(written))
 }
 
 // An output of nine bytes is one too few for any record.
 pub(crate) fn no_room(rt: &impl Print) -> io::Result<()> {
     let mut out = [0u8; 9];
     let done = enraf::sisal_write_item(5, 1, b'B', b'L', 1, 0, b"", &mut out);
-    print::words(rt, b"write")?;
-    fault(rt, done.number)
+    println!(rt; "write {}", FaultNumber(done.number))
 }
 
-pub(crate) fn read(rt: &impl Print, name: &[u8], bytes: &[u8]) -> io::Result<()> {
-    print::words(rt, name)?;
-    print::words(rt, b":")?;
+pub(crate) fn read(rt: &impl Print, name: &str, bytes: &[u8]) -> io::Result<()> {
+    print!(rt; "{name}:")?;
     answer(rt, enraf::sisal_read_item(bytes))
 }

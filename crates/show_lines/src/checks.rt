@@ -1,96 +1,98 @@
 // The checks of the lines' rules, as request 01 works them out.
-ghost use Rattle.std.specs.Prelude.{◌≤◌};
-
-use crate::{draw, words};
+use crate::draw::{BEGINNING, picture};
+use crate::words::{State, Told};
 use lines::SoFar;
-use std::io;
+use std::{fmt, io};
 
-// One call, and what it told. Answers the state after.
-fn check(
-    rt: &impl Print,
-    s: SoFar,
+// The timing numbers of a call: the least and the most samples of a pulse, and the samples of the gap.
+#[derive(Clone, Copy)]
+struct Timing {
     least: usize,
     most: usize,
     gap: usize,
-    samples: &[u8],
-) -> io::Result<SoFar> {
+}
+
+// The timing of most checks, and the one that lets a pulse be short.
+const USUAL: Timing = Timing {
+    least: 2,
+    most: 3,
+    gap: 4,
+};
+
+const SHORT: Timing = Timing { least: 1, ..USUAL };
+
+impl fmt::Display for Timing {
+    fn fmt<W: fmt::Write>(&self, f: &mut fmt::Formatter<W>) -> fmt::Result {
+        write!(f, "{} {} {}", self.least, self.most, self.gap)
+    }
+}
+
+// One call, and what it told. Answers the state after.
+fn check(rt: &impl Print, s: SoFar, timing: Timing, samples: &[u8]) -> io::Result<SoFar> {
+    let Timing { least, most, gap } = timing;
     let told = lines::sisal_hear_lines(s, least, most, gap, samples);
-    words::numbers(rt, least, most, gap)?;
-    words::told(rt, told)?;
-    words::taken_of(rt, told.taken, samples.len())?;
-    words::state(rt, told.so_far)?;
+    print!(rt;
+        "{timing}: {}; {} of {}",
+        Told(&told),
+        told.taken,
+        samples.len()
+    )?;
+    println!(rt; "; {}", State(told.so_far))?;
     Ok(told.so_far)
 }
 
-// The first of the samples drawn.
-fn front(
-    rt: &impl Print,
-    s: SoFar,
-    least: usize,
-    most: usize,
-    gap: usize,
-    samples: [u8; 356],
-    size: usize,
-) -> io::Result<SoFar> {
-    check(rt, s, least, most, gap, print::first(&samples, size))
-}
-
 // The samples of a picture.
-fn picture(
-    rt: &impl Print,
-    s: SoFar,
-    least: usize,
-    most: usize,
-    gap: usize,
-    letters: &[u8],
-) -> io::Result<SoFar> {
-    let mut samples = [0u8; 356];
-    draw::picture(letters, &mut samples);
-    front(rt, s, least, most, gap, samples, letters.len())
+fn drawn(rt: &impl Print, s: SoFar, timing: Timing, letters: &str) -> io::Result<SoFar> {
+    check(rt, s, timing, &picture(letters)[..letters.len().min(356)])
 }
 
-fn fresh(rt: &impl Print, least: usize, most: usize, gap: usize, letters: &[u8]) -> io::Result<()> {
-    picture(rt, draw::beginning(), least, most, gap, letters)?;
+fn fresh(rt: &impl Print, timing: Timing, pictures: &[&str]) -> io::Result<()> {
+    for letters in pictures {
+        drawn(rt, BEGINNING, timing, letters)?;
+    }
     Ok(())
 }
 
 // A message in one batch and in three, idle alone, and wrong lengths.
 fn batches(rt: &impl Print) -> io::Result<()> {
-    fresh(rt, 2, 3, 4, b"MM...SSS.............")?;
     fresh(
         rt,
-        2,
-        3,
-        4,
-        b"..................................................",
+        USUAL,
+        &[
+            "MM...SSS.............",
+            "..................................................",
+        ],
     )?;
-    let s = picture(rt, draw::beginning(), 2, 3, 4, b"MM...S")?;
-    let s = picture(rt, s, 2, 3, 4, b"SS...")?;
-    picture(rt, s, 2, 3, 4, b".")?;
-    fresh(rt, 2, 3, 4, b"M....")?;
-    fresh(rt, 2, 3, 4, b"MMMM....")?;
-    check(rt, draw::beginning(), 2, 3, 4, &[2u8; 70000])?;
+    let s = drawn(rt, BEGINNING, USUAL, "MM...S")?;
+    let s = drawn(rt, s, USUAL, "SS...")?;
+    drawn(rt, s, USUAL, ".")?;
+    fresh(rt, USUAL, &["M....", "MMMM...."])?;
+    check(rt, BEGINNING, USUAL, &[2u8; 70000])?;
     Ok(())
 }
 
 fn spoiled(rt: &impl Print) -> io::Result<()> {
-    fresh(rt, 1, 3, 4, b"MS....")?;
-    fresh(rt, 1, 3, 4, b"B....")?;
-    fresh(rt, 1, 3, 4, b"MMMMMMMMM.?....")?;
-    fresh(rt, 1, 3, 4, b"M...B...M....")?;
-    fresh(rt, 1, 3, 1, b"S.M.")
+    fresh(
+        rt,
+        SHORT,
+        &["MS....", "B....", "MMMMMMMMM.?....", "M...B...M...."],
+    )?;
+    fresh(rt, Timing { gap: 1, ..SHORT }, &["S.M."])
 }
 
 // So many marks of one sample, idle of one between them and of two after the last.
-fn marks(rt: &impl Print, times: usize) -> io::Result<()>
-    requires { times ≤ 100 }
-{
+fn marks(rt: &impl Print, times: u8) -> io::Result<()> {
+    let times = usize::from(times);
     let mut samples = [0u8; 356];
-    let mut at = 0;
-    for _bit in 0..times {
-        at = draw::bit(&mut samples, at, 1, 1, 1);
+    for mark in samples.iter_mut().step_by(2).take(times) {
+        *mark = 1;
     }
-    front(rt, draw::beginning(), 1, 1, 2, samples, 2 * times + 1)?;
+    let timing = Timing {
+        least: 1,
+        most: 1,
+        gap: 2,
+    };
+    check(rt, BEGINNING, timing, &samples[..(2 * times + 1).min(356)])?;
     Ok(())
 }
 
@@ -103,8 +105,17 @@ fn strange(rt: &impl Print) -> io::Result<()> {
         line: 8,
         fault: 9,
     };
-    picture(rt, s, 3, 2, 4, b"MM.........")?;
-    picture(rt, s, 1, 3, 4, b"....")?;
+    drawn(
+        rt,
+        s,
+        Timing {
+            least: 3,
+            most: 2,
+            ..USUAL
+        },
+        "MM.........",
+    )?;
+    drawn(rt, s, SHORT, "....")?;
     Ok(())
 }
 
@@ -112,7 +123,12 @@ fn strange(rt: &impl Print) -> io::Result<()> {
 fn reply(rt: &impl Print) -> io::Result<()> {
     let mut samples = [0u8; 356];
     drawing::sisal_draw(4, 4, 40, &[0x80, 0x0e, 0x50, 0, 0], 0, &mut samples);
-    check(rt, draw::beginning(), 3, 5, 40, &samples)?;
+    let timing = Timing {
+        least: 3,
+        most: 5,
+        gap: 40,
+    };
+    check(rt, BEGINNING, timing, &samples)?;
     Ok(())
 }
 

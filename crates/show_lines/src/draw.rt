@@ -1,16 +1,14 @@
-// Samples drawn, at most 356: from a picture with a letter for each, or run by run.
+// Samples drawn, at most 356: from a picture with a letter for each. A sample is the byte that the call is handed, which need be no kind of line.
 use lines::SoFar;
 
 // The beginning.
-pub(crate) fn beginning() -> SoFar {
-    SoFar {
-        bits: 0,
-        run: 0,
-        count: 0,
-        line: 0,
-        fault: 0,
-    }
-}
+pub(crate) const BEGINNING: SoFar = SoFar {
+    bits: 0,
+    run: 0,
+    count: 0,
+    line: 0,
+    fault: 0,
+};
 
 fn sample(letter: u8) -> u8 {
     match letter {
@@ -23,36 +21,10 @@ fn sample(letter: u8) -> u8 {
 }
 
 // The samples of a picture, as many as there is room for.
-pub(crate) fn picture(letters: &[u8], samples: &mut [u8; 356]) {
-    for i in 0..356 {
-        if letters.len() <= i {
-            return;
-        }
-        samples[i] = sample(letters[i]);
+pub(crate) fn picture(letters: &str) -> [u8; 356] {
+    let mut samples = [0u8; 356];
+    for (to, letter) in samples.iter_mut().zip(letters.as_bytes()) {
+        *to = sample(*letter);
     }
-}
-
-// So many of one sample from a place on, as many as there is room for. Answers the place after them.
-pub(crate) fn run(samples: &mut [u8; 356], from: usize, of: u8, times: usize) -> usize {
-    let mut at = from;
-    for _sample in 0..times {
-        if 356 <= at {
-            return at;
-        }
-        samples[at] = of;
-        at += 1;
-    }
-    at
-}
-
-// A bit of so many samples, and idle of so many after it.
-pub(crate) fn bit(
-    samples: &mut [u8; 356],
-    from: usize,
-    of: u8,
-    pulse: usize,
-    idle: usize,
-) -> usize {
-    let at = run(samples, from, of, pulse);
-    run(samples, at, 0, idle)
+    samples
 }

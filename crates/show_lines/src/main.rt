@@ -12,16 +12,14 @@ use std::io;
 
 fn main(rt: HostRuntime) -> io::Result<()> {
     let rt = &rt;
-    words::title(
-        rt,
-        b"What is heard, least 2, most 3, gap 4. A dot is idle, M mark low, S space low, B both low, ? a byte above 3.\n",
+    println!(rt;
+        "What is heard, least 2, most 3, gap 4. A dot is idle, M mark low, S space low, B both low, ? a byte above 3."
     )?;
     damage::all(rt)?;
-    words::title(rt, b"\nA poll drawn, low 2, still 3, and heard again.\n")?;
+    println!(rt; "\nA poll drawn, low 2, still 3, and heard again.")?;
     spoken::all(rt)?;
-    words::title(
-        rt,
-        b"\nThe checks: least, most, gap; what was told; samples taken; bits, run, count, line and fault of the state after.\n",
+    println!(rt;
+        "\nThe checks: least, most, gap; what was told; samples taken; bits, run, count, line and fault of the state after."
     )?;
     checks::all(rt)
 }

@@ -5,7 +5,6 @@ pub mod Pages
 pub mod Levels
 pub mod LineAdded
 pub mod Moved
-pub mod Words
 pub mod PairFigures
 pub mod KeptPairs
 pub mod OneRecordMore

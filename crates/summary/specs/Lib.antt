@@ -7,5 +7,5 @@ pub mod Calls
 pub mod Joined
 -- What those who add to a summary stand on.
 pub mod Sound
-pub mod InWords
+pub mod Entered
 pub mod Inside

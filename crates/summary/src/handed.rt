@@ -1,131 +1,84 @@
 // What is asked of a summary that is handed in.
-ghost use Rattle.std.specs.Prelude.{◌≡◌, ltb};
+ghost use Rattle.std.specs.Prelude.{◌≡◌};
+ghost use Rattle.frame.specs.Faults.{verdict};
 ghost use Rattle.frame.specs.Pick.{pick};
-ghost use Rattle.summary.specs.Handed.{most, is_blank, levels_right, counts_over, lines_over, handed_fault};
+ghost use Rattle.summary.specs.Handed.{is_blank, levels_right, counts_over, lines_over, handed_fault};
 ghost use Rattle.summary.specs.Handed as said;
 ghost use Rattle.summary.specs.Inside.Entering.{right_from};
 
-use crate::figures::pair_of;
+use crate::figures::{NO_LEVEL, blank_line, pair_of};
 use crate::{Line, Summary};
+use frame::Fault;
+
+// The most that is counted.
+pub(crate) const MOST: u32 = 1_000_000;
 
 fn is_blank(line: Line) -> bool
     ensures { result ≡ is_blank line }
 {
-    if line.address != 0 {
-        return false;
-    }
-    if line.settings != 0 {
-        return false;
-    }
-    if line.lowest != 0 {
-        return false;
-    }
-    if line.highest != 0 {
-        return false;
-    }
-    if line.good != 0 {
-        return false;
-    }
-    line.faulty == 0
+    line == blank_line()
 }
 
 // A line has both levels exactly where it has a good reply.
 fn levels_right(line: Line) -> bool
     ensures { result ≡ levels_right line }
 {
-    if line.good == 0 {
-        if line.lowest != 0xffff {
-            return false;
-        }
-        return line.highest == 0xffff;
-    }
-    if line.lowest == 0xffff {
-        return false;
-    }
-    line.highest != 0xffff
+    let none = line.good == 0;
+    (line.lowest == NO_LEVEL) == none && (line.highest == NO_LEVEL) == none
 }
 
 // What is asked of the line at a place, whose pair must be at least one number where it is used.
 fn place_right(count: u32, i: usize, least: u64, line: Line) -> bool
     ensures { result ≡ right_from count i least line }
 {
-    if count as usize <= i {
-        return is_blank(line);
+    if i < count as usize {
+        least <= u64::from(pair_of(line)) && levels_right(line)
+    } else {
+        is_blank(line)
     }
-    if (pair_of(line) as u64) < least {
-        return false;
-    }
-    levels_right(line)
 }
 
-pub fn misshapen(s: Summary) -> bool
-    ensures { result ≡ said.misshapen s }
+pub fn misshapen(s: &Summary) -> bool
+    ensures { result ≡ said.misshapen s.now }
 {
-    let count = s.count;
-    if 30 < count {
+    if 30 < s.count {
         return true;
     }
-    let lines = s.lines;
     let mut least: u64 = 0;
-    let mut i: usize = 0;
-    while i < 30 {
-        let line = lines[i];
-        if !place_right(count, i, least, line) {
+    for (i, line) in s.lines.iter().enumerate() {
+        if !place_right(s.count, i, least, *line) {
             return true;
         }
-        least = (pair_of(line) as u64) + 1;
-        i += 1;
+        least = u64::from(pair_of(*line)) + 1;
     }
     false
 }
 
-fn counts_over(line: Line) -> bool
+pub(crate) fn counts_over(line: Line) -> bool
     ensures { result ≡ counts_over line }
 {
-    if 1_000_000 < line.good {
-        return true;
-    }
-    1_000_000 < line.faulty
+    MOST < line.good || MOST < line.faulty
 }
 
-pub fn lines_over(s: Summary) -> bool
-    ensures { result ≡ lines_over s }
+pub fn lines_over(s: &Summary) -> bool
+    ensures { result ≡ lines_over s.now }
 {
-    let lines = s.lines;
-    let mut i: usize = 0;
-    while i < 30 {
-        let line = lines[i];
-        if counts_over(line) {
-            return true;
-        }
-        i += 1;
-    }
-    false
+    s.lines.iter().any(|line| counts_over(*line))
 }
 
-// 37, then 24; 0 where neither is given.
-pub fn fault_of(s: Summary) -> u8
-    ensures { result ≡ handed_fault s }
+// A count is over, or not.
+pub(crate) fn refuse_over(over: bool) -> Result<(), Fault>
+    ensures { result ≡ verdict (pick over 24 0) tt }
+{
+    if over { Err(Fault::LargeCount) } else { Ok(()) }
+}
+
+// What refuses a summary that is handed in: 37, then 24.
+pub fn check(s: &Summary) -> Result<(), Fault>
+    ensures { result ≡ verdict (handed_fault s.now) tt }
 {
     if misshapen(s) {
-        return 37;
+        return Err(Fault::BadSummary);
     }
-    if 1_000_000 < s.others {
-        return 24;
-    }
-    if lines_over(s) { 24 } else { 0 }
-}
-
-// What a summary that no test refused is refused by when this line of it has changed: 24, or 0 where its counts are not over.
-pub(crate) fn line_fault(line: Line) -> u8
-    ensures { result ≡ pick (counts_over line) 24 0 }
-{
-    if counts_over(line) { 24 } else { 0 }
-}
-
-// The same when a record more is one of the others.
-pub(crate) fn others_fault(others: u32) -> u8
-    ensures { result ≡ pick (ltb most others) 24 0 }
-{
-    if 1_000_000 < others { 24 } else { 0 }
+    refuse_over(MOST < s.others || lines_over(s))
 }

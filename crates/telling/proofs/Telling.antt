@@ -1,41 +1,45 @@
--- What is told of a save, by what speaks against it: the number of the refusal alone, or the stores. Assumes nothing.
-use mathlib.Core.Path.{◌≡◌, refl, sym, ap, ◌∙◌}
-use mathlib.Core.Bool.{Bool, true, false}
-use mathlib.Core.List.{List}
+-- What is told of a save, by what the save would answer: the number of the refusal alone, or the stores. Assumes nothing.
+use mathlib.Core.Path.{◌≡◌, sym, ap, ◌∙◌}
+use mathlib.Core.Bool.{Bool, true, false, not}
+use mathlib.Core.List.{List, [], ◌∷◌, ◌++◌}
 use Prim.Native.Nat.{ℕ, ◌≤◌}
-use borrow.Author.Tests.{le-leb}
-use lib.Dec.{eqb}
+use borrow.Author.Tests.{ne_eqb}
+use lib.Dec.{eqb, leb}
+use Rattle.std.specs.Prelude.{Ok, Err}
+use Rattle.frame.specs.declared.faults.Fault.{Fault}
 use Rattle.frame.specs.Pick.{pick}
-use Rattle.frame.specs.Faults.{first_of}
+use Rattle.frame.specs.Faults.{◌gives◌, number_of, fault, verdict}
+use Rattle.frame.proofs.Verdicts.{was-refused}
+use Rattle.frame.proofs.Numbers.{first_small, own_number}
 use Rattle.sheet.specs.declared.tell.SaveStores.{SaveStores}
-use Rattle.sheet.specs.Record.{Entry, checks, passes}
+use Rattle.sheet.specs.Record.{Entry, checks}
 use Rattle.sheet.specs.Slots.{size_allowed, slots, next}
 use Rattle.sheet.specs.Stores.{stores}
-use Rattle.sheet.specs.Save.{save_fault}
+use Rattle.sheet.specs.Save.{into_fault, save_fault}
 use Rattle.sheet.specs.StoresTold.{telling, refusing, save_told, TellsStores}
-use Rattle.sheet.proofs.Refusals.{save-fault, Clear, clear-fault}
 
-module _ (s : List ℕ) (e : Entry) (answer : SaveStores) where
-  pub tells-refusal : (n : ℕ) → save_fault s e ≡ n → eqb n 0 ≡ false → answer ≡ refusing n → TellsStores s e answer
+-- the numbers of a save's refusals are in the table
+save-small : (s : List ℕ) (e : Entry) → save_fault s e ≤ 38
+unfolding save_fault into_fault
+save-small s e = first_small (not (size_allowed s) gives 12 ∷ checks e ++ leb (slots s) (next s) gives 13 ∷ []) tt
+
+module _ (s : List ℕ) (e : Entry) where
+  abbrev would : SaveStores
+  would = telling (next s) (stores 0 e)
+
+  -- the stores
+  pub tells-stores : (told : SaveStores) → verdict (save_fault s e) would ≡ Ok told → TellsStores s e told
   unfolding save_told
-  tells-refusal n f z is =
-      let told = telling (next s) (stores 0 e) in
-      record { answers = is ∙ sym (ap (λ (k : ℕ). pick (eqb k 0) told (refusing k)) f ∙ ap (λ (t : Bool). pick t told (refusing n)) z) }
+  tells-stores told is = record { answers = go (eqb (save_fault s e) 0) is }
+    where
+      go : (t : Bool) → pick t (Ok would) (Err (fault (save_fault s e))) ≡ Ok told → told ≡ pick t would (refusing (save_fault s e))
+      go true is = cc
+      go false is = absurd (cc)
 
-  pub tells-stores : Clear s e → answer ≡ telling (next s) (stores 0 e) → TellsStores s e answer
+  -- the refusal
+  pub tells-refusal : (f : Fault) → verdict (save_fault s e) would ≡ Err f → TellsStores s e (refusing (number_of f))
   unfolding save_told
-  tells-stores c is =
-      let told = telling (next s) (stores 0 e) in
-      record { answers = is ∙ sym (ap (λ (k : ℕ). pick (eqb k 0) told (refusing k)) (clear-fault s e c)) }
-
-  -- the three refusals
-  pub tells-12 : size_allowed s ≡ false → answer ≡ refusing 12 → TellsStores s e answer
-  tells-12 h = tells-refusal 12 (save-fault s e ∙ simp h) refl
-
-  pub tells-check : size_allowed s ≡ true → passes e ≡ false → (n : ℕ) → n ≡ first_of (checks e) → eqb n 0 ≡ false → answer ≡ refusing n → TellsStores s e answer
-  tells-check h p n is =
-      let by-check : save_fault s e ≡ first_of (checks e) = save-fault s e ∙ simp (h, p) in
-      tells-refusal n (by-check ∙ sym is)
-
-  pub tells-13 : size_allowed s ≡ true → passes e ≡ true → slots s ≤ next s → answer ≡ refusing 13 → TellsStores s e answer
-  tells-13 h p f = tells-refusal 13 (save-fault s e ∙ simp (h, p, le-leb (slots s) (next s) f)) refl
+  tells-refusal f is =
+      let w = was-refused (save_fault s e) would f is in
+      let own : number_of f ≡ save_fault s e = ap number_of w.1 ∙ own_number (save_fault s e) w.0 (save-small s e) in
+      record { answers = ap refusing own ∙ sym (ap (λ (t : Bool). pick t would (refusing (save_fault s e))) (ne_eqb (save_fault s e) 0 w.0)) }

@@ -6,10 +6,18 @@ use Prim.Native.Nat.{ℕ, ◌≤◌}
 use borrow.Author.Tests.{lt-ltb, le-ltb}
 use lib.Dec.{eqb}
 use lib.ListN.{length}
+use Rattle.std.proofs.Common.{Some, None}
+use Rattle.std.specs.Option.{unwrap_or}
 use Rattle.frame.specs.Pick.{pick}
+use Rattle.areas.specs.declared.Plan.{Plan}
 use Rattle.areas.specs.Plan.{greedy, rest, plan_fault, plan_told, refused}
 use Rattle.areas.proofs.Cutting.{plan-by}
 use Rattle.areas.proofs.sisal_plan_areas.Goals as goal
+
+-- no plan is 35
+or-refused : (b : Bool) (p : Plan) → unwrap_or (pick b (Some p) None) (refused 35) ≡ pick b p (refused 35)
+or-refused true p = refl
+or-refused false p = refl
 
 -- the same answer by the list of refusals
 same : (s : List ℕ) → length s ≤ 120 → (b : Bool) → eqb (length (rest 8 s)) 0 ≡ b
@@ -33,4 +41,9 @@ returns-then-site-gt120 c =
 pub returns : goal.returns
 returns c =
     let s = c.args.site.now in
-    record { answers = c.propose.ensures ∙ same s c.if-site-gt120.false (eqb (length (rest 8 s)) 0) refl }
+    record {
+      answers =
+          c.unwrap_or.ensures ∙ (λ i. unwrap_or (c.propose.ensures i) (c.refusal-2.ensures i))
+          ∙ or-refused (eqb (length (rest 8 s)) 0) (plan_told (greedy 8 s))
+          ∙ same s c.if-site-gt120.false (eqb (length (rest 8 s)) 0) refl;
+    }

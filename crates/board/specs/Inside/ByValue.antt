@@ -1,25 +1,25 @@
 -- How the code goes about it: the board as an array of 30 rows by value, one pass over it, and a row carried over a run of its places. A
 -- reader of the documents need not believe this file.
-use Rattle.std.specs.Prelude.{◌≡◌, Bool, true, false, not, ◌&&◌, ◌||◌, List, [], ◌∷◌, ◌++◌, ℕ, zero, suc, ◌+◌, ◌-◌, ◌<◌, ◌≤◌, eqb, leb, ltb, length, drop, get_or, set, replicate}
+use Rattle.std.specs.Prelude.{◌≡◌, Bool, true, false, not, ◌||◌, List, [], ◌∷◌, ◌++◌, ℕ, zero, suc, ◌+◌, ◌-◌, ◌<◌, ◌≤◌, leb, ltb, min, length, get_or, set, replicate, Option, None, Some, Result, Ok, Err, ⊤}
 use Rattle.frame.specs.declared.Reading.{Reading}
-use Rattle.frame.specs.declared.Reply.{Reply}
-use Rattle.frame.specs.declared.Reply.TheVariants.{Read, Refused, Unreadable}
-use Rattle.frame.specs.Faults.{◌gives◌, first_of}
-use Rattle.frame.specs.Kinds.{is_set}
-use Rattle.frame.specs.Line.{first_bytes}
+use Rattle.frame.specs.declared.faults.Fault.{Fault}
+use Rattle.frame.specs.declared.faults.Fault.TheVariants.{OutsideProfile, OutOfOrder}
+use Rattle.frame.specs.Faults.{◌gives◌, first_of, number_of, place_named, verdict}
 use Rattle.frame.specs.Pick.{pick}
-use Rattle.frame.specs.Poll.{poll_line, write_poll_fault}
 use Rattle.board.specs.declared.Heard.{Heard}
 use Rattle.board.specs.declared.Looked.{Looked}
 use Rattle.board.specs.declared.Row.{Row}
 use Rattle.board.specs.declared.value.Change.{Change}
 use Rattle.board.specs.declared.value.Found.{Found}
+use Rattle.board.specs.declared.value.Hearing.{Hearing}
 use Rattle.board.specs.declared.value.Search.{Search}
+use Rattle.board.specs.declared.value.Way.{Way}
+use Rattle.board.specs.declared.value.Way.TheVariants.{Onward, Back}
 use Rattle.board.specs.Gauge.{outside_by, unmarked, at_once}
 use Rattle.board.specs.Row.{is_free, free_row, with_reading, with_fault, sets_fault}
 use Rattle.board.specs.Rows.{place_by, place_of, on_board, row_of, place_free}
 use Rattle.board.specs.Order.{in_address_order, if_in_order}
-use Rattle.board.specs.Calls.{enrol_number, enrol_rows, hear_number, hear_place, hear_rows, heard_as, find_number, remove_rows, looked_at, refused_look}
+use Rattle.board.specs.Calls.{enrol_number, enrol_rows, hear_number, hear_place, hear_rows, heard_as, find_number, remove_rows, looked_at, refused_look, row_poll_number, row_poll_bytes}
 
 -- A board by value: its rows, and free ones behind them up to thirty.
 abbrev pub filled : List Row → List Row
@@ -32,60 +32,80 @@ reaches address row = is_free row || leb address row.address
 abbrev pub place_for : ℕ → List Row → ℕ
 place_for address board = place_by (reaches address) board
 
--- What is known of the rows passed, once one more has been passed: a free one, one in use that is out of order, or one that is not.
-abbrev pub over_free : Search → Search
+-- What is known of the rows passed, and whether they are so kept.
+pub record Passed : Type 0 where
+  pub vacant : ℕ
+  pub below : ℕ
+  pub least : ℕ
+  pub kept : Bool
+
+-- It, once one more has been passed: a free one, one in use that is out of order, or one that is not.
+abbrev pub over_free : Passed → Passed
 over_free s = record { vacant = s.vacant + 1; below = s.below; least = 0x10000; kept = s.kept }
 
-abbrev pub over_low : Search → Search
+abbrev pub over_low : Passed → Passed
 over_low s = record { vacant = s.vacant; below = s.below; least = s.least; kept = false }
 
-abbrev pub over_used : ℕ → Search → Row → Search
+abbrev pub over_used : ℕ → Passed → Row → Passed
 over_used address s row =
     record { vacant = s.vacant; below = pick (ltb row.address address) (s.below + 1) s.below; least = row.address + 1; kept = s.kept }
 
-abbrev pub over_row : ℕ → Search → Row → Search
+abbrev pub over_row : ℕ → Passed → Row → Passed
 over_row address s row = pick (is_free row) (over_free s) (pick (ltb row.address s.least) (over_low s) (over_used address s row))
 
 -- And once all have been passed.
-unfoldable pub searched : ℕ → Search → List Row → Search
+unfoldable pub searched : ℕ → Passed → List Row → Passed
 searched address s [] = s
 searched address s (row ∷ rows) = searched address (over_row address s row) rows
 
-abbrev pub unsearched : Search
+abbrev pub unsearched : Passed
 unsearched = record { vacant = 0; below = 0; least = 0; kept = true }
 
--- What was found on n rows so kept, where `row` is the one at the place for the address; and what is told of n rows that are not.
-abbrev pub found_by : Search → ℕ → Row → ℕ → Found
-found_by s n row address =
-    record { at = pick (ltb s.below (30 - s.vacant) && eqb row.address address) s.below n; n = n; row = row; free = 30 - s.vacant; spot = s.below; kept = true }
+-- A search is of rows so kept. It ends with none where a row is out of order.
+abbrev pub passed : Search → Passed
+passed s = record { vacant = s.vacant; below = s.below; least = s.least; kept = true }
 
-abbrev pub not_in_order : ℕ → Found
-not_in_order n = record { at = n; n = n; row = free_row; free = 0; spot = 0; kept = false }
+abbrev pub Says : Passed → Option Search → Type 0
+Says p None = p.kept ≡ false
+Says p (Some s) = p ≡ passed s
 
 -- The places that a search names are in their order.
 pub record Bounded (f : Found) : Type 0 where
   pub spot_free : f.spot ≤ f.free
   pub free_few : f.free ≤ 30
 
--- What a search for an address finds on a board: how many rows it has, and whether they are so kept. Where they are: the place of the row,
--- which is their number where there is none, the row where there is one, the first free place, and the place for the address.
-pub record Finds (board : List Row) (address : ℕ) (f : Found) : Type 0 where
+-- The row of an address stands at a place; or there is none.
+pub record Stands (board : List Row) (address spot : ℕ) (row : Row) : Type 0 where
+  pub place : spot ≡ place_of address board
+  pub on : spot < length board
+  pub there : row ≡ row_of address board
+
+abbrev pub RowAt : List Row → (address spot : ℕ) → Option Row → Type 0
+RowAt board address spot None = length board ≤ place_of address board
+RowAt board address spot (Some row) = Stands board address spot row
+
+-- What a search for an address finds on a board that is so kept: how many rows it has, the row, the first free place, and the place for the
+-- address.
+pub record Sees (board : List Row) (address : ℕ) (f : Found) : Type 0 where
+  pub order : in_address_order board ≡ true
   pub count : f.n ≡ length board
   pub bounds : Bounded f
-  pub order : f.kept ≡ in_address_order board
-  pub place : in_address_order board ≡ true → f.at ≡ place_of address board
-  pub there : in_address_order board ≡ true → f.at < f.n → f.row ≡ row_of address board
-  pub vacant : in_address_order board ≡ true → f.free ≡ place_free board
-  pub stands : in_address_order board ≡ true → f.spot ≡ place_for address board
-  pub found : f.at < f.n → f.spot ≡ f.at
+  pub vacant : f.free ≡ place_free board
+  pub stands : f.spot ≡ place_for address board
+  pub row : RowAt board address f.spot f.row
+
+-- It finds nothing on one that is not.
+abbrev pub Finds : List Row → ℕ → Option Found → Type 0
+Finds board address None = in_address_order board ≡ false
+Finds board address (Some f) = Sees board address f
 
 -- How many of so many rows count.
 abbrev pub rows_that_count : ℕ → ℕ
-rows_that_count n = pick (ltb 30 n) 30 n
+rows_that_count n = min n 30
 
 -- It is found in the array of every board so long, of which as many rows count.
-pub record FindsOn (held : List Row) (len address : ℕ) (f : Found) : Type 0 where
-  pub on : (board : List Row) → length board ≡ rows_that_count len → held ≡ filled board → Finds board address f
+pub record FindsOn (held : List Row) (len address : ℕ) (found : Option Found) : Type 0 where
+  pub on : (board : List Row) → length board ≡ rows_that_count len → held ≡ filled board → Finds board address found
 
 -- A row carried over `count` places: each takes the row that comes, and hands on the one that stood in it. The places go on from `at`, where
 -- `up` is 1 and `down` 0, or back from the one before it, where `up` is 0 and `down` 1.
@@ -98,62 +118,104 @@ pub data Within (n up down count at : ℕ) : Type 0 where
   onward : up ≡ 1 → down ≡ 0 → at + count ≤ n → Within n up down count at
   backward : up ≡ 0 → down ≡ 1 → count ≤ at → at ≤ n → Within n up down count at
 
+-- The way of a change in these numbers.
+abbrev pub up_by : Way → ℕ
+up_by Onward = 1
+up_by Back = 0
+
+abbrev pub down_by : Way → ℕ
+down_by Onward = 0
+down_by Back = 1
+
 -- What a change makes of rows, and that it is of the first n alone.
 abbrev pub moved : Change → List Row → List Row
-moved c rows = carry c.up c.down c.count c.at c.row rows
+moved c rows = carry (up_by c.way) (down_by c.way) c.count c.at c.row rows
 
 abbrev pub FitsIn : ℕ → Change → Type 0
-FitsIn n c = Within n c.up c.down c.count c.at
+FitsIn n c = Within n (up_by c.way) (down_by c.way) c.count c.at
 
--- What a change answers, and what it makes of a board.
-pub record Changes (board : List Row) (number : ℕ) (after : List Row) (c : Change) : Type 0 where
-  pub answers : c.number ≡ number
-  pub leaves : moved c board ≡ after
-  pub fits : FitsIn (length board) c
+-- What it makes of them, where there is one.
+abbrev pub made : Option Change → List Row → List Row
+made None rows = rows
+made (Some c) rows = moved c rows
 
--- A change of the row at a place, with the number that is answered and the place that it names.
-abbrev pub change_of : ℕ → Row → ℕ → ℕ → Change
-change_of at row number place = record { at = at; count = 1; up = 1; down = 0; row = row; number = number; place = place }
+-- By what an answer refuses, 0 where it does not.
+abbrev pub number_in : {A : Type 0} → Result A Fault → ℕ
+number_in (Ok value) = 0
+number_in (Err f) = number_of f
 
--- A change of no row.
-abbrev pub refusal : ℕ → Change
-refusal number = record { at = 0; count = 0; up = 1; down = 0; row = free_row; number = number; place = 0 }
+-- The change that an answer allows.
+abbrev pub change_in : Result Change Fault → Option Change
+change_in (Ok c) = Some c
+change_in (Err f) = None
 
--- The change that a reading makes of the row at a place: 26 where its temperature is outside the row's profile.
-abbrev pub read_change : ℕ → Row → ℕ → Reading → Change
-read_change at row minute r =
-    pick (outside_by row.settings row.gauge r.temperature) (change_of at (with_fault row 26 0) 26 0)
-    (change_of at (with_reading row r minute) 0 0)
+-- What a call answers, and what its change makes of a board.
+pub record Changes (board : List Row) (number : ℕ) (after : List Row) (answered : ℕ) (c : Option Change) : Type 0 where
+  pub answers : answered ≡ number
+  pub leaves : made c board ≡ after
+  pub fits : (d : Change) → c ≡ Some d → FitsIn (length board) d
 
--- The change that a reply makes of it.
-abbrev pub heard_change : ℕ → Row → ℕ → Reply → Change
-heard_change at row minute (Read r) = read_change at row minute r
-heard_change at row minute (Refused n) = pick (sets_fault n) (change_of at (with_fault row n 0) n 0) (refusal n)
-heard_change at row minute (Unreadable p) = change_of at (with_fault row 7 p) 7 p
+-- A change of the row at a place.
+abbrev pub change_of : ℕ → Row → Change
+change_of at row = record { at = at; count = 1; way = Onward; row = row }
 
--- What hearing answers of a change.
-abbrev pub said_of : Change → Heard
-said_of c = heard_as c.number c.place
+-- What a faulty reply makes of the row at a place.
+abbrev pub faulty_hearing : ℕ → Row → Fault → Hearing
+faulty_hearing at row f = record { change = change_of at (with_fault row (number_of f) (place_named f)); wrong = Some f }
+
+-- What a reading makes of it: 26 where its temperature is outside the row's profile.
+abbrev pub read_hearing : ℕ → Row → ℕ → Reading → Hearing
+read_hearing at row minute r =
+    pick (outside_by row.settings row.gauge r.temperature) (faulty_hearing at row OutsideProfile)
+    (record { change = change_of at (with_reading row r minute); wrong = None })
+
+-- What an answer of the frame makes of it.
+abbrev pub hearing_of : ℕ → Row → ℕ → Result Reading Fault → Result Hearing Fault
+hearing_of at row minute (Ok r) = Ok (read_hearing at row minute r)
+hearing_of at row minute (Err f) = pick (sets_fault (number_of f)) (Ok (faulty_hearing at row f)) (Err f)
+
+-- The change of a hearing, and what is wrong by it.
+abbrev pub heard_change : Result Hearing Fault → Option Change
+heard_change (Ok h) = Some h.change
+heard_change (Err f) = None
+
+abbrev pub wrong_by : Result Hearing Fault → Option Fault
+wrong_by (Ok h) = h.wrong
+wrong_by (Err f) = Some f
+
+-- What hearing answers, by what is wrong.
+abbrev pub said_of : Option Fault → Heard
+said_of None = heard_as 0 0
+said_of (Some f) = heard_as (number_of f) (place_named f)
 
 -- The change is the call's on every board on which a search for the address finds f: 38, and no row, on one not so kept.
-pub record ChangesOn (f : Found) (address : ℕ) (number : List Row → ℕ) (after : List Row → List Row) (c : Change) : Type 0 where
-  pub on : (board : List Row) → Finds board address f → Changes board (if_in_order board (number board) 38) (if_in_order board (after board) board) c
+pub record ChangesOn (f : Option Found) (address : ℕ) (number : List Row → ℕ) (after : List Row → List Row) (answered : ℕ) (c : Option Change) : Type 0 where
+  pub on : (board : List Row) → Finds board address f
+      → Changes board (if_in_order board (number board) 38) (if_in_order board (after board) board) answered c
 
-abbrev pub EnrolsOn : Found → (settings address gauge : ℕ) → Change → Type 0
-EnrolsOn f settings address gauge =
+abbrev pub EnrolsOn : Option Found → (settings address gauge : ℕ) → Result Change Fault → Type 0
+EnrolsOn f settings address gauge answer =
     ChangesOn f address (λ board. enrol_number board settings address gauge) (λ board. enrol_rows board settings address gauge)
+    (number_in answer) (change_in answer)
 
--- Of a hearing the change names the place too.
-pub record HearsOn (f : Found) (minute address count : ℕ) (reply : List ℕ) (c : Change) : Type 0 where
-  pub changes : ChangesOn f address (λ board. hear_number board address count reply) (λ board. hear_rows board minute address count reply) c
-  pub names : (board : List Row) → Finds board address f → c.place ≡ if_in_order board (hear_place board address count reply) 0
+-- Of a hearing the answer names the place too.
+pub record HearsOn (f : Option Found) (minute address count : ℕ) (reply : List ℕ) (answer : Result Hearing Fault) : Type 0 where
+  pub changes : ChangesOn f address (λ board. hear_number board address count reply) (λ board. hear_rows board minute address count reply)
+      (said_of (wrong_by answer)).number (heard_change answer)
+  pub names : (board : List Row) → Finds board address f → (said_of (wrong_by answer)).place ≡ if_in_order board (hear_place board address count reply) 0
 
-abbrev pub RemovesOn : Found → ℕ → Change → Type 0
-RemovesOn f address = ChangesOn f address (λ board. find_number board address) (λ board. remove_rows board address)
+abbrev pub RemovesOn : Option Found → ℕ → Result Change Fault → Type 0
+RemovesOn f address answer =
+    ChangesOn f address (λ board. find_number board address) (λ board. remove_rows board address) (number_in answer) (change_in answer)
+
+-- A look as it is told: a refusal by its number alone.
+abbrev pub told_look : Result Looked Fault → Looked
+told_look (Ok told) = told
+told_look (Err f) = refused_look (number_of f)
 
 -- The answer is that of looking, on every such board.
-pub record LooksOn (f : Found) (address : ℕ) (answer : Looked) : Type 0 where
-  pub on : (board : List Row) → Finds board address f → answer ≡ if_in_order board (looked_at board address) (refused_look 38)
+pub record LooksOn (f : Option Found) (address : ℕ) (answer : Result Looked Fault) : Type 0 where
+  pub on : (board : List Row) → Finds board address f → told_look answer ≡ if_in_order board (looked_at board address) (refused_look 38)
 
 -- Whether a row may be polled so: 11, 17, 28, and 0 where it may.
 unfoldable pub may_poll : List Row → (address raise reset : ℕ) → ℕ
@@ -166,13 +228,11 @@ may_poll board address raise reset =
     ∷ at_once raise reset gives 28
     ∷ [])
 
-pub record MayPollOn (f : Found) (address raise reset : ℕ) (number : ℕ) : Type 0 where
-  pub on : (board : List Row) → Finds board address f → number ≡ if_in_order board (may_poll board address raise reset) 38
+pub record MayPollOn (f : Option Found) (address raise reset : ℕ) (answer : Result ⊤ Fault) : Type 0 where
+  pub on : (board : List Row) → Finds board address f → answer ≡ if_in_order board (verdict (may_poll board address raise reset) tt) (Err OutOfOrder)
 
--- A number that was answered already, or what writing the poll answers.
-abbrev pub or_poll : (number address : ℕ) → List ℕ → ℕ
-or_poll number address out = pick (eqb number 0) (write_poll_fault address out) number
-
-pub record WritesOr (number address raise reset : ℕ) (out : List ℕ) (answer : ℕ) (after : List ℕ) : Type 0 where
-  pub answers : answer ≡ or_poll number address out
-  pub leaves : after ≡ pick (eqb (or_poll number address out) 0) (first_bytes 2 (poll_line address (is_set raise) (is_set reset)) ++ drop 2 out) out
+-- What writing a row's poll answers and leaves of the output, on every such board.
+pub record PollsOn (f : Option Found) (address raise reset : ℕ) (out : List ℕ) (answer : Result ℕ Fault) (after : List ℕ) : Type 0 where
+  pub on : (board : List Row) → Finds board address f
+      → (number_in answer ≡ if_in_order board (row_poll_number board address raise reset out) 38)
+      × (after ≡ if_in_order board (row_poll_bytes board address raise reset out) out)

@@ -35,5 +35,5 @@ returns c =
     let room = le-ltb _ _ c.if-out-lt2.false in
     record {
       answers = simp (known, room);
-      leaves = simp (known, room) (front (c.word-w.result / 256 % 256 ∷ c.word-w.result % 256 ∷ []) a.out.now c.if-out-lt2.false ∙ ap (λ (s : List ℕ). s ++ drop 2 a.out.now) (two_bytes c.word-w.result (poll_line a.address a.raise a.reset) c.word-w.ensures));
+      leaves = simp (known, room) (rw c.to_be_bytes.ensures (front (c.word.result / 256 % 256 ∷ c.word.result % 256 ∷ []) a.out.now c.if-out-lt2.false ∙ ap (λ (s : List ℕ). s ++ drop 2 a.out.now) (two_bytes c.word.result (poll_line a.address a.raise a.reset) c.word.ensures)));
     }

@@ -8,20 +8,21 @@ use borrow.Author.Tests.{lt-ltb, le-ltb, ne_eqb}
 use lib.Dec.{ltb}
 use lib.ListN.{length, drop}
 use Rattle.frame.specs.declared.Reading.{Reading}
-use Rattle.frame.specs.declared.Written.TheVariants.{Bytes, Refused}
 use Rattle.frame.specs.Pick.{pick}
 use Rattle.frame.specs.Line.{first_bytes}
 use Rattle.frame.specs.Reply.{WritesReply, write_reply_fault, reply_line, size_for}
 use Rattle.frame.proofs.write_reply.Goals.{After-size_for-size}
 use Rattle.frame.proofs.write_reply.Goals as goal
+use Rattle.std.specs.Prelude.{Ok, Err}
+use Rattle.frame.specs.Faults.{fault}
 
 -- a refusal leaves the output; a success leaves the bytes of the line before what followed them
 module _ (settings address : ℕ) (r : Reading) (out : List ℕ) where
-  refused : (f : ℕ) → write_reply_fault settings address r out ≡ f → (f ≡ 0 → ⊥) → WritesReply settings address r out (Refused f) out
+  refused : (f : ℕ) → write_reply_fault settings address r out ≡ f → (f ≡ 0 → ⊥) → WritesReply settings address r out (Err (fault f)) out
   refused f e some = record { answers = rw e (simp (ne_eqb _ _ some)); leaves = rw e (simp (ne_eqb _ _ some)) }
 
   written : (after : List ℕ) → write_reply_fault settings address r out ≡ 0 → after ≡ first_bytes (size_for r) (reply_line settings address r) ++ drop (size_for r) out
-      → WritesReply settings address r out (Bytes (size_for r)) after
+      → WritesReply settings address r out (Ok (size_for r)) after
   written after e is = record { answers = rw e; leaves = rw e is }
 
   module _ (e10 : ltb 15 settings ≡ false) (e11 : ltb 999 address ≡ false) where

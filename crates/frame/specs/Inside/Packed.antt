@@ -1,19 +1,21 @@
 -- How the code keeps charts, rows and answers in words. A reader of document 01 need not believe this file: it says what the tables of
 -- `src/charts.rt` hold, each worked out from the charts themselves, and what the inner functions answer.
-use Rattle.std.specs.Prelude.{Bool, not, ◌&&◌, List, [], ◌∷◌, map, ℕ, zero, suc, ◌+◌, ◌*◌, ◌/◌, ◌%◌, ◌^◌, ◌<◌, eqb, ltb, leb, drop}
-use Rattle.frame.specs.declared.heat.Told.{Told}
-use Rattle.frame.specs.declared.heat.Told.TheVariants.{Is, Bad}
-use Rattle.frame.specs.declared.Reply.{Reply}
-use Rattle.frame.specs.declared.Reply.TheVariants.{Read, Refused, Unreadable}
+use Rattle.std.specs.Prelude.{◌≡◌, ◌≤◌, Bool, not, ◌&&◌, List, [], ◌∷◌, map, ℕ, zero, suc, ◌+◌, ◌*◌, ◌/◌, ◌%◌, ◌^◌, ◌<◌, eqb, ltb, leb, drop, Option, Some, None}
 use Rattle.frame.specs.Pick.{pick}
 use Rattle.frame.specs.Line.{line, bit, formed, three_decimal, three_digits}
-use Rattle.frame.specs.Faults.{first_of}
+use Rattle.frame.specs.Faults.{first_of, fault}
 use Rattle.frame.specs.Reply.{mode_in, parity_right, reply_tests, heat_in, reading_at, refused_by}
 use Rattle.frame.specs.Charts.{Chart, one_bit, two_bits, feet_tens, decimal, inches, sixteenths, place_in, size_of, is_odd, turned, code_of}
-use Rattle.frame.specs.declared.Temperature.TheVariants as temperature
-use Rattle.frame.specs.Temperature.{Heat, told, bad, signed, is_bad, temperature_of}
+use Rattle.frame.specs.declared.Temperature.{Temperature}
+use Rattle.frame.specs.declared.line.Lent.{Lent}
+use Rattle.frame.specs.declared.line.Lent.TheVariants.{Five, Seven}
+use Rattle.frame.specs.Temperature.{Heat, told, bad, is_bad, temperature_of}
 use Rattle.frame.specs.Level.{Level, known, lost, Mode, mode_of, level_of, fill_clear}
 use Rattle.frame.specs.Pairs.{second_level}
+use Rattle.std.specs.Prelude.{Result, Ok, Err}
+use Rattle.frame.specs.declared.faults.Fault.{Fault}
+use Rattle.frame.specs.declared.faults.Fault.TheVariants.{InNoChart}
+use Rattle.frame.specs.declared.Reading.{Reading}
 
 -- The chart of a number: 0 one bit, 1 two bits, 2 feet tens, 3 decimal, 4 inches, any other sixteenths.
 unfoldable pub chart_of : ℕ → Chart
@@ -81,28 +83,27 @@ level_code m n = pick (fill_clear n m.fill) (level_number m.largest (level_of m 
 unfoldable pub second_code : ℕ → ℕ → ℕ
 second_code k n = pick (fill_clear n (mode_of k).fill) (level_number (mode_of k).largest (second_level k n)) (6 * 2 ^ 16)
 
--- Three decimal digits whose last bit stands `shift` bits above the word's lowest: their number, or 1000 where one is above 9.
-unfoldable pub three_by : ℕ → ℕ → ℕ
+-- The bytes of a reply that has the length of one.
+abbrev pub bytes_in : Lent → List ℕ
+bytes_in (Five s) = s.now
+bytes_in (Seven s) = s.now
+
+-- Three decimal digits whose last bit stands `shift` bits above the word's lowest: their number, or none where one is above 9.
+unfoldable pub three_by : ℕ → ℕ → Option ℕ
 three_by n shift =
     let hundreds = n / 2 ^ (shift + 8) % 16 in
     let tens = n / 2 ^ (shift + 4) % 16 in
     let units = n / 2 ^ shift % 16 in
-    pick (leb hundreds 9 && leb tens 9 && leb units 9) (hundreds * 100 + tens * 10 + units) 1000
+    pick (leb hundreds 9 && leb tens 9 && leb units 9) (Some (hundreds * 100 + tens * 10 + units)) None
 
 -- A number up to 999 as three digits of four bits.
 abbrev pub three_of : ℕ → ℕ
 three_of v = v / 100 * 256 + v / 10 % 10 * 16 + v % 10
 
 -- What the code's answer for a temperature means.
-abbrev pub heat_for : Told → Heat
-heat_for (Is t) = told t
-heat_for Bad = bad
-
--- A temperature in one number: degrees are their tenths, and 2 ^ 13 with a plus; above these stand the other answers.
-abbrev pub heat_by : ℕ → Heat
-heat_by h =
-    pick (ltb h 0x4000) (told (temperature.Degrees (signed (eqb (h / 0x2000) 1) (h % 0x2000))))
-    (pick (eqb h 0x4000) (told temperature.Above) (pick (eqb h 0x4001) (told temperature.Below) (pick (eqb h 0x4002) (told temperature.Absent) bad)))
+abbrev pub heat_for : Option Temperature → Heat
+heat_for (Some t) = told t
+heat_for None = bad
 
 -- The refusal of a reply by form or length, 0 for none.
 unfoldable pub form_fault : ℕ → List ℕ → ℕ
@@ -112,6 +113,16 @@ form_fault count s =
 -- The first refusal before a reply's bits are looked at, 0 for none: the first five tests.
 abbrev pub unread_fault : ℕ → ℕ → ℕ → List ℕ → ℕ
 unread_fault settings address count s = pick (ltb 15 settings) 10 (pick (ltb 999 address) 11 (form_fault count s))
+
+-- The bytes that a reply has where nothing of its form and length is refused, and where nothing is refused before its bits are looked at.
+pub record IsSized (count : ℕ) (s : List ℕ) (lent : Lent) : Type 0 where
+  pub bytes : bytes_in lent ≡ s
+  pub sized : form_fault count s ≡ 0
+
+pub record IsLent (settings address count : ℕ) (s : List ℕ) (lent : Lent) : Type 0 where
+  pub bytes : bytes_in lent ≡ s
+  pub small : address ≤ 999
+  pub read : unread_fault settings address count s ≡ 0
 
 -- The first refusal of a reply before its level, 0 for none: 3, 4 and 5; n is its line.
 abbrev pub unfit_fault : ℕ → ℕ → ℕ → List ℕ → ℕ
@@ -123,21 +134,21 @@ unfoldable pub line_fault : ℕ → ℕ → ℕ → List ℕ → ℕ
 unfolding first_of
 line_fault settings address count s = first_of (drop 5 (reply_tests settings address count s))
 
-unfoldable pub line_reply : ℕ → ℕ → ℕ → List ℕ → Reply
+unfoldable pub line_reply : ℕ → ℕ → ℕ → List ℕ → Result Reading Fault
 line_reply settings address count s =
-    pick (eqb (line_fault settings address count s) 0) (Read (reading_at settings count (line s)))
-    (refused_by (level_of (mode_in settings) (line s)) (line_fault settings address count s))
+    pick (eqb (line_fault settings address count s) 0) (Ok (reading_at settings count (line s)))
+    (Err (refused_by (level_of (mode_in settings) (line s)) (line_fault settings address count s)))
 
 -- The refusal that the number of a level stands for, where it is 2 ^ 16 or more.
-abbrev pub level_reply : ℕ → Reply
-level_reply code = pick (eqb (code / 2 ^ 16) 7) (Unreadable (code % 2 ^ 16)) (Refused (code / 2 ^ 16))
+abbrev pub level_refused : ℕ → Fault
+level_refused code = pick (eqb (code / 2 ^ 16) 7) (InNoChart (code % 2 ^ 16)) (fault (code / 2 ^ 16))
 
 -- And once its level is read too: fault 9, or the reading.
-unfoldable pub heat_reply : ℕ → ℕ → ℕ → ℕ → Reply
+unfoldable pub heat_reply : ℕ → ℕ → ℕ → ℕ → Result Reading Fault
 heat_reply settings count n level =
-    pick (is_bad (heat_in settings count n)) (Refused 9)
-    (Read (record { level = level; temperature = temperature_of (heat_in settings count n); alarm1 = eqb (bit n 38) 1; alarm0 = eqb (bit n 39) 1 }))
+    pick (is_bad (heat_in settings count n)) (Err (fault 9))
+    (Ok (record { level = level; temperature = temperature_of (heat_in settings count n); alarm1 = eqb (bit n 38) 1; alarm0 = eqb (bit n 39) 1 }))
 
 -- The answer by the number of a level.
-abbrev pub levelled_reply : ℕ → ℕ → ℕ → ℕ → Reply
-levelled_reply settings count n code = pick (ltb code (2 ^ 16)) (heat_reply settings count n code) (level_reply code)
+abbrev pub levelled_reply : ℕ → ℕ → ℕ → ℕ → Result Reading Fault
+levelled_reply settings count n code = pick (ltb code (2 ^ 16)) (heat_reply settings count n code) (Err (level_refused code))

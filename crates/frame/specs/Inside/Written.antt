@@ -1,6 +1,5 @@
 -- What the inner functions of the writer answer. A reader of document 01 need not believe this file.
-use Rattle.std.specs.Prelude.{Bool, false, ℕ, zero, suc, ◌+◌, ◌/◌, ◌%◌, min, ℤ, pos, negsuc}
-use Rattle.std.specs.Int.Count.{ones}
+use Rattle.std.specs.Prelude.{Bool, false, ℕ, ◌+◌, min, ℤ, pos, negsuc}
 use Rattle.frame.specs.declared.Reading.{Reading}
 use Rattle.frame.specs.declared.Temperature.{Temperature}
 use Rattle.frame.specs.declared.Temperature.TheVariants.{Degrees, Above, Below, Absent}
@@ -27,8 +26,3 @@ tenths_for Absent = pos 0
 abbrev pub put_tenths : Bool → ℤ → ℕ
 put_tenths is1800 d =
     pick is1800 (put_degrees_1800 (is_plus d) (magnitude d)) (put_degrees_1900 (is_plus d) (min (magnitude d) (limit false)))
-
--- The marks of the last bytes of a number, from the last one up.
-unfoldable pub marks_up : ℕ → ℕ → ℕ
-marks_up zero n = 0
-marks_up (suc left) n = ones (n % 256) + marks_up left (n / 256)

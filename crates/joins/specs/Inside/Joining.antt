@@ -1,9 +1,11 @@
 -- How the code joins: it merges two rows of lines that rise. That merging them is `put_all` of summary/specs/Joined.antt is proved.
-use Rattle.std.specs.Prelude.{◌≡◌, List, [], ◌∷◌, ℕ, ◌<◌, ◌≤◌, eqb, ltb, length, get_or}
+use Rattle.std.specs.Prelude.{◌≡◌, List, [], ◌∷◌, ◌<◌, ◌≤◌, eqb, ltb, length, get_or, drop}
+use Rattle.std.specs.declared.cmp.Ordering.{Ordering}
+use Rattle.std.specs.declared.cmp.Ordering.TheVariants.{Less, Greater, Equal}
 use Rattle.frame.specs.Pick.{pick}
 use Rattle.summary.specs.declared.Line.{Line}
 use Rattle.summary.specs.declared.Summary.{Summary}
-use Rattle.summary.specs.Line.{pair_of, together}
+use Rattle.summary.specs.Line.{pair_of, together, blank_line}
 use Rattle.summary.specs.Joined.{join_lines}
 use Rattle.summary.specs.Sound.{Sound, Few}
 
@@ -27,8 +29,9 @@ unfolding merged_from
 merged [] ms = ms
 merged (l ∷ ls) ms = merged_from l (merged ls) ms
 
--- Whose pair is next, of the first n of some pairs from place i on and the first m of others from place j on: the lower one, or both where they are one.
-pub record Turn (a : List ℕ) (i n : ℕ) (b : List ℕ) (j m : ℕ) (whose : ℕ) : Type 0 where
-  pub first : whose ≡ 0 → (i < n) × (j < m → get_or a i 0 < get_or b j 0)
-  pub second : whose ≡ 1 → (j < m) × (i < n → get_or b j 0 < get_or a i 0)
-  pub same : (whose ≡ 0 → ⊥) → (whose ≡ 1 → ⊥) → (i < n) × ((j < m) × (get_or a i 0 ≡ get_or b j 0))
+-- Whose line is next of two rows: the lower one's, or both where they are of one pair.
+pub record Turn (ls ms : List Line) (whose : Ordering) : Type 0 where
+  pub first : whose ≡ Less → (0 < length ls) × (merged ls ms ≡ get_or ls 0 blank_line ∷ merged (drop 1 ls) ms)
+  pub second : whose ≡ Greater → (0 < length ms) × (merged ls ms ≡ get_or ms 0 blank_line ∷ merged ls (drop 1 ms))
+  pub same : whose ≡ Equal
+      → (0 < length ls) × ((0 < length ms) × (merged ls ms ≡ together (get_or ls 0 blank_line) (get_or ms 0 blank_line) ∷ merged (drop 1 ls) (drop 1 ms)))

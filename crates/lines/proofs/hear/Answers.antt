@@ -1,9 +1,8 @@
 -- `lines::hear` meets its contract: at each turn what the whole batch tells is what its rest tells from the state so far, i samples later. Assumes nothing.
-use mathlib.Core.Path.{◌≡◌, sym, ap, ◌∙◌}
+use mathlib.Core.Path.{◌≡◌, refl, sym, ap, ◌∙◌}
 use mathlib.Core.Bool.{false}
 use mathlib.Core.List.{List}
 use Prim.Native.Nat.{ℕ, ◌+◌, ◌-◌, ◌^◌, ◌<◌, ◌≤◌}
-use native.Mathlib.Nat.{zero-add}
 use native.Mathlib.Omega.{arith}
 use lib.ListN.{length, get_or, drop}
 use Rattle.lines.specs.declared.SoFar.{SoFar}
@@ -48,26 +47,6 @@ module _ (t : Timing) (s n : SoFar) (xs : List ℕ) (i end : ℕ) (more : i < le
       next-open t s n xs i more step on
       ∙ enough-more t x n gap left-safe left-kind on xs (i + 1) w e (omega (arith, run.there)) (omega (arith, run.forward, run.there)) (λ j a b. run.alike j a (omega (arith, run.forward)))
 
-pub loop-i-init : goal.loop-i-init
-loop-i-init c =
-    let h = hear (timing c.args.least c.args.most c.args.gap) c.args.begun c.args.samples.now in
-    (omega arith, c.requires.safe, ap (hearing h.told h.left) (sym (zero-add h.taken)))
-
-pub bounds-samples-i : goal.bounds-samples-i
-bounds-samples-i c = omega arith
-
-pub overflow_add-i : goal.overflow_add-i
-overflow_add-i c = omega arith
-
-pub run_end-end-requires : goal.run_end-end-requires
-run_end-end-requires c = omega arith
-
-pub after-s-requires : goal.after-s-requires
-after-s-requires c = c.loop-i.invariant.1
-
-pub overflow_add-i-in-loop-i : goal.overflow_add-i-in-loop-i
-overflow_add-i-in-loop-i c = omega arith
-
 pub closed-requires : goal.closed-requires
 closed-requires c =
     let t = timing c.args.least c.args.most c.args.gap in
@@ -81,40 +60,28 @@ returns-then-closes c =
     (sym (c.loop-i.invariant.2 ∙ next-closed t c.loop-i.s c.after-s.result c.args.samples.now c.loop-i.i (omega arith) (c.after-s.ensures c.args.gap)
     (sym c.closes.ensures ∙ c.if-closes.true)))
 
-pub overflow_sub-end : goal.overflow_sub-end
-overflow_sub-end c = omega (arith, c.run_end-end.ensures.forward)
-
-pub overflow_add-i-then-wanted-end : goal.overflow_add-i-then-wanted-end
-overflow_add-i-then-wanted-end c = omega (arith, c.run_end-end.ensures.there)
-
-pub closed-requires-then-wanted-end : goal.closed-requires-then-wanted-end
-closed-requires-then-wanted-end c =
+pub closed-requires-in-Some : goal.closed-requires-in-Some
+closed-requires-in-Some c =
     let t = timing c.args.least c.args.most c.args.gap in
     rw (c.after-s.ensures c.args.gap) (kept t c.loop-i.s c.requires.gap_bound c.loop-i.invariant.1 (sample_of (get_or c.args.samples.now c.loop-i.i 0))).0
 
-pub returns-then-wanted-end : goal.returns-then-wanted-end
-returns-then-wanted-end c =
+pub returns-in-Some : goal.returns-in-Some
+returns-in-Some c =
     let t = timing c.args.least c.args.most c.args.gap in
-    c.closed-then-wanted-end.ensures
+    let w = c.in-Some in
+    c.closed-in-Some.ensures
     ∙ ap answered
     (sym (c.loop-i.invariant.2
     ∙ closed-within t c.loop-i.s c.after-s.result c.args.samples.now c.loop-i.i c.run_end-end.result (omega arith) c.requires.gap_bound c.loop-i.invariant.1
     (c.after-s.ensures c.args.gap) c.run_end-end.ensures (sym c.closes.ensures ∙ c.if-closes.false)
-    c.wanted-wanted.result c.wanted-wanted.ensures c.if-wanted-end.true (omega arith)))
-
-pub overflow_sub-end-in-loop-i : goal.overflow_sub-end-in-loop-i
-overflow_sub-end-in-loop-i c = omega (arith, c.run_end-end.ensures.forward)
-
-pub loop-i-smaller : goal.loop-i-smaller
-loop-i-smaller c = omega (arith, c.run_end-end.ensures.forward, c.run_end-end.ensures.there)
+    w.wanted w.ensures.0 w.ensures.1 (omega arith)))
 
 pub loop-i-preserved : goal.loop-i-preserved
 loop-i-preserved c =
     let t = timing c.args.least c.args.most c.args.gap in
-    let w = c.wanted-wanted in
     let p = passed t c.loop-i.s c.after-s.result c.args.samples.now c.loop-i.i c.run_end-end.result (omega arith) c.requires.gap_bound c.loop-i.invariant.1
     (c.after-s.ensures c.args.gap) c.run_end-end.ensures (sym c.closes.ensures ∙ c.if-closes.false)
-    w.result w.ensures c.if-wanted-end.false in
+    (wanted_of t.gap (get_or c.args.samples.now c.loop-i.i 0) c.after-s.result) refl c.in_default.ensures in
     (c.run_end-end.ensures.there, rw c.grown-s.ensures p.0, c.loop-i.invariant.2 ∙ rw c.grown-s.ensures p.1)
 
 pub returns : goal.returns

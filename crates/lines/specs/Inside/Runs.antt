@@ -31,5 +31,5 @@ wanted_of gap x s = pick (eqb x 0 && is_open s) (gap - s.run) endless
 -- is longer; all else stays.
 unfoldable pub grown : (x k : ℕ) → SoFar → SoFar
 grown x k s =
-    pick (eqb x 0) (pick (is_open s) (so_far s.bits (min (s.run + k) 10000) s.count 0 s.fault) s)
-    (pick (eqb s.line 0) s (so_far s.bits (min (s.run + k) too_long) s.count s.line 0))
+    pick (eqb x 0) (pick (is_open s) (so_far s.bits (min (s.run + k) 10000) s.count s.line s.fault) s)
+    (pick (eqb s.line 0) s (so_far s.bits (min (s.run + k) too_long) s.count s.line s.fault))

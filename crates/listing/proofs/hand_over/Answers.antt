@@ -2,6 +2,8 @@
 use mathlib.Core.Path.{refl}
 use mathlib.Core.Bool.{true}
 use lib.ListN.{length}
+use borrow.Author.Rules.{rules}
+use Rattle.putting.proofs.Added.{left-behind}
 use Rattle.listing.proofs.Answers.{refused-15, written}
 use Rattle.listing.proofs.hand_over.Goals as goal
 
@@ -13,4 +15,4 @@ returns-then-out-line c =
 pub returns : goal.returns
 returns c =
     let a = c.args in
-    written (length a.line.now) (length a.line.now) a.line.now a.out.now _ _ true refl c.if-out-line.false c.if-out-line.false c.put_word.ensures
+    written (length a.line.now) (length a.line.now) a.line.now a.out.now _ _ true refl c.if-out-line.false c.if-out-line.false (left-behind c.word.ensures (search rules))

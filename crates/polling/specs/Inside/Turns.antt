@@ -12,18 +12,31 @@ use Rattle.polling.specs.declared.Settled.{Settled}
 use Rattle.polling.specs.declared.turns.Turn.{Turn}
 use Rattle.polling.specs.declared.drawing_out.Driven.{Driven}
 use Rattle.polling.specs.declared.settling.Outcome.{Outcome}
-use Rattle.polling.specs.declared.listening.Ear.{Ear}
+use Rattle.polling.specs.declared.listening.Told.{Told}
 use Rattle.polling.specs.Beginning.{no_entry}
 use Rattle.polling.specs.Meant.{is_over, turn_by, meant}
 use Rattle.polling.specs.Drawing.{LeftByDrawing, drew_with}
 use Rattle.polling.specs.Listening.{Listened}
 use Rattle.polling.specs.Settling.{round_with, LeftByHearing, settled_with, settled_at}
 use Rattle.polling.specs.Calls.{DrawsPolling, HearsPolling}
-use Rattle.polling.specs.Inside.Ears.{replied_by}
+use Rattle.polling.specs.Inside.Ears.{number_in, replied_by}
 
 -- The place of the entry that is taken out. Where the turn is at no entry at all it is the first, which then stays.
 abbrev pub place_of : ℕ → ℕ
 place_of at = pick (ltb at 30) at 0
+
+-- The turn that is taken out of a state.
+abbrev pub turn_in : Polling → Turn
+turn_in w =
+    record {
+      entry = get_or w.round.replies (place_of w.at) no_entry;
+      count = w.round.count;
+      lines = w.lines;
+      passed = w.passed;
+      at = w.at;
+      tried = w.tried;
+      listening = w.listening;
+    }
 
 -- The state that a turn is taken out of, if these are its replies.
 abbrev pub state_of : List Polled → Turn → Polling
@@ -89,12 +102,13 @@ abbrev pub left_by_hearing : List Polled → ℕ → Turn → Outcome → LeftBy
 left_by_hearing rs place t o = settled_with (put_back rs place t o.turn) o.told
 
 -- The reply stands, and the next transmitter's turn comes.
-abbrev pub next_turn : (minute : ℕ) → Ear → Turn → Turn
-next_turn minute e t =
-    record { entry = replied_by minute e t.entry; count = t.count; lines = rest_state; passed = 0; at = t.at + 1; tried = 0; listening = 0 }
+abbrev pub next_turn : (minute : ℕ) → Told → Turn → Turn
+next_turn minute told t =
+    record { entry = replied_by minute told t.entry; count = t.count; lines = rest_state; passed = 0; at = t.at + 1; tried = 0; listening = 0 }
 
-abbrev pub standing : (minute : ℕ) → Ear → Turn → Outcome
-standing minute e t = outcome (next_turn minute e t) (settled e.taken t.at 1 (mark (over_by (next_turn minute e t))) e.number)
+abbrev pub standing : (minute : ℕ) → Told → (taken : ℕ) → Turn → Outcome
+standing minute told taken t =
+    outcome (next_turn minute told t) (settled taken t.at 1 (mark (over_by (next_turn minute told t))) (number_in told))
 
 -- It is settled so, whatever the other replies are.
 pub record SettlesTurn (p : Pace) (minute : ℕ) (t : Turn) (l : Listened) (o : Outcome) : Type 0 where

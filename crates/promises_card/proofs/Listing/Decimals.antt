@@ -8,7 +8,7 @@ use lib.ListN.{length, get_or, length-append, get_or-append}
 use lib.Seq.{get_or-append_seam}
 use Rattle.putting.specs.Digit.{digit}
 use Rattle.listing.specs.Text.{digits_up_to}
-use Rattle.listing.proofs.Numbers.{one_of, more_of, none_of, some_of, less}
+use Rattle.listing.proofs.Numbers.{one_of, more_of, none_of, less}
 use Rattle.promises_card.specs.Listing.Records.{read_after}
 use Rattle.promises_card.specs.Listing.Decimals.{ListingDecimals}
 
@@ -25,6 +25,14 @@ reads (suc k) n small = go (dec_lt n 10) (reads k (n / 10) (less (suc k) n small
     go (yes p) ih = ap (read_after 0) (one_of (suc k) n p) ∙ omega arith
     go (no q) ih =
         ap (read_after 0) (more_of (suc k) n (omega arith)) ∙ read_more 0 (digits_up_to (suc k) (n / 10)) (digit (n % 10)) ∙ omega arith
+
+-- a number has at least one digit
+some_of : (most n : ℕ) → 0 < length (digits_up_to (suc most) n)
+some_of most n = go (dec_lt n 10)
+  where
+    go : Dec (n < 10) → 0 < length (digits_up_to (suc most) n)
+    go (yes p) = rw (one_of most n p) (omega arith)
+    go (no q) = rw (more_of most n (omega arith)) (simp length-append (omega arith))
 
 -- a byte that is a digit, and a row of them
 abbrev IsDigit : ℕ → Type 0

@@ -1,55 +1,48 @@
 -- How long the text of a reply gets. A fault has at most two digits, because the numbers of the tests do; the level of an accepted reply is at most
 -- its mode's largest, because fault 8 does not apply; a temperature has four digits of four bits at most. Assumes nothing.
-use mathlib.Core.Path.{◌≡◌, refl}
+use mathlib.Core.Path.{◌≡◌, refl, sym, subst}
 use mathlib.Core.Bool.{Bool, true, false, ◌&&◌}
-use mathlib.Core.List.{List, [], ◌∷◌}
+use mathlib.Core.List.{List, [], ◌∷◌, ◌++◌}
 use Prim.Native.Nat.{ℕ, zero, suc, ◌+◌, ◌*◌, ◌%◌, ◌<◌, ◌≤◌}
 use native.Mathlib.Omega.{arith}
-use borrow.Author.Tests.{eqb-true, ltb-false}
-use lib.Dec.{T, eqb, ltb, leb, ltb→lt, leb→le}
+use borrow.Author.Tests.{eqb-true, eqb-false, ltb-false}
+use lib.Dec.{T, eqb, ltb, ltb→lt}
 use lib.ListN.{length, get_or, length-append}
 use Rattle.frame.specs.declared.Reading.{Reading}
-use Rattle.frame.specs.declared.Reply.TheVariants.{Read, Refused, Unreadable}
 use Rattle.frame.specs.declared.Temperature.TheVariants.{Degrees}
 use Rattle.frame.specs.Pick.{pick}
 use Rattle.frame.specs.Line.{line, bit, three_digits, three_decimal}
-use Rattle.frame.specs.Faults.{Test, first_of}
+use Rattle.frame.specs.Faults.{Test, first_of, place_named, fault}
 use Rattle.frame.specs.Level.{Mode, Level, known, lost, level_of, value_of, place_lost, above_largest}
 use Rattle.frame.specs.Temperature.{Heat, is_plus, signed, magnitude, degrees_at, hundreds1900, heat1900, heat1800, temperature_of}
 use Rattle.frame.specs.Reply.{reply_tests, reply_fault, refused_by, reply_of, reading_at, mode_in, heat_in, is1800}
 use Rattle.frame.proofs.Tables.{pick-case}
+use Rattle.frame.proofs.Numbers.{own_number, reply-small}
 use Rattle.frame.proofs.EachMode.{small-levels}
 use Rattle.frame.proofs.Verdict.{place-small}
 use Rattle.listing.specs.Text.{ascii, in_decimal, digits_up_to}
 use Rattle.listing.specs.Lines.{temperature_text, alarm_text, reading_text, reply_text}
 use Rattle.listing.proofs.Numbers.{few-digits}
 use Rattle.promises_frame.proofs.Temperatures.{magnitude-signed}
+use Rattle.std.specs.Prelude.{Ok, Err}
+use Rattle.frame.specs.declared.faults.Fault.TheVariants.{InNoChart}
 
--- tests whose numbers are from 1 to 99
+-- tests whose numbers are not 0
 abbrev numbered : List Test → Bool
 numbered [] = true
-numbered (t ∷ ts) = (ltb 0 t.number && leb t.number 99) && numbered ts
+numbered (t ∷ ts) = ltb 0 t.number && numbered ts
 
 both : (a b : Bool) → T (a && b) → T a × T b
 both true b h = (tt, h)
 both false b h = absurd h
-
-few-faults : (ts : List Test) → T (numbered ts) → first_of ts ≤ 99
-unfolding first_of
-few-faults [] h = omega arith
-few-faults (t ∷ ts) h =
-    let each = both (ltb 0 t.number && leb t.number 99) (numbered ts) h in
-    let small = both (ltb 0 t.number) (leb t.number 99) each.0 in
-    pick-case (λ (n : ℕ). n ≤ 99) t.applies (leb→le t.number 99 small.1) (few-faults ts each.1)
 
 -- where no fault is given, no test applies
 none-applies : (ts : List Test) (d : Test) → T (numbered ts) → first_of ts ≡ 0 → (i : ℕ) → i < length ts → (get_or ts i d).applies ≡ false
 unfolding first_of
 none-applies [] d h e i near = absurd (omega arith)
 none-applies (t ∷ ts) d h e i near =
-    let each = both (ltb 0 t.number && leb t.number 99) (numbered ts) h in
-    let small = both (ltb 0 t.number) (leb t.number 99) each.0 in
-    go t.applies refl i near e (ltb→lt 0 t.number small.0) (none-applies ts d each.1)
+    let each = both (ltb 0 t.number) (numbered ts) h in
+    go t.applies refl i near e (ltb→lt 0 t.number each.0) (none-applies ts d each.1)
   where
     go : (a : Bool) → t.applies ≡ a → (i : ℕ) → i < length (t ∷ ts) → pick a t.number (first_of ts) ≡ 0 → 0 < t.number
         → (first_of ts ≡ 0 → (j : ℕ) → j < length ts → (get_or ts j d).applies ≡ false) → (get_or (t ∷ ts) i d).applies ≡ false
@@ -106,31 +99,32 @@ reading-few r level heat =
     let zero = alarm-few r.alarm0 in
     simp length-append (omega arith)
 
-fault-few : (n : ℕ) → n ≤ 99 → length (reply_text (Refused n)) ≤ 16
-fault-few n few =
+fault-few : (n : ℕ) → (n ≡ 0 → ⊥) → n ≤ 38 → eqb n 7 ≡ false → length (reply_text (Err (fault n))) ≤ 16
+fault-few n some few other =
     let digits = few-digits 1 n (omega arith) in
-    simp length-append (omega arith)
+    let text : length (ascii "fault " ++ in_decimal n) ≤ 16 = simp length-append (omega arith) in
+    subst
+    (λ (k : ℕ). length (pick (eqb k 7) (ascii "fault 7 " ++ in_decimal (place_named (fault n))) (ascii "fault " ++ in_decimal k)) ≤ 16)
+    (sym (own_number n some few))
+    (subst (λ (t : Bool). length (pick t (ascii "fault 7 " ++ in_decimal (place_named (fault n))) (ascii "fault " ++ in_decimal n)) ≤ 16) (sym other) text)
 
-place-few : (p : ℕ) → p < 5 → length (reply_text (Unreadable p)) ≤ 16
+place-few : (p : ℕ) → p < 5 → length (reply_text (Err (InNoChart p))) ≤ 16
 place-few p few =
     let digits = few-digits 0 p (omega arith) in
     simp length-append (omega arith)
-
-fault-lt : (settings address count : ℕ) (s : List ℕ) → reply_fault settings address count s ≤ 99
-unfolding reply_fault
-fault-lt settings address count s = few-faults (reply_tests settings address count s) tt
 
 pub reply-few : (settings address count : ℕ) (s : List ℕ) → length (reply_text (reply_of settings address count s)) ≤ 16
 unfolding reply_of
 reply-few settings address count s = go (eqb (reply_fault settings address count s) 0) refl
   where
-    refused : (t : Bool) → length (reply_text (pick t (Unreadable (place_lost (level_of (mode_in settings) (line s)))) (Refused (reply_fault settings address count s)))) ≤ 16
-    refused true = place-few (place_lost (level_of (mode_in settings) (line s))) (place-small settings (line s))
-    refused false = fault-few (reply_fault settings address count s) (fault-lt settings address count s)
+    refused : (reply_fault settings address count s ≡ 0 → ⊥) → (t : Bool) → eqb (reply_fault settings address count s) 7 ≡ t
+        → length (reply_text (Err (pick t (InNoChart (place_lost (level_of (mode_in settings) (line s)))) (fault (reply_fault settings address count s))))) ≤ 16
+    refused some true e = place-few (place_lost (level_of (mode_in settings) (line s))) (place-small settings (line s))
+    refused some false e = fault-few (reply_fault settings address count s) some (reply-small settings address count s) e
 
     go : (t : Bool) → eqb (reply_fault settings address count s) 0 ≡ t
-        → length (reply_text (pick t (Read (reading_at settings count (line s))) (refused_by (level_of (mode_in settings) (line s)) (reply_fault settings address count s)))) ≤ 16
+        → length (reply_text (pick t (Ok (reading_at settings count (line s))) (Err (refused_by (level_of (mode_in settings) (line s)) (reply_fault settings address count s))))) ≤ 16
     go true e =
         reading-few (reading_at settings count (line s)) (level-lt settings address count s (eqb-true (reply_fault settings address count s) 0 e))
         (heat-few settings count (line s))
-    go false e = refused (eqb (reply_fault settings address count s) 7)
+    go false e = refused (eqb-false (reply_fault settings address count s) 0 e) (eqb (reply_fault settings address count s) 7) refl

@@ -7,7 +7,6 @@ use native.Mathlib.Omega.{arith}
 use borrow.Author.Tests.{lt-ltb, le-ltb}
 use lib.Dec.{eqb, ltb}
 use lib.ListN.{length, get_or, take, drop, length-append, length-take}
-use Rattle.frame.specs.declared.Written.{Written}
 use Rattle.frame.specs.Pick.{pick}
 use Rattle.frame.specs.Poll.{written_number}
 use Rattle.frame.proofs.Tables.{pick-case}
@@ -23,6 +22,8 @@ use Rattle.listing.proofs.Numbers.{few-digits}
 use Rattle.sheet.proofs.Seen.{few-slots}
 use Rattle.promises_card.specs.Listing.Room.{ListingRoom}
 use Rattle.promises_card.proofs.Listing.Replies.{reply-few}
+use Rattle.std.specs.Prelude.{Result}
+use Rattle.frame.specs.declared.faults.Fault.{Fault}
 
 -- a record whose fields are those of bytes
 record-few : (e : Entry) → e.minute < 2 ^ 32 → e.address < 2 ^ 16 → length (record_text e) ≤ 33
@@ -77,7 +78,7 @@ last-few s size =
     simp length-append (omega arith)
 
 -- a text that is there, into an output that is long enough
-accepted : (there : Bool) (text out after : List ℕ) (said : Written) → there ≡ true → length text ≤ 40 → 40 ≤ length out → Writes there (length text) text out said after → written_number said ≡ 0
+accepted : (there : Bool) (text out after : List ℕ) (said : Result ℕ Fault) → there ≡ true → length text ≤ 40 → 40 ≤ length out → Writes there (length text) text out said after → written_number said ≡ 0
 unfolding write_fault
 accepted there text out after said e few long w = ap written_number w.answers ∙ simp (e, le-ltb (length out) (length text) (omega arith))
 

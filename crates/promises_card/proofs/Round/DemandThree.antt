@@ -4,7 +4,7 @@ use mathlib.Core.Path.{◌≡◌, refl, sym, ap, subst, ◌∙◌}
 use mathlib.Core.Logic.{◌≢◌, ◌↔◌}
 use mathlib.Core.Bool.{Bool, true, false, not}
 use mathlib.Core.List.{List, [], ◌∷◌, ◌++◌, map}
-use Prim.Native.Nat.{ℕ, ◌+◌, ◌*◌, ◌/◌, ◌%◌, ◌<◌, ◌≤◌, min}
+use Prim.Native.Nat.{ℕ, ◌+◌, ◌*◌, ◌/◌, ◌%◌, ◌<◌, ◌≤◌}
 use native.Mathlib.Omega.{arith}
 use borrow.Author.Tests.{leb-true, leb-false, eqb-true}
 use lib.Dec.{eqb, leb, ltb}
@@ -13,10 +13,10 @@ use Rattle.frame.specs.Pick.{pick}
 use Rattle.frame.specs.Line.{formed}
 use Rattle.frame.specs.Faults.{first_of}
 use Rattle.frame.proofs.Both.{both_left, both_right}
-use Rattle.sheet.specs.declared.Saved.TheVariants.{Stores, Refused}
-use Rattle.sheet.specs.Record.{Entry, checks, passes, length_of}
+use Rattle.sheet.specs.Record.{Entry, checks, passes}
 use Rattle.sheet.specs.Slots.{size_allowed, slots, next, list_of}
-use Rattle.sheet.specs.Save.{save_fault, saved_number}
+use Rattle.sheet.specs.Save.{saved_number}
+use Rattle.sheet.proofs.SaveNumbers.{answer-number}
 use Rattle.sheet.proofs.Refusals.{save-fault}
 use Rattle.round.specs.declared.Round.{Round}
 use Rattle.round.specs.declared.Rounded.{Rounded}
@@ -82,12 +82,9 @@ checks-not-13 e = unfold first_of in go (ltb 15 e.settings) (ltb 999 e.address) 
     go false false false q = omega arith
 
 good-13 : (s : List ℕ) (x : Save) (t : List ℕ) → TakesSheet s x t → saved_number x.answer ≡ 13 → passes x.entry ≡ true
-good-13 s x t m n = by (size_allowed s) (passes x.entry) (leb (slots s) (next s)) refl (sym (save-fault s x.entry) ∙ fault (eqb (save_fault s x.entry) 0) m.answers)
+good-13 s x t m n = by (size_allowed s) (passes x.entry) (leb (slots s) (next s)) refl
+    (sym (save-fault s x.entry) ∙ sym (answer-number s x.entry x.allowance x.answer t m) ∙ n)
   where
-    fault : (b : Bool) → x.answer ≡ pick b (Stores (min x.allowance (length_of x.entry + 2))) (Refused (save_fault s x.entry)) → save_fault s x.entry ≡ 13
-    fault true a = absurd (omega (arith, ap saved_number a, n))
-    fault false a = sym (ap saved_number a) ∙ n
-
     by : (a p f : Bool) → passes x.entry ≡ p → pick a (pick p (pick f 13 0) (first_of (checks x.entry))) 12 ≡ 13 → passes x.entry ≡ true
     by true true f y q = y
     by true false f y q = absurd (checks-not-13 x.entry q)

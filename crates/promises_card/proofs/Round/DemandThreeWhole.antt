@@ -12,7 +12,7 @@ use lib.ListN.{length, take, length-take}
 use lib.Seq.{take-take, take-nil}
 use Rattle.frame.specs.Pick.{pick}
 use Rattle.frame.proofs.Both.{both_left, both_right}
-use Rattle.sheet.specs.declared.Saved.TheVariants.{Stores, Refused}
+use Rattle.frame.proofs.Numbers.{verdict_number}
 use Rattle.sheet.specs.Record.{Entry, passes, length_of}
 use Rattle.sheet.specs.Slots.{size_allowed, length_allowed, next, list_of}
 use Rattle.sheet.specs.Stores.{made, stores, after}
@@ -49,6 +49,7 @@ use Rattle.promises_card.proofs.Round.Told.{told-so}
 use Rattle.promises_card.proofs.Round.TriedRecords.{records_in, taken_in, first-ones, taken-told, saves-records, saves-taken, same-on-sheet, all_own}
 use Rattle.promises_card.proofs.Round.DemandThree.{then, full_by}
 use Rattle.promises_card.proofs.Round.NoSlotLeft.{used-after, no_slot}
+use Rattle.promises_card.proofs.Summary.Kept.{step-small}
 use Rattle.promises_card.proofs.Round.AtAnyMoment.{rounds-at-any-moment}
 use Rattle.promises_card.proofs.Round.Stops.{round-stops}
 use Rattle.promises_card.proofs.Round.Cut.{round-cut}
@@ -230,15 +231,8 @@ module _ (n : ℕ) (few : n ≤ 2048) (cs : List Call) (s : List ℕ) (calls : C
       → (x.answer.number ≡ 13) ↔ (taken_all cs ≡ n)
   full-with page x t m own good =
       let full = full-of (as_save x) t (demand-three-stands.one s page x t m own) good in
-      let is = number_is x.answer in
+      let is = verdict_number saved_number (λ _. refl) (λ _. refl) x.answer.number x.answer.count (step-small s page x t m) in
       (λ q. full.0 (is ∙ q), λ q. sym is ∙ full.1 q)
-    where
-      number_is : (k : Kept) → saved_number (saved_as k) ≡ k.number
-      number_is k = go (eqb k.number 0) refl
-        where
-          go : (b : Bool) → eqb k.number 0 ≡ b → saved_number (pick b (Stores k.count) (Refused k.number)) ≡ k.number
-          go true q = sym (eqb-true k.number 0 q)
-          go false q = refl
 
   -- a round, by what it tried
   module _ (allowance : ℕ) (es : List Entry) (closed stores number : ℕ) (saves : List Save) (t : List ℕ) (done : History s saves t)

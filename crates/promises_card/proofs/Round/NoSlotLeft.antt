@@ -135,7 +135,7 @@ module _ (n taken : ℕ) (h : List Save) (allowance : ℕ) (es : List Entry) (cl
       by-rules (next z rules before left given) = by real
         where
           by : Real (try_save x) → (number ≡ 13) ↔ full
-          by (refused z idle) =
+          by (refused z few idle) =
               (λ q. there x g rules others before left given went idle (said.0 q), λ f. said.1 (back x g rules others before left given went idle f))
           by (made zero many) = (
             λ q. absurd (omega (arith, went.number_is, zero, q)),

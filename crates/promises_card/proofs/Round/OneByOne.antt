@@ -11,13 +11,12 @@ use lib.Dec.{eqb, leb, ltb}
 use lib.ListN.{length, length-append, length-take}
 use Rattle.frame.specs.Pick.{pick}
 use Rattle.frame.specs.Line.{bytes_for, pad_clear, formed}
-use Rattle.frame.specs.Faults.{◌gives◌, first_of}
-use Rattle.sheet.specs.declared.Saved.{Saved}
-use Rattle.sheet.specs.declared.Saved.TheVariants.{Stores, Refused}
+use Rattle.frame.specs.Faults.{◌gives◌, first_of, verdict}
 use Rattle.sheet.specs.Record.{Entry, entry_of, length_of}
 use Rattle.sheet.specs.Slots.{size_allowed, slots, next}
 use Rattle.sheet.specs.Stores.{after}
-use Rattle.sheet.specs.Save.{save_fault, saved_number, stores_made}
+use Rattle.sheet.specs.Save.{save_fault, stores_made}
+use Rattle.sheet.proofs.SaveNumbers.{save-number}
 use Rattle.summary.specs.declared.Summary.{Summary}
 use Rattle.summary.specs.declared.Kept.{Kept}
 use Rattle.summary.specs.Updated.{with_record}
@@ -36,25 +35,20 @@ use Rattle.promises_card.specs.Summary.Chain as chain
 use Rattle.promises_card.specs.Round.Tries.{Try, try_save, try_step, replies_of, WentSo, Dated}
 use Rattle.promises_card.specs.Round.OneByOne.{BySaves, BySteps, OneByOne}
 use Rattle.promises_card.proofs.Round.Traces.{fault, try_of, Traced, untried, one_more, sheet-after, page-after, totals, rules, Ending, ending}
+use Rattle.std.specs.Prelude.{Result, Ok, Err}
+use Rattle.frame.specs.declared.faults.Fault.{Fault}
 
 -- the answer of a save, by its refusal
 module _ (n k : ℕ) where
-  abbrev answer : Saved
-  answer = pick (eqb n 0) (Stores k) (Refused n)
+  abbrev answer : Result ℕ Fault
+  answer = verdict n k
 
   made-is : stores_made answer ≡ pick (eqb n 0) k 0
-  made-is = go (eqb n 0)
+  made-is = go (eqb n 0) _
     where
-      go : (b : Bool) → stores_made (pick b (Stores k) (Refused n)) ≡ pick b k 0
-      go true = refl
-      go false = refl
-
-  number_is : saved_number answer ≡ n
-  number_is = go (eqb n 0) refl
-    where
-      go : (b : Bool) → eqb n 0 ≡ b → saved_number (pick b (Stores k) (Refused n)) ≡ n
-      go true h = sym (eqb-true n 0 h)
-      go false h = refl
+      go : (b : Bool) (f : Fault) → stores_made (pick b (Ok k) (Err f)) ≡ pick b k 0
+      go true f = refl
+      go false f = refl
 
 -- tries without a summary are saves
 record AsSaves (allowance : ℕ) (from : Standing) (h : List Try) (x : Standing) : Type 0 where
@@ -74,7 +68,7 @@ saves-of allowance from h x p (one_more {h = g} {x = y} e m t n l) = more (saves
         let is : fault allowance y e ≡ f = ap (λ (q : Page). save_refusal y.sheet q e) before.page in
         let save : Save = record { entry = e; minute_fits = m; allowance = allowance - y.stores; answer = answer f k } in
         let tryings : try_save save ≡ try_of allowance y e =
-        (λ i. record { entry = e; given = allowance - y.stores; stores = made-is f k i; number = number_is f k i })
+        (λ i. record { entry = e; given = allowance - y.stores; stores = made-is f k i; number = save-number y.sheet e k i })
         ∙ ap (λ (j : ℕ). record { entry = e; given = allowance - y.stores; stores = pick (eqb j 0) k 0; number = j }) (sym is) in
         let pages : (b : Bool) → pick b (pick (closes_record e (allowance - y.stores)) none none) none ≡ none = none-picked (closes_record e (allowance - y.stores)) in
         record {

@@ -58,7 +58,7 @@ used-so allowance es ts closed stores number went real q =
     go : (ts : List Try) → Rules allowance ts → AllReal ts → stores_in_tries ts ≡ allowance → number_of ts ≡ 0
     go [] none_yet none_real u = refl
     go (x ∷ h) (next y rules before left given) (one_real (made z s) others) u = z
-    go (x ∷ h) (next y rules before left given) (one_real (refused z s) others) u =
+    go (x ∷ h) (next y rules before left given) (one_real (refused z few s) others) u =
         let sum : stores_in_tries (x ∷ h) ≡ stores_in_tries h + x.stores = unfold stores_in_tries in refl in
         absurd (omega (arith, sum, s, left, u))
 

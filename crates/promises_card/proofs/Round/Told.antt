@@ -66,10 +66,10 @@ last_one x real some more = go (eqb x.stores (length_of x.entry + 2)) refl real
         let left : x.stores - (length_of x.entry + 2) ≡ 0 = omega (arith, all) in
         all_made x.stores x.number ∙ (λ i. (sym all i, sym z i) ∷ answers_told more 0 (left i) (z i))
         ∙ ap (λ (l : List (ℕ × ℕ)). (x.stores, x.number) ∷ l) none_left
-    go true q (refused z s) = absurd (omega (arith, eqb-true x.stores (length_of x.entry + 2) q, s))
+    go true q (refused z few s) = absurd (omega (arith, eqb-true x.stores (length_of x.entry + 2) q, s))
     go false q (made z s) =
         by_last x.stores x.number ∙ some-made x.stores x.number (omega (arith, s, some)) ∙ (λ i. (x.stores, sym z i) ∷ [])
-    go false q (refused z s) =
+    go false q (refused z few s) =
         by_last x.stores x.number ∙ ap (λ (k : ℕ). after_the_closed k x.number) s ∙ none_made x.number z ∙ (λ i. (sym s i, x.number) ∷ [])
 
 told_of : (allowance : ℕ) (ts : List Try) (es : List Entry) → Rules allowance ts → AllReal ts → Begins (replies_of ts) es

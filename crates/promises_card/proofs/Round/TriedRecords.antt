@@ -11,7 +11,7 @@ use lib.Dec.{eqb, ltb}
 use lib.ListN.{length, take, length-append}
 use lib.Seq.{take-append-add}
 use Rattle.frame.specs.Pick.{pick}
-use Rattle.sheet.specs.declared.Saved.TheVariants.{Stores, Refused}
+use Rattle.frame.proofs.Numbers.{own_number}
 use Rattle.sheet.specs.Record.{Entry, length_of}
 use Rattle.promises_card.specs.Sheet.History.{Save, is_closed, count_of, closed_in, broken_in, records_of}
 use Rattle.promises_card.specs.Sheet.ListAndFull.{Begins}
@@ -19,6 +19,8 @@ use Rattle.promises_card.specs.Summary.Chain.{Step, summary_refused, as_save, sa
 use Rattle.promises_card.specs.Round.Tries.{Try, try_save, try_step, closed_of, number_of, replies_of, answers_of, Rules, next}
 use Rattle.promises_card.specs.Round.AnyCalls.{slots_taken}
 use Rattle.promises_card.proofs.Round.Closed.{Real, made, refused, AllReal, none_real, one_real, AllClosed, none_closed, one-closed, closed-before}
+use Rattle.std.specs.Prelude.{Ok, Err}
+use Rattle.frame.specs.Faults.{fault}
 
 -- whether a try closed its record, and whether it took a slot
 abbrev pub closes : Try → Bool
@@ -98,7 +100,7 @@ one-taken x real = go (ltb 0 x.stores) refl (ltb x.stores (length_of x.entry + 2
   where
     most : Real x → x.stores ≤ length_of x.entry + 2
     most (made z s) = omega (arith, s)
-    most (refused z s) = omega (arith, s)
+    most (refused z few s) = omega (arith, s)
 
     go : (a : Bool) → ltb 0 x.stores ≡ a → (b : Bool) → ltb x.stores (length_of x.entry + 2) ≡ b → x.stores ≤ length_of x.entry + 2
         → pick (closes x) 1 0 + pick (a && b) 1 0 ≡ pick a 1 0
@@ -123,20 +125,20 @@ saves-taken (x ∷ h) (one_real real others) = omega (arith, saves-taken h other
 -- saves with a summary as tries, of which those that their summary refused made no store
 same-try : (x : Step) → Real (try_step x) → try_save (as_save x) ≡ try_step x
 same-try x (made z s) =
-    ap (λ (b : Bool). try_save (record { entry = x.entry; minute_fits = x.minute_fits; allowance = x.allowance; answer = pick b (Stores x.answer.count) (Refused x.answer.number) }))
+    ap (λ (b : Bool). try_save (record { entry = x.entry; minute_fits = x.minute_fits; allowance = x.allowance; answer = pick b (Ok x.answer.count) (Err (fault x.answer.number)) }))
     (eq-eqb x.answer.number 0 z)
     ∙ (λ i. record { entry = x.entry; given = x.allowance; stores = x.answer.count; number = sym z i })
-same-try x (refused z s) =
-    ap (λ (b : Bool). try_save (record { entry = x.entry; minute_fits = x.minute_fits; allowance = x.allowance; answer = pick b (Stores x.answer.count) (Refused x.answer.number) }))
+same-try x (refused z few s) =
+    ap (λ (b : Bool). try_save (record { entry = x.entry; minute_fits = x.minute_fits; allowance = x.allowance; answer = pick b (Ok x.answer.count) (Err (fault x.answer.number)) }))
     (ne_eqb x.answer.number 0 z)
-    ∙ (λ i. record { entry = x.entry; given = x.allowance; stores = sym s i; number = x.answer.number })
+    ∙ (λ i. record { entry = x.entry; given = x.allowance; stores = sym s i; number = own_number x.answer.number z few i })
 
 no_stores : (x : Step) → Real (try_step x) → summary_refused x ≡ true → x.answer.count ≡ 0
 no_stores x (made z s) r =
     let quiet : summary_refused x ≡ false = ap (λ (n : ℕ). eqb n 37 || eqb n 24) z in
     let k : ◌≡◌ {A = ℕ} 1 0 = ap (λ (b : Bool). pick b 1 0) (sym r ∙ quiet) in
     absurd (omega (arith, k))
-no_stores x (refused z s) r = s
+no_stores x (refused z few s) r = s
 
 more-records : (x : Try) (h : List Try) → records_in (x ∷ h) ≡ records_in h ++ pick (closes x) (x.entry ∷ []) []
 more-records x h = unfold records_in in refl

@@ -11,7 +11,6 @@ use lib.Dec.{eqb, ltb}
 use lib.ListN.{length, get_or, take, drop, set, length-take, length-drop, length-set, take-append-drop}
 use lib.Seq.{ext_get_or, get_or-take, get_or-set_same, get_or-set_other, set_out, take_all}
 use Rattle.frame.specs.Pick.{pick}
-use Rattle.sheet.specs.declared.Saved.{Saved}
 use Rattle.sheet.specs.declared.tell.SaveStores.{SaveStores}
 use Rattle.sheet.specs.Bytes.{FF, all_blank}
 use Rattle.sheet.specs.Record.{Entry, length_of, is_record, fields_of}
@@ -35,6 +34,8 @@ use Rattle.promises_card.proofs.Sheet.Telling.{not-refused, slot_is, count-is, s
 use Rattle.promises_card.proofs.Sheet.ToldIsMade.{told-is-made}
 use Rattle.promises_card.proofs.Sheet.AtOnce.{apart-take, at-once-made}
 use Rattle.promises_card.proofs.Sheet.InSteps.{told-apart, told-inside}
+use Rattle.std.specs.Prelude.{Result}
+use Rattle.frame.specs.declared.faults.Fault.{Fault}
 
 -- A slot whose first byte is FF is blank or spoiled, and tells no record.
 unclosed : (x : List ℕ) → get_or x 0 0 ≡ FF → (slot_of x ≡ blank) ⊎ (slot_of x ≡ spoiled)
@@ -174,7 +175,7 @@ module _ (s : List ℕ) (e : Entry) (told : SaveStores) (tells : TellsStores s e
         subst (λ (n : ℕ). ShowsNone s n t) (sym (slot_is s e told tells c)) (torn-clear t (subst (λ (l : List Store). Torn s l t) are w))
 
   -- the last store after all the others
-  then-last-of : (t : List ℕ) → AtOnce s (all_but_last told) t → (answer : Saved) (u : List ℕ) → Saves s e told.count answer u → made t (the_last told) ≡ u
+  then-last-of : (t : List ℕ) → AtOnce s (all_but_last told) t → (answer : Result ℕ Fault) (u : List ℕ) → Saves s e told.count answer u → made t (the_last told) ≡ u
   then-last-of t o answer u x =
       let n = told.count - 1 in
       let all = stores_told told in

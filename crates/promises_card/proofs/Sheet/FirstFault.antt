@@ -6,12 +6,12 @@ use Prim.Native.Nat.{ℕ}
 use lib.Dec.{ltb}
 use Rattle.frame.specs.Pick.{pick}
 use Rattle.frame.specs.Faults.{first_of}
-use Rattle.frame.proofs.Answers.{number_is}
+use Rattle.frame.specs.declared.faults.Fault.TheVariants.{NoSheet}
 use Rattle.sheet.specs.declared.Found.TheVariants as found
-use Rattle.sheet.specs.declared.Saved.TheVariants.{Refused}
 use Rattle.sheet.specs.Record.{Entry}
 use Rattle.sheet.specs.Slots.{Slot, blank, spoiled, foreign, holds, size_allowed, slots, slot_at, slot_of}
 use Rattle.sheet.specs.Save.{save_fault, saved_number}
+use Rattle.sheet.proofs.SaveNumbers.{answer-number}
 use Rattle.sheet.specs.Look.{bare, look_told, look_of, found_number}
 use Rattle.promises_card.proofs.Sheet.Telling.{told-number-is}
 use Rattle.promises_card.specs.Sheet.FirstFault.{save_table, save_order, look_table, SheetFault}
@@ -31,7 +31,7 @@ look-asks : (s : List ℕ) (k : ℕ) → found_number (look_of s k).found ≡ fi
 unfolding look_of first_of
 look-asks s k = go (size_allowed s && ltb k (slots s))
   where
-    go : (b : Bool) → found_number (pick b (look_told (slot_of (slot_at s k))) (bare (found.Refused 12))).found ≡ pick (not b) 12 0
+    go : (b : Bool) → found_number (pick b (look_told (slot_of (slot_at s k))) (bare (found.Refused NoSheet))).found ≡ pick (not b) 12 0
     go true = told-number (slot_of (slot_at s k))
     go false = refl
 
@@ -39,7 +39,7 @@ pub sheet-fault : SheetFault
 sheet-fault =
     record {
       save = λ s e allowance answer t h. given (save_table s e) save_order (saved_number answer)
-          (ap saved_number h.answers ∙ number_is _ Refused saved_number refl (λ f. refl) (save_fault s e) ∙ save-asks s e);
+          (answer-number s e allowance answer t h ∙ save-asks s e);
       look = λ s k answer h. given (look_table s k) (12 ∷ []) (found_number answer.found)
           (ap (λ a. found_number a.found) h.answers ∙ look-asks s k);
       tell = λ s e answer h. given (save_table s e) save_order answer.number (told-number-is s e answer h ∙ save-asks s e);

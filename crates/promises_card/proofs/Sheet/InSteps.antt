@@ -9,7 +9,6 @@ use lib.Dec.{eqb}
 use lib.ListN.{length, take}
 use lib.Seq.{take_all}
 use Rattle.frame.specs.Pick.{pick}
-use Rattle.sheet.specs.declared.Saved.{Saved}
 use Rattle.sheet.specs.declared.tell.SaveStores.{SaveStores}
 use Rattle.sheet.specs.Record.{Entry, length_of}
 use Rattle.sheet.specs.Slots.{next}
@@ -25,6 +24,8 @@ use Rattle.promises_card.proofs.Sheet.OneSave.{one-save}
 use Rattle.promises_card.proofs.Sheet.Telling.{told-stores-are}
 use Rattle.promises_card.proofs.Sheet.ToldIsMade.{told-is-made}
 use Rattle.promises_card.proofs.Sheet.AtOnce.{Apart, apart-all, apart-take, steps-made, steps-can, steps_first}
+use Rattle.std.specs.Prelude.{Result}
+use Rattle.frame.specs.declared.faults.Fault.{Fault}
 
 module _ (s : List ℕ) (e : Entry) (told : SaveStores) (tells : TellsStores s e told) where
   -- the stores told are those of a save that may make them all
@@ -61,7 +62,7 @@ module _ (s : List ℕ) (e : Entry) (told : SaveStores) (tells : TellsStores s e
     inside-so : Places (λ n. n < length s) (stores_in (take j steps))
     inside-so = subst (Places (λ n. n < length s)) (sym first) (places-take (λ n. n < length s) many (stores_told told) told-inside)
 
-    leaves-so : (t : List ℕ) → Stepped s (take j steps) t → (answer : Saved) (u : List ℕ) → Saves s e many answer u → t ≡ u
+    leaves-so : (t : List ℕ) → Stepped s (take j steps) t → (answer : Result ℕ Fault) (u : List ℕ) → Saves s e many answer u → t ≡ u
     leaves-so t Made-so answer u x =
         steps-made Made-so apart-so inside-so ∙ ap (made s) first ∙ told-is-made.leaves s e told tells many answer u x
 

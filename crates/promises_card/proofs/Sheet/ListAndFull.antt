@@ -11,8 +11,6 @@ use borrow.Author.Tests.{eq-eqb, ne_eqb, lt-ltb, le-ltb, ltb-true, leb-true, leb
 use lib.Dec.{eqb, leb, ltb}
 use lib.ListN.{length, take, replicate, length-replicate}
 use Rattle.frame.specs.Pick.{pick}
-use Rattle.sheet.specs.declared.Saved.{Saved}
-use Rattle.sheet.specs.declared.Saved.TheVariants.{Stores}
 use Rattle.sheet.specs.Bytes.{FF, all_blank}
 use Rattle.sheet.specs.Record.{Entry, passes}
 use Rattle.sheet.specs.Slots.{Slot, spoiled, holds, record_in, size_allowed, slots, slot_at, slot_of, list_up_to, list_of, next_up_to, next}
@@ -27,6 +25,8 @@ use Rattle.sheet.proofs.SaveMade as made-law
 use Rattle.sheet.proofs.Refusals.{Clear, clear-fault}
 use Rattle.promises_card.proofs.Sheet.Fates.{Fate, refused, idle, broken, closed, fate}
 use Rattle.promises_card.proofs.Sheet.OneSave.{one-save}
+use Rattle.std.specs.Prelude.{Result, Ok}
+use Rattle.frame.specs.declared.faults.Fault.{Fault}
 
 -- What a save counts as, by the stores that it made.
 abbrev weight : ℕ → ℕ → ℕ
@@ -108,12 +108,12 @@ module _ (s t : List ℕ) (x : Save) (sized : size_allowed s ≡ true) where
       ∙ ap (λ (b : Bool). list_of s ++ ending b) (sym (listed-if c true (le-leb (all_stores x) x.allowance l)))
 
   -- and a save is listed exactly where it made all its stores
-  closed_is : (made : ℕ) (b : Bool) → x.answer ≡ Stores made → eqb made (all_stores x) ≡ b → is_closed x ≡ b
-  closed_is made b a e = ap (λ (y : Saved). eqb (stores_made y) (all_stores x)) a ∙ e
+  closed_is : (made : ℕ) (b : Bool) → x.answer ≡ Ok made → eqb made (all_stores x) ≡ b → is_closed x ≡ b
+  closed_is made b a e = ap (λ (y : Result ℕ Fault). eqb (stores_made y) (all_stores x)) a ∙ e
 
   closed-fate : Fate s x.entry x.allowance x.answer t → listed ≡ is_closed x
   closed-fate (refused n a q) =
-      not-clear s x.entry (covered x) sized n ∙ sym (ap (λ (y : Saved). eqb (stores_made y) (all_stores x)) a ∙ ne_eqb 0 (all_stores x) (omega arith))
+      not-clear s x.entry (covered x) sized n ∙ sym (ap (λ (y : Result ℕ Fault). eqb (stores_made y) (all_stores x)) a ∙ ne_eqb 0 (all_stores x) (omega arith))
   closed-fate (idle c z a q) =
       listed-if c false (lt-leb (all_stores x) x.allowance (omega arith)) ∙ sym (closed_is 0 false a (ne_eqb 0 (all_stores x) (omega arith)))
   closed-fate (broken c p l a q) =

@@ -2,10 +2,11 @@
 use mathlib.Core.Path.{◌≡◌, refl, sym, ◌∙◌}
 use mathlib.Core.List.{List}
 use Prim.Native.Nat.{ℕ}
-use Rattle.sheet.specs.declared.Saved.{Saved}
 use Rattle.promises_card.specs.Sheet.OneOutcome.{SheetOutcome}
+use Rattle.std.specs.Prelude.{Result}
+use Rattle.frame.specs.declared.faults.Fault.{Fault}
 
-pair : (a b : Saved × List ℕ) → a.0 ≡ b.0 → a.1 ≡ b.1 → a ≡ b
+pair : (a b : (Result ℕ Fault) × List ℕ) → a.0 ≡ b.0 → a.1 ≡ b.1 → a ≡ b
 pair a b e f = λ i. (e i, f i)
 
 pub sheet-outcome : SheetOutcome

@@ -11,8 +11,6 @@ use lib.Dec.{eqb, ltb}
 use lib.ListN.{length, get_or, take, replicate, length-take, get_or-replicate}
 use lib.Seq.{get_or-take, take-take, take-nil}
 use Rattle.frame.specs.Pick.{pick}
-use Rattle.sheet.specs.declared.Saved.{Saved}
-use Rattle.sheet.specs.declared.Saved.TheVariants.{Stores, Refused}
 use Rattle.sheet.specs.Bytes.{FF, all_blank}
 use Rattle.sheet.specs.Record.{Entry, length_of}
 use Rattle.sheet.specs.Slots.{Slot, spoiled, holds, slots, slot_at, slot_of, next}
@@ -30,6 +28,9 @@ use Rattle.sheet.proofs.SlotParts.{slot-long}
 use Rattle.sheet.proofs.SaveMade.{slot-byte}
 use Rattle.sheet.proofs.Refusals.{Clear, clear}
 use Rattle.promises_card.proofs.Sheet.Fates.{Fate, refused, idle, broken, closed, fate}
+use Rattle.std.specs.Prelude.{Result, Ok, Err}
+use Rattle.frame.specs.declared.faults.Fault.{Fault}
+use Rattle.frame.specs.Faults.{fault}
 
 -- Two stores of one record go to two places.
 apart : (at size j k : ℕ) → j < k → k < size + 2 → at + store_place size j ≢ at + store_place size k
@@ -42,8 +43,8 @@ apart at size j k h l = go (ltb j size) (ltb k size) refl refl
     go false false p q = omega (arith, ltb-false j size p, ltb-false k size q)
 
 -- a refused save counts no store
-count-refused : (s : List ℕ) (n : ℕ) (answer : Saved) (t : List ℕ) → answer ≡ Refused n → t ≡ s → Count s [] answer t
-count-refused s n answer t a q =
+count-refused : (s : List ℕ) (f : Fault) (answer : Result ℕ Fault) (t : List ℕ) → answer ≡ Err f → t ≡ s → Count s [] answer t
+count-refused s f answer t a q =
     record {
       number = ap stores_made a;
       as_long = ap length q;
@@ -83,7 +84,7 @@ module _ (s : List ℕ) (e : Entry) (may : ℕ) (c : Clear s e) where
   places-once j k h l same =
       apart at (length_of e) j k h (omega (arith, many)) (sym (nth-place j (omega arith)) ∙ same ∙ nth-place k l)
 
-  count-clear : (answer : Saved) (t : List ℕ) → answer ≡ Stores (min may (length_of e + 2)) → t ≡ after s e may → Count s ps answer t
+  count-clear : (answer : Result ℕ Fault) (t : List ℕ) → answer ≡ Ok (min may (length_of e + 2)) → t ≡ after s e may → Count s ps answer t
   unfolding after
   count-clear answer t a q =
       record {
@@ -96,16 +97,16 @@ module _ (s : List ℕ) (e : Entry) (may : ℕ) (c : Clear s e) where
         kept = λ i h. ap (λ (u : List ℕ). get_or u i 0) q ∙ made-keeps i 0 s ps (places-all (λ n. n ≢ i) ps (0 puts 0) h);
       }
 
-count-of : (s : List ℕ) (e : Entry) (may : ℕ) (answer : Saved) (t : List ℕ) → Saves s e may answer t → Count s (stores_of s e may) answer t
+count-of : (s : List ℕ) (e : Entry) (may : ℕ) (answer : Result ℕ Fault) (t : List ℕ) → Saves s e may answer t → Count s (stores_of s e may) answer t
 count-of s e may answer t x = go (eqb (save_fault s e) 0) refl x.answers x.leaves
   where
-    go : (b : Bool) → eqb (save_fault s e) 0 ≡ b → answer ≡ pick b (Stores (min may (length_of e + 2))) (Refused (save_fault s e))
+    go : (b : Bool) → eqb (save_fault s e) 0 ≡ b → answer ≡ pick b (Ok (min may (length_of e + 2))) (Err (fault (save_fault s e)))
         → t ≡ pick b (after s e may) s → Count s (pick b (take may (stores (32 * next s) e)) []) answer t
     go true h a q = count-clear s e may (clear s e (eqb-true (save_fault s e) 0 h)) answer t a q
-    go false h a q = count-refused s (save_fault s e) answer t a q
+    go false h a q = count-refused s (fault (save_fault s e)) answer t a q
 
 -- cut: the first k of the first stores are the first k
-cut_of : (s : List ℕ) (e : Entry) (may k : ℕ) → k ≤ may → (answer : Saved) (t : List ℕ) → Saves s e k answer t
+cut_of : (s : List ℕ) (e : Entry) (may k : ℕ) → k ≤ may → (answer : Result ℕ Fault) (t : List ℕ) → Saves s e k answer t
     → made s (take k (stores_of s e may)) ≡ t
 cut_of s e may k h answer t x = go (eqb (save_fault s e) 0) x.leaves
   where
@@ -146,7 +147,7 @@ used-before-of s h =
     (32 * k + r.0, omega arith, omega arith, λ e. r.2 (slot-byte s k r.0 small ∙ e))
 
 -- the slot of a save, by what became of it
-module _ (s : List ℕ) (e : Entry) (may : ℕ) (answer : Saved) (t : List ℕ) where
+module _ (s : List ℕ) (e : Entry) (may : ℕ) (answer : Result ℕ Fault) (t : List ℕ) where
   others-stay : Clear s e → t ≡ after s e may → (k : ℕ) → k ≢ next s → slot_at t k ≡ slot_at s k
   others-stay c q k h = ap (λ (u : List ℕ). slot_at u k) q ∙ made-law.others s e may c.good c.left k h
 
@@ -198,7 +199,7 @@ module _ (x : Save) (s t : List ℕ) where
   fate-of : TakesSheet s x t → Fate s x.entry x.allowance x.answer t
   fate-of m = fate s x.entry x.allowance x.answer t m
 
-next_of : (s : List ℕ) (e : Entry) (may : ℕ) (answer : Saved) (t : List ℕ) → Saves s e may answer t → Next s answer t
+next_of : (s : List ℕ) (e : Entry) (may : ℕ) (answer : Result ℕ Fault) (t : List ℕ) → Saves s e may answer t → Next s answer t
 next_of s e may answer t x =
     let f = fate s e may answer t x in
     record { blank_on = blank-on-of s; used_before = used-before-of s; others = others-of s e may answer t f; there = there-of s e may answer t f }

@@ -7,20 +7,21 @@ use denote.Ref.{Bor}
 use lib.ListN.{length}
 use Rattle.sheet.specs.declared.view.Sheet.{Sheet}
 use Rattle.frame.specs.Pick.{pick}
-use Rattle.sheet.specs.declared.view.Counted.{Counted}
-use Rattle.sheet.specs.declared.view.Counted.TheVariants.{Slots, Refused}
 use Rattle.sheet.specs.Slots.{size_allowed, slots}
 use Rattle.sheet.specs.View.{Counts, slots_counted, seen_of, slots_for, counted_number, slots_told}
 use Rattle.sheet.proofs.view.Spans.{opened-seen, seen-there, seen-uncounted, seen-short}
 use Rattle.promises_card.specs.Sheet.View.{SheetView}
+use Rattle.std.specs.Prelude.{Result, Ok, Err}
+use Rattle.frame.specs.declared.faults.Fault.{Fault}
+use Rattle.frame.specs.Faults.{fault}
 
 pair : (a b : Sheet) → a.bytes ≡ b.bytes → a.slots ≡ b.slots → a ≡ b
 pair a b e f = λ i. record { bytes = e i; slots = f i }
 
 -- what is counted, by whether the size is allowed
-count-is : (s : List ℕ) (answer : Counted) (t : Bool) → Counts s answer → size_allowed s ≡ t → answer ≡ pick t (Slots (slots s)) (Refused 12)
+count-is : (s : List ℕ) (answer : Result ℕ Fault) (t : Bool) → Counts s answer → size_allowed s ≡ t → answer ≡ pick t (Ok (slots s)) (Err (fault 12))
 unfolding slots_counted
-count-is s answer t c e = c.answers ∙ ap (λ (b : Bool). pick b (Slots (slots s)) (Refused 12)) e
+count-is s answer t c e = c.answers ∙ ap (λ (b : Bool). pick b (Ok (slots s)) (Err (fault 12))) e
 
 pub sheet-view : SheetView
 sheet-view =

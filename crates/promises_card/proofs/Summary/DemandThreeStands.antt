@@ -8,8 +8,6 @@ use native.Mathlib.Omega.{arith}
 use borrow.Author.Tests.{ne_eqb}
 use lib.Dec.{eqb}
 use Rattle.frame.specs.Pick.{pick}
-use Rattle.sheet.specs.declared.Saved.{Saved}
-use Rattle.sheet.specs.declared.Saved.TheVariants.{Stores, Refused}
 use Rattle.sheet.specs.Record.{length_of}
 use Rattle.sheet.specs.Stores.{after}
 use Rattle.sheet.specs.Save.{save_fault, Saves}
@@ -23,6 +21,9 @@ use Rattle.promises_card.specs.Summary.Chain as chain
 use Rattle.promises_card.specs.Sheet.History as history
 use Rattle.promises_card.specs.Summary.DemandThreeStands.{DemandThreeStands}
 use Rattle.promises_card.proofs.Summary.Kept.{HandedFault, by_37, by-24, by-none, handed-fault, Became, summary_bad, save_bad, closed, short, became, save-number}
+use Rattle.std.specs.Prelude.{Result, Ok, Err}
+use Rattle.frame.specs.declared.faults.Fault.{Fault}
+use Rattle.frame.specs.Faults.{fault}
 
 -- whether a number is one of the two
 not-two : (n : ℕ) → n ≤ 14 → (eqb n 37 || eqb n 24) ≡ false
@@ -46,7 +47,7 @@ pub one_of : (s : List ℕ) (page : Summary) (x : Step) (t : List ℕ) → Goes 
     → Saves s x.entry x.allowance (saved_as x.answer) t
 one_of s page x t g passed = go (became s page x t g)
   where
-    saves : (a : Saved) (u : List ℕ) → Saves s x.entry x.allowance a u → saved_as x.answer ≡ a → t ≡ u
+    saves : (a : Result ℕ Fault) (u : List ℕ) → Saves s x.entry x.allowance a u → saved_as x.answer ≡ a → t ≡ u
         → Saves s x.entry x.allowance (saved_as x.answer) t
     saves a u m p q = record { answers = p ∙ m.answers; leaves = q ∙ m.leaves }
 
@@ -54,16 +55,16 @@ one_of s page x t g passed = go (became s page x t g)
     go (summary_bad some a q) = apart (sym (number_is x _ a ∙ (is-two page some).0) ∙ passed)
     go (save_bad h some a q) =
         let n = save_fault s x.entry in
-        saves (Refused n) s (refuses s x.entry x.allowance n refl (ne_eqb n 0 some))
-        (ap saved_as a ∙ ap (λ (b : Bool). pick b (Stores 0) (Refused n)) (ne_eqb n 0 some)) q
+        saves (Err (fault n)) s (refuses s x.entry x.allowance n refl (ne_eqb n 0 some))
+        (ap saved_as a ∙ ap (λ (b : Bool). pick b (Ok 0) (Err (fault n))) (ne_eqb n 0 some)) q
     go (closed h f l a q) =
         let m : length_of x.entry + 2 ≡ min x.allowance (length_of x.entry + 2) = omega arith in
-        saves (Stores (min x.allowance (length_of x.entry + 2))) (after s x.entry x.allowance) (makes s x.entry x.allowance f)
-        (ap saved_as a ∙ ap Stores m) q
+        saves (Ok (min x.allowance (length_of x.entry + 2))) (after s x.entry x.allowance) (makes s x.entry x.allowance f)
+        (ap saved_as a ∙ ap Ok m) q
     go (short h f l a q) =
         let m : x.allowance ≡ min x.allowance (length_of x.entry + 2) = omega arith in
-        saves (Stores (min x.allowance (length_of x.entry + 2))) (after s x.entry x.allowance) (makes s x.entry x.allowance f)
-        (ap saved_as a ∙ ap Stores m) q
+        saves (Ok (min x.allowance (length_of x.entry + 2))) (after s x.entry x.allowance) (makes s x.entry x.allowance f)
+        (ap saved_as a ∙ ap Ok m) q
 
 pub refused-of : (s : List ℕ) (page : Summary) (x : Step) (t : List ℕ) → Goes s page x t → summary_refused x ≡ true → (t ≡ s) × (x.answer.number ≢ 13)
 refused-of s page x t g told = go (became s page x t g)

@@ -15,10 +15,14 @@ use Rattle.sheet.specs.Slots.{size_allowed, slots, next}
 use Rattle.sheet.specs.Stores.{after}
 use Rattle.sheet.specs.Save.{save_fault}
 use Rattle.sheet.proofs.Refusals.{save-fault}
+use Rattle.sheet.proofs.SaveNumbers.{save-small}
 use Rattle.summary.specs.declared.Summary.{Summary}
 use Rattle.summary.specs.Handed.{misshapen, over, handed_fault}
 use Rattle.summary.specs.Updated.{with_record}
 use Rattle.summary.specs.Calls.{kept_of, keep_fault, closes_record}
+use Rattle.frame.proofs.Answers.{number_is}
+use Rattle.frame.proofs.Tables.{pick-case}
+use Rattle.summary.specs.declared.Kept.{Kept}
 use Rattle.promises_card.specs.Summary.Chain.{Step, Goes}
 
 -- the numbers of the sheet's save
@@ -56,6 +60,26 @@ handed-fault page = go (misshapen page) (over page) refl refl
     go true o e f = by_37 e (number true o e f)
     go false true e f = by-24 e f (number false true e f)
     go false false e f = by-none e f (number false false e f)
+
+-- the number of a save with its summary is in the table of faults
+handed-small : (page : Summary) → handed_fault page ≤ 38
+handed-small page = go (handed-fault page)
+  where
+    go : HandedFault page → handed_fault page ≤ 38
+    go (by_37 m n) = omega (arith, n)
+    go (by-24 m o n) = omega (arith, n)
+    go (by-none m o n) = omega (arith, n)
+
+keep-small : (s : List ℕ) (page : Summary) (e : Entry) → keep_fault s page e ≤ 38
+unfolding keep_fault
+keep-small s page e = pick-case (λ (n : ℕ). n ≤ 38) (eqb (handed_fault page) 0) (save-small s e) (handed-small page)
+
+pub step-small : (s : List ℕ) (page : Summary) (x : Step) (t : List ℕ) → Goes s page x t → x.answer.number ≤ 38
+step-small s page x t g =
+    let is : x.answer.number ≡ keep_fault s page x.entry = ap (λ (k : Kept). k.number) g.answers
+    ∙ number_is (kept_of (pick (closes_record x.entry x.allowance) (with_record x.entry page) page) (min x.allowance (length_of x.entry + 2)) 0) (kept_of page 0)
+    (λ (k : Kept). k.number) refl (λ _. refl) (keep_fault s page x.entry) in
+    omega (arith, is, keep-small s page x.entry)
 
 -- what became of it
 pub data Became (s : List ℕ) (page : Summary) (x : Step) (t : List ℕ) : Type 0 where

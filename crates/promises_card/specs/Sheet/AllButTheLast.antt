@@ -1,6 +1,5 @@
 -- All but the last, in any order: before the last store told is made, the slot shows no record, whichever of the others were made and in whatever order.
 use Rattle.std.specs.Prelude.{◌≡◌, ◌≢◌, ◌⊎◌, List, [], ◌∷◌, ℕ, ◌-◌, ◌<◌, length, get_or, take, drop}
-use Rattle.sheet.specs.declared.Saved.{Saved}
 use Rattle.sheet.specs.declared.tell.SaveStores.{SaveStores}
 use Rattle.sheet.specs.Record.{Entry}
 use Rattle.sheet.specs.Slots.{blank, spoiled, slot_at, slot_of, list_of}
@@ -9,6 +8,8 @@ use Rattle.sheet.specs.Save.{Saves}
 use Rattle.sheet.specs.StoresTold.{TellsStores, stores_told}
 use Rattle.promises_card.specs.Sheet.OneSave.{nth}
 use Rattle.promises_card.specs.Sheet.InSteps.{AtOnce}
+use Rattle.std.specs.Prelude.{Result}
+use Rattle.frame.specs.declared.faults.Fault.{Fault}
 
 -- All but the last of the stores told, and the last.
 abbrev pub all_but_last : SaveStores → List Store
@@ -41,4 +42,4 @@ pub record AllButTheLast : Type 0 where
       → (t : List ℕ) → Torn s (all_but_last told) t → ShowsNone s told.slot t
   -- Where the write was not torn, the last store then leaves what a save with all its stores leaves.
   pub then_last : (s : List ℕ) (e : Entry) (told : SaveStores) → TellsStores s e told → (t : List ℕ) → AtOnce s (all_but_last told) t
-      → (answer : Saved) (u : List ℕ) → Saves s e told.count answer u → made t (the_last told) ≡ u
+      → (answer : Result ℕ Fault) (u : List ℕ) → Saves s e told.count answer u → made t (the_last told) ≡ u

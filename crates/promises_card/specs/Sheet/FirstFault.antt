@@ -3,7 +3,6 @@ use Rattle.std.specs.Prelude.{not, ◌&&◌, List, [], ◌∷◌, ℕ, leb, ltb}
 use Rattle.frame.specs.Line.{formed}
 use Rattle.frame.specs.Faults.{Test, ◌gives◌}
 use Rattle.sheet.specs.declared.Looked.{Looked}
-use Rattle.sheet.specs.declared.Saved.{Saved}
 use Rattle.sheet.specs.declared.tell.SaveStores.{SaveStores}
 use Rattle.sheet.specs.Record.{Entry}
 use Rattle.sheet.specs.Slots.{size_allowed, slots, next}
@@ -11,6 +10,8 @@ use Rattle.sheet.specs.Save.{Saves, saved_number}
 use Rattle.sheet.specs.Look.{Looks, found_number}
 use Rattle.sheet.specs.StoresTold.{TellsStores}
 use Rattle.promises_frame.specs.FirstFault.{FirstThatApplies}
+use Rattle.std.specs.Prelude.{Result}
+use Rattle.frame.specs.declared.faults.Fault.{Fault}
 
 abbrev pub save_table : List ℕ → Entry → List Test
 save_table s e =
@@ -28,7 +29,7 @@ abbrev pub look_table : List ℕ → ℕ → List Test
 look_table s slot = not (size_allowed s && ltb slot (slots s)) gives 12 ∷ []
 
 pub record SheetFault : Type 0 where
-  pub save : (s : List ℕ) (e : Entry) (allowance : ℕ) (answer : Saved) (t : List ℕ) → Saves s e allowance answer t
+  pub save : (s : List ℕ) (e : Entry) (allowance : ℕ) (answer : Result ℕ Fault) (t : List ℕ) → Saves s e allowance answer t
       → FirstThatApplies (save_table s e) save_order (saved_number answer)
   pub look : (s : List ℕ) (slot : ℕ) (answer : Looked) → Looks s slot answer
       → FirstThatApplies (look_table s slot) (12 ∷ []) (found_number answer.found)

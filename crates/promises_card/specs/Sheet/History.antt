@@ -1,17 +1,18 @@
 -- Histories of a month sheet: saves tried one after another, each of any record whatsoever, good or bad, with any allowance.
 use Rattle.std.specs.Prelude.{Bool, ◌&&◌, List, [], ◌∷◌, ◌++◌, ℕ, ◌+◌, ◌*◌, ◌^◌, ◌<◌, ◌≤◌, eqb, ltb, replicate}
 use Rattle.frame.specs.Pick.{pick}
-use Rattle.sheet.specs.declared.Saved.{Saved}
 use Rattle.sheet.specs.Bytes.{FF}
 use Rattle.sheet.specs.Record.{Entry, length_of}
 use Rattle.sheet.specs.Save.{Saves, stores_made}
+use Rattle.std.specs.Prelude.{Result}
+use Rattle.frame.specs.declared.faults.Fault.{Fault}
 
 -- A save: its record, whose minute has 32 bits, how many stores it may make, and what it was answered.
 pub record Save : Type 0 where
   pub entry : Entry
   pub minute_fits : entry.minute < 2 ^ 32
   pub allowance : ℕ
-  pub answer : Saved
+  pub answer : Result ℕ Fault
 
 -- It takes one sheet to another as the contract of the call says.
 abbrev pub TakesSheet : List ℕ → Save → List ℕ → Type 0

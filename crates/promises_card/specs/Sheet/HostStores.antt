@@ -1,7 +1,6 @@
 -- Demand 3 of a host that stores itself: histories of told saves, each cut after any number of its stores, with list, full and stays as for saves.
 use Rattle.std.specs.Prelude.{◌≡◌, ◌↔◌, true, ◌&&◌, List, [], ◌∷◌, ◌++◌, map, ℕ, ◌+◌, ◌^◌, ◌<◌, ◌≤◌, min, eqb, take}
 use Rattle.frame.specs.Pick.{pick}
-use Rattle.sheet.specs.declared.Saved.TheVariants.{Stores, Refused}
 use Rattle.sheet.specs.declared.tell.SaveStores.{SaveStores}
 use Rattle.sheet.specs.Record.{Entry, passes}
 use Rattle.sheet.specs.Slots.{list_of}
@@ -9,6 +8,8 @@ use Rattle.sheet.specs.Stores.{made}
 use Rattle.sheet.specs.StoresTold.{TellsStores, stores_told}
 use Rattle.promises_card.specs.Sheet.History.{Save, History, blank_sheet, closed_in, broken_in, records_of}
 use Rattle.promises_card.specs.Sheet.ListAndFull.{slot_left, covered, Begins}
+use Rattle.std.specs.Prelude.{Ok, Err}
+use Rattle.frame.specs.Faults.{fault}
 
 -- A save that a host makes itself: its record, whose minute has 32 bits, what it was told, and after how many stores the power was cut; a cut after
 -- them all is none.
@@ -35,7 +36,7 @@ as_save x =
       entry = x.entry;
       minute_fits = x.minute_fits;
       allowance = x.cut;
-      answer = pick (eqb x.told.number 0) (Stores (min x.cut x.told.count)) (Refused x.told.number);
+      answer = pick (eqb x.told.number 0) (Ok (min x.cut x.told.count)) (Err (fault x.told.number));
     }
 
 abbrev pub as_saves : List ToldSave → List Save

@@ -1,12 +1,13 @@
 -- In steps: the stores told, taken several at once, each step wholly or not at all, in order.
 use Rattle.std.specs.Prelude.{◌≡◌, ◌≢◌, List, [], ◌∷◌, ◌++◌, ℕ, ◌<◌, length, get_or, take}
-use Rattle.sheet.specs.declared.Saved.{Saved}
 use Rattle.sheet.specs.declared.tell.SaveStores.{SaveStores}
 use Rattle.sheet.specs.Record.{Entry}
 use Rattle.sheet.specs.Stores.{Store}
 use Rattle.sheet.specs.Save.{Saves}
 use Rattle.sheet.specs.StoresTold.{TellsStores, stores_told}
 use Rattle.promises_card.specs.Sheet.OneSave.{nth}
+use Rattle.std.specs.Prelude.{Result}
+use Rattle.frame.specs.declared.faults.Fault.{Fault}
 
 -- Stores made at once, in no order: each byte stands at its place, and every other byte is what it was.
 pub record AtOnce (s : List ℕ) (ps : List Store) (t : List ℕ) : Type 0 where
@@ -27,7 +28,7 @@ stores_in (ps ∷ steps) = ps ++ stores_in steps
 pub record InSteps : Type 0 where
   -- Into whatever steps the stores told are parted, the first j of them leave what a save with as many stores as those have leaves.
   pub leaves : (s : List ℕ) (e : Entry) (told : SaveStores) → TellsStores s e told → (steps : List (List Store)) → stores_in steps ≡ stores_told told
-      → (j : ℕ) (t : List ℕ) → Stepped s (take j steps) t → (answer : Saved) (u : List ℕ) → Saves s e (length (stores_in (take j steps))) answer u → t ≡ u
+      → (j : ℕ) (t : List ℕ) → Stepped s (take j steps) t → (answer : Result ℕ Fault) (u : List ℕ) → Saves s e (length (stores_in (take j steps))) answer u → t ≡ u
   -- And such steps can be made.
   pub can : (s : List ℕ) (e : Entry) (told : SaveStores) → TellsStores s e told → (steps : List (List Store)) → stores_in steps ≡ stores_told told
       → (j : ℕ) → (t : List ℕ) × Stepped s (take j steps) t

@@ -1,13 +1,14 @@
 -- Saves that keep a summary, one after another: each is handed the summary that the one before it left.
 use Rattle.std.specs.Prelude.{Bool, ◌||◌, List, [], ◌∷◌, ℕ, ◌^◌, ◌<◌, eqb}
 use Rattle.frame.specs.Pick.{pick}
-use Rattle.sheet.specs.declared.Saved.{Saved}
-use Rattle.sheet.specs.declared.Saved.TheVariants.{Stores, Refused}
 use Rattle.sheet.specs.Record.{Entry}
 use Rattle.summary.specs.declared.Summary.{Summary}
 use Rattle.summary.specs.declared.Kept.{Kept}
 use Rattle.summary.specs.Calls.{SavesWith}
 use Rattle.promises_card.specs.Sheet.History.{Save, closed_with}
+use Rattle.std.specs.Prelude.{Result, Ok, Err}
+use Rattle.frame.specs.declared.faults.Fault.{Fault}
+use Rattle.frame.specs.Faults.{fault}
 
 -- A save: its record, whose minute has 32 bits, how many stores it may make, and what it was answered.
 pub record Step : Type 0 where
@@ -35,8 +36,8 @@ abbrev pub summary_refused : Step → Bool
 summary_refused x = eqb x.answer.number 37 || eqb x.answer.number 24
 
 -- The same answer as the sheet's own save gives it, and the save that it is then.
-abbrev pub saved_as : Kept → Saved
-saved_as k = pick (eqb k.number 0) (Stores k.count) (Refused k.number)
+abbrev pub saved_as : Kept → Result ℕ Fault
+saved_as k = pick (eqb k.number 0) (Ok k.count) (Err (fault k.number))
 
 abbrev pub as_save : Step → Save
 as_save x = record { entry = x.entry; minute_fits = x.minute_fits; allowance = x.allowance; answer = saved_as x.answer }

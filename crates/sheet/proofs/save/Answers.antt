@@ -1,30 +1,34 @@
 -- `sheet::save` meets its contract: each return is one case of the law `into-fault`, which gives the number by the sheet's size, the record's checks
 -- and whether a slot is left. Assumes nothing.
+use Rattle.std.proofs.lemmas.Result.{err_from_is_err_and}
+use Rattle.frame.specs.Faults.{first_of}
+use Rattle.frame.proofs.Verdicts.{was-passed, was-refused}
 use mathlib.Core.Path.{◌≡◌, refl, sym, ap, ◌∙◌}
 use mathlib.Core.Bool.{true, false}
 use Prim.Native.Nat.{ℕ}
-use borrow.Author.Tests.{eq-eqb, ne_eqb}
+use borrow.Author.Tests.{ne_eqb}
 use lib.Dec.{eqb}
-use Rattle.sheet.specs.Record.{Entry, entry_of, passes}
+use Rattle.sheet.specs.Look.{entry_with}
+use Rattle.sheet.specs.Record.{Entry, checks, passes}
 use Rattle.sheet.specs.Slots.{size_allowed, next}
 use Rattle.sheet.proofs.Refusals.{wrong_size, fails, into-refuses, into-saves, told-saves}
-use Rattle.sheet.proofs.save.Goals.{Else-fault-ne0, Else-not-size_allowed, Start}
+use Rattle.sheet.proofs.save.Goals.{In_ok-check, Else-not-size_allowed, Start}
 use Rattle.sheet.proofs.save.Goals as goal
 
 -- what the call was handed
 abbrev entry : Start → Entry
-entry c = entry_of c.args.settings c.args.minute c.args.address c.args.count c.args.reply.now
+entry c = entry_with c.args.head c.args.reply.now
 
-abbrev entry-at-2 : Else-fault-ne0 → Entry
-entry-at-2 c = entry_of c.args.settings c.args.minute c.args.address c.args.count c.args.reply.now
+abbrev entry-at-2 : In_ok-check → Entry
+entry-at-2 c = entry_with c.args.head c.args.reply.now
 
 -- past the first test the size is right, and past the second the record passes
 sized : (c : Else-not-size_allowed) → size_allowed c.args.sheet.now ≡ true
 sized c = sym c.size_allowed.ensures ∙ c.if-not-size_allowed.false
 
-good : (c : Else-fault-ne0) → passes (entry-at-2 c) ≡ true
+good : (c : In_ok-check) → passes (entry-at-2 c) ≡ true
 unfolding passes
-good c = ap (λ (n : ℕ). eqb n 0) (sym c.check-fault.ensures) ∙ eq-eqb _ _ c.if-fault-ne0.false
+good c = ap (λ (n : ℕ). eqb n 0) (was-passed _ tt c.in_ok-check.field-0 (sym c.check.ensures ∙ c.in_ok-check.was))
 
 pub returns-then-not-size_allowed : goal.returns-then-not-size_allowed
 returns-then-not-size_allowed c =
@@ -33,19 +37,22 @@ returns-then-not-size_allowed c =
     let s = c.args.sheet.now in
     into-saves s (entry (goal.at.returns-then-not-size_allowed c).Start) c.args.allowance _ s (into-refuses s (next s) (entry (goal.at.returns-then-not-size_allowed c).Start) c.args.allowance 12 (wrong_size s (next s) (entry (goal.at.returns-then-not-size_allowed c).Start) wrong) refl)
 
-pub returns-then-fault-ne0 : goal.returns-then-fault-ne0
+pub returns-in_err-check : goal.returns-in_err-check
 unfolding passes
-returns-then-fault-ne0 c =
+returns-in_err-check c =
     let s = c.args.sheet.now in
-    let no : eqb c.check-fault.result 0 ≡ false = ne_eqb _ _ c.if-fault-ne0.true in
-    let bad : passes (entry (goal.at.returns-then-fault-ne0 c).Start) ≡ false = ap (λ (n : ℕ). eqb n 0) (sym c.check-fault.ensures) ∙ no in
-    into-saves s (entry (goal.at.returns-then-fault-ne0 c).Start) c.args.allowance _ s
-    (into-refuses s (next s) (entry (goal.at.returns-then-fault-ne0 c).Start) c.args.allowance c.check-fault.result
-    (fails s (next s) (entry (goal.at.returns-then-fault-ne0 c).Start) (sized (goal.at.returns-then-fault-ne0 c).Else-not-size_allowed) bad ∙ sym c.check-fault.ensures) no)
+    let e = entry (goal.at.returns-in_err-check c).Start in
+    let p = err_from_is_err_and c.from_residual.result c.from_residual.ensures.1 in
+    let w = was-refused (first_of (checks e)) tt _ (sym c.check.ensures ∙ c.in_err-check.was) in
+    let no : eqb (first_of (checks e)) 0 ≡ false = ne_eqb _ _ w.0 in
+    rw (p.1, p.2, w.1)
+    (into-saves s (entry (goal.at.returns-in_err-check c).Start) c.args.allowance _ s
+    (into-refuses s (next s) e c.args.allowance (first_of (checks e))
+    (fails s (next s) e (sized (goal.at.returns-in_err-check c).Else-not-size_allowed) no) no))
 
 pub put_into-requires : goal.put_into-requires
 put_into-requires c =
-    record { sheet_value = sized (goal.at.put_into-requires c).Else-not-size_allowed; reply_value = good (goal.at.put_into-requires c).Else-fault-ne0 }
+    record { sheet_value = sized (goal.at.put_into-requires c).Else-not-size_allowed; reply_value = good (goal.at.put_into-requires c).In_ok-check }
 
 pub returns : goal.returns
 returns c =

@@ -1,5 +1,5 @@
 -- `telling::places_for` meets its contract: after i turns the first i places stand in the row, and zeros behind them. Assumes nothing.
-use mathlib.Core.Path.{◌≡◌, refl, sym, ap, ◌∙◌}
+use mathlib.Core.Path.{◌≡◌, sym, ap, ◌∙◌}
 use mathlib.Core.List.{List}
 use Prim.Native.Nat.{ℕ, ◌+◌, ◌<◌, ◌≤◌}
 use native.Mathlib.Numerals.{add-one}
@@ -20,38 +20,13 @@ next_place row i few is =
 last-two : (row : List ℕ) (size : ℕ) → size ≤ 17 → row ≡ zeros_behind (up_from 2 size) → set (set row size 1) (size + 1) 0 ≡ zeros_behind (places_row size)
 last-two row size few is = two-more row (up_from 2 size) 1 0 size (up-length 2 size) (omega arith) is
 
-pub loop-i-init : goal.loop-i-init
-loop-i-init c = (omega arith, refl)
-
-pub overflow_add-places : goal.overflow_add-places
-overflow_add-places c = record { fits = omega (arith, c.requires) }
-
-pub overflow_cast-places : goal.overflow_cast-places
-overflow_cast-places c = record { fits = omega (arith, c.requires) }
-
-pub bounds-places-i : goal.bounds-places-i
-bounds-places-i c = omega (arith, c.requires)
-
-pub loop-i-smaller : goal.loop-i-smaller
-loop-i-smaller c = omega arith
-
 pub loop-i-preserved : goal.loop-i-preserved
 loop-i-preserved c =
     let l = c.loop-i in
-    let few : l.i < 19 = omega (arith, c.requires) in
-    (omega arith, next_place l.places l.i few l.invariant.1)
-
-pub bounds-places-size : goal.bounds-places-size
-bounds-places-size c = omega (arith, c.requires)
-
-pub overflow_add-places-2 : goal.overflow_add-places-2
-overflow_add-places-2 c = record { fits = omega (arith, c.requires) }
-
-pub bounds-places-size-2 : goal.bounds-places-size-2
-bounds-places-size-2 c = omega (arith, c.requires)
+    next_place l.places l.i (omega (arith, c.requires)) l.invariant
 
 pub returns : goal.returns
 returns c =
     let l = c.loop-i in
-    let all : l.i ≡ c.args.size = omega (arith, l.invariant.0) in
-    last-two l.places c.args.size c.requires (l.invariant.1 ∙ ap (λ (n : ℕ). zeros_behind (up_from 2 n)) all)
+    let all : l.i ≡ c.args.size = omega arith in
+    last-two l.places c.args.size c.requires (l.invariant ∙ ap (λ (n : ℕ). zeros_behind (up_from 2 n)) all)

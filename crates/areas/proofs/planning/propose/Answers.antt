@@ -1,30 +1,39 @@
 -- `areas::planning::propose` meets its contract: at each turn the plan is the areas taken and those that are yet to be taken. Assumes nothing.
-use mathlib.Core.Path.{◌≡◌, refl, sym, ap, ◌∙◌}
-use mathlib.Core.Bool.{false}
+use mathlib.Core.Path.{◌≡◌, sym, ap, ◌∙◌}
+use mathlib.Core.Bool.{Bool, true, false}
 use mathlib.Core.List.{List, [], ◌∷◌, ◌++◌, append_assoc, append-nil}
 use Prim.Native.Nat.{ℕ, suc, ◌≤◌, ◌<◌, ◌-◌, ◌+◌}
 use native.Mathlib.Numerals.{add-one}
 use native.Mathlib.Omega.{arith}
 use borrow.Author.Tests.{ne_eqb}
 use lib.Dec.{eqb}
-use lib.ListN.{length, take, drop, set, replicate, length-drop, length-set, take-append-drop}
-use lib.Seq.{take-suc-set, drop-set-lt, length-take-le, drop-drop}
+use lib.ListN.{length, take, drop, set, replicate, length-set, length-drop, take-append-drop}
+use lib.Seq.{take-suc-set, drop-set-lt, length-take-le, drop-drop, take_all, set-get_or}
+use Rattle.std.proofs.Common.{Option, Some, None}
 use Rattle.frame.specs.Pick.{pick}
-use Rattle.areas.specs.Plan.{first_area, greedy, rest, plan_told, refused}
+use Rattle.areas.specs.declared.Plan.{Plan}
+use Rattle.areas.specs.Plan.{first_area, greedy, rest, plan_told}
 use Rattle.areas.proofs.Cutting.{greedy-step, rest-step, greedy-stop, rest-stop}
+use Rattle.areas.proofs.planning.propose.Goals.{else-loop-size-test, then-loop-size-test+then-n-eq0}
 use Rattle.areas.proofs.planning.propose.Goals as goal
 
+-- The areas taken are all, and these transmitters are left over.
+abbrev Done : (s sizes : List ℕ) (k : ℕ) (left : List ℕ) → Type 0
+Done s sizes k left = (k ≤ 8) × (greedy 8 s ≡ take k sizes) × (rest 8 s ≡ left)
+
 -- what is told of the areas taken, once no more are
-ends : (s sizes : List ℕ) (k left : ℕ) → length sizes ≡ 8 → k ≤ 8 → drop k sizes ≡ replicate (8 - k) 0 → greedy 8 s ≡ take k sizes
-    → length (rest 8 s) ≡ left
-    → pick (eqb left 0) (record { sizes = sizes; areas = k; number = 0 }) (refused 35)
-    ≡ pick (eqb (length (rest 8 s)) 0) (plan_told (greedy 8 s)) (refused 35)
-ends s sizes k left long few zeros all over =
-    let many : length (take k sizes) ≡ k = length-take-le k sizes (omega arith) in
-    let areas : k ≡ length (greedy 8 s) = sym (ap length all ∙ many) in
+told : (s sizes left : List ℕ) (k areas : ℕ) (b : Bool) → length sizes ≡ 8 → drop k sizes ≡ replicate (8 - k) 0 → areas ≡ k → Done s sizes k left
+    → b ≡ eqb (length left) 0
+    → ◌≡◌ {A = Option Plan} (pick b (Some (record { sizes = sizes; areas = areas; number = 0 })) None)
+    (pick (eqb (length (rest 8 s)) 0) (Some (plan_told (greedy 8 s))) None)
+told s sizes left k areas b long zeros is done empty =
+    let many : length (take k sizes) ≡ k = length-take-le k sizes (omega (arith, done.0)) in
+    let count : k ≡ length (greedy 8 s) = sym (ap length done.1 ∙ many) in
     let row : sizes ≡ greedy 8 s ++ replicate (8 - length (greedy 8 s)) 0 =
-    sym (take-append-drop k sizes) ∙ (λ i. sym all i ++ (zeros ∙ ap (λ (m : ℕ). replicate (8 - m) 0) areas) i) in
-    λ i. pick (eqb (sym over i) 0) (record { sizes = row i; areas = areas i; number = 0 }) (refused 35)
+    sym (take-append-drop k sizes) ∙ (λ i. sym done.1 i ++ (zeros ∙ ap (λ (m : ℕ). replicate (8 - m) 0) count) i) in
+    let nothing : b ≡ eqb (length (rest 8 s)) 0 = empty ∙ ap (λ (l : List ℕ). eqb (length l) 0) (sym done.2) in
+    let size : areas ≡ length (greedy 8 s) = is ∙ count in
+    λ i. pick (nothing i) (Some (record { sizes = row i; areas = size i; number = 0 })) None
 
 -- one more area: the places behind it are still 0
 behind : (sizes : List ℕ) (k n : ℕ) → k < 8 → drop k sizes ≡ replicate (8 - k) 0 → drop (k + 1) (set sizes k n) ≡ replicate (8 - (k + 1)) 0
@@ -32,102 +41,89 @@ behind sizes k n h e =
     let left : 8 - k ≡ suc (8 - (k + 1)) = omega arith in
     drop-set-lt (k + 1) sizes k n (omega arith) ∙ sym (drop-drop 1 k sizes) ∙ ap (drop 1) (e ∙ ap (λ (m : ℕ). replicate m 0) left)
 
-taken : (s sizes : List ℕ) (from k n : ℕ) → k < 8 → length sizes ≡ 8 → n ≡ first_area (drop from s) → eqb n 0 ≡ false
-    → greedy 8 s ≡ take k sizes ++ greedy (8 - k) (drop from s)
-    → greedy 8 s ≡ take (k + 1) (set sizes k n) ++ greedy (8 - (k + 1)) (drop (from + n) s)
-taken s sizes from k n h long e z all =
-    let left : 8 - k ≡ suc (8 - (k + 1)) = omega arith in
+taken : (s sizes left : List ℕ) (k n : ℕ) → k < 8 → length sizes ≡ 8 → n ≡ first_area left → eqb n 0 ≡ false
+    → greedy 8 s ≡ take k sizes ++ greedy (8 - k) left
+    → greedy 8 s ≡ take (k + 1) (set sizes k n) ++ greedy (8 - (k + 1)) (drop n left)
+taken s sizes left k n h long e z all =
+    let fewer : 8 - k ≡ suc (8 - (k + 1)) = omega arith in
     let front : take (k + 1) (set sizes k n) ≡ take k sizes ++ n ∷ [] = ap (λ (m : ℕ). take m (set sizes k n)) (add-one k) ∙ take-suc-set sizes k n (omega arith) in
-    let next = ap (λ (j : ℕ). greedy j (drop from s)) left ∙ greedy-step s from n (8 - (k + 1)) e z in
+    let next = ap (λ (j : ℕ). greedy j left) fewer ∙ greedy-step left n (8 - (k + 1)) e z in
     all ∙ ap (λ (g : List ℕ). take k sizes ++ g) next
-    ∙ sym (append_assoc (take k sizes) (n ∷ []) (greedy (8 - (k + 1)) (drop (from + n) s)))
-    ∙ ap (λ (g : List ℕ). g ++ greedy (8 - (k + 1)) (drop (from + n) s)) (sym front)
+    ∙ sym (append_assoc (take k sizes) (n ∷ []) (greedy (8 - (k + 1)) (drop n left)))
+    ∙ ap (λ (g : List ℕ). g ++ greedy (8 - (k + 1)) (drop n left)) (sym front)
 
-over : (s : List ℕ) (from k n : ℕ) → k < 8 → n ≡ first_area (drop from s) → eqb n 0 ≡ false → rest 8 s ≡ rest (8 - k) (drop from s)
-    → rest 8 s ≡ rest (8 - (k + 1)) (drop (from + n) s)
-over s from k n h e z all =
-    let left : 8 - k ≡ suc (8 - (k + 1)) = omega arith in
-    all ∙ ap (λ (j : ℕ). rest j (drop from s)) left ∙ rest-step s from n (8 - (k + 1)) e z
+over : (s left : List ℕ) (k n : ℕ) → k < 8 → n ≡ first_area left → eqb n 0 ≡ false → rest 8 s ≡ rest (8 - k) left
+    → rest 8 s ≡ rest (8 - (k + 1)) (drop n left)
+over s left k n h e z all =
+    let fewer : 8 - k ≡ suc (8 - (k + 1)) = omega arith in
+    all ∙ ap (λ (j : ℕ). rest j left) fewer ∙ rest-step left n (8 - (k + 1)) e z
 
 -- with no area left to take
-none : (s : List ℕ) (from j : ℕ) → j ≡ 0 → greedy j (drop from s) ≡ []
-unfolding greedy
-none s from j e = ap (λ (m : ℕ). greedy m (drop from s)) e
-
-nothing-more : (s : List ℕ) (from j : ℕ) → j ≡ 0 → rest j (drop from s) ≡ drop from s
-unfolding rest
-nothing-more s from j e = ap (λ (m : ℕ). rest m (drop from s)) e
-
-pub loop-k-init : goal.loop-k-init
-loop-k-init c = (omega arith, omega arith, refl, refl, refl, refl)
-
-pub area_from-n-requires : goal.area_from-n-requires
-area_from-n-requires c = omega arith
-
-pub overflow_sub-site : goal.overflow_sub-site
-overflow_sub-site c = omega arith
-
-pub finished-requires : goal.finished-requires
-finished-requires c = omega arith
-
-pub returns-then-n-eq0 : goal.returns-then-n-eq0
-returns-then-n-eq0 c =
-    let s = c.args.site.now in
-    let l = c.loop-k in
-    let n = c.area_from-n in
-    let none : first_area (drop l.from s) ≡ 0 = sym n.ensures.0 ∙ c.if-n-eq0.true in
-    let left : 8 - l.k ≡ suc (8 - (l.k + 1)) = omega arith in
-    let all : greedy 8 s ≡ take l.k l.sizes =
-    l.invariant.4 ∙ ap (λ (g : List ℕ). take l.k l.sizes ++ g) (ap (λ (j : ℕ). greedy j (drop l.from s)) left ∙ greedy-stop s l.from (8 - (l.k + 1)) none)
-    ∙ append-nil (take l.k l.sizes) in
-    let over : rest 8 s ≡ drop l.from s = l.invariant.5 ∙ ap (λ (j : ℕ). rest j (drop l.from s)) left ∙ rest-stop s l.from (8 - (l.k + 1)) none in
-    c.finished.ensures
-    ∙ ends s l.sizes l.k (length s - l.from) l.invariant.2 l.invariant.0 l.invariant.3 all (ap length over ∙ length-drop l.from s)
-
-pub overflow_cast-sizes : goal.overflow_cast-sizes
-overflow_cast-sizes c = omega arith
-
-pub bounds-sizes-k : goal.bounds-sizes-k
-bounds-sizes-k c = omega arith
-
-pub overflow_add-from : goal.overflow_add-from
-overflow_add-from c = omega arith
-
-pub overflow_add-k : goal.overflow_add-k
-overflow_add-k c = omega arith
-
-pub loop-k-smaller : goal.loop-k-smaller
-loop-k-smaller c = omega arith
-
-pub loop-k-preserved : goal.loop-k-preserved
-loop-k-preserved c =
-    let s = c.args.site.now in
-    let l = c.loop-k in
-    let n = c.area_from-n in
-    let some : eqb n.result 0 ≡ false = ne_eqb _ _ c.if-n-eq0.false in (
+full : (s sizes left : List ℕ) (k : ℕ) → k ≡ 8 → greedy 8 s ≡ take k sizes ++ greedy (8 - k) left → rest 8 s ≡ rest (8 - k) left → Done s sizes k left
+unfolding greedy rest
+full s sizes left k e all last =
+    let none : 8 - k ≡ 0 = omega arith in (
       omega arith,
-      omega arith,
-      length-set l.sizes l.k n.result ∙ l.invariant.2,
-      behind l.sizes l.k n.result (omega arith) l.invariant.3,
-      taken s l.sizes l.from l.k n.result (omega arith) l.invariant.2 n.ensures.0 some l.invariant.4,
-      over s l.from l.k n.result (omega arith) n.ensures.0 some l.invariant.5,
+      all ∙ ap (λ (j : ℕ). take k sizes ++ greedy j left) none ∙ append-nil (take k sizes),
+      last ∙ ap (λ (j : ℕ). rest j left) none,
     )
 
-pub overflow_sub-site-2 : goal.overflow_sub-site-2
-overflow_sub-site-2 c = omega arith
+-- where the next area takes nothing
+stopped : (s sizes left : List ℕ) (k : ℕ) → k < 8 → first_area left ≡ 0 → greedy 8 s ≡ take k sizes ++ greedy (8 - k) left → rest 8 s ≡ rest (8 - k) left
+    → Done s sizes k left
+stopped s sizes left k h e all last =
+    let fewer : 8 - k ≡ suc (8 - (k + 1)) = omega arith in (
+      omega arith,
+      all ∙ ap (λ (g : List ℕ). take k sizes ++ g) (ap (λ (j : ℕ). greedy j left) fewer ∙ greedy-stop left (8 - (k + 1)) e) ∙ append-nil (take k sizes),
+      last ∙ ap (λ (j : ℕ). rest j left) fewer ∙ rest-stop left (8 - (k + 1)) e,
+    )
 
-pub finished-requires-2 : goal.finished-requires-2
-finished-requires-2 c = omega arith
+-- what an area leaves
+tail : (n : ℕ) (s : List ℕ) → take (length s - n) (drop n s) ≡ drop n s
+tail n s = take_all (length s - n) (drop n s) (omega (arith, length-drop n s))
 
-pub returns : goal.returns
-returns c =
+pub loop-size-preserved : goal.loop-size-preserved
+loop-size-preserved c =
     let s = c.args.site.now in
-    let l = c.loop-k in
-    let eight : l.k ≡ 8 = omega arith in
-    let zero : 8 - l.k ≡ 0 = omega arith in
-    let all : greedy 8 s ≡ take 8 l.sizes =
-    l.invariant.4 ∙ (λ i. take (eight i) l.sizes ++ none s l.from (8 - l.k) zero i) ∙ append-nil (take 8 l.sizes) in
-    let last : rest 8 s ≡ drop l.from s = l.invariant.5 ∙ nothing-more s l.from (8 - l.k) zero in
-    let empty : drop 8 l.sizes ≡ [] = ap (λ (k : ℕ). drop k l.sizes) (sym eight) ∙ l.invariant.3 ∙ ap (λ (m : ℕ). replicate m 0) zero in
-    c.finished-2.ensures
-    ∙ ends s l.sizes 8 (length s - l.from) l.invariant.2 (omega arith) empty all (ap length last ∙ length-drop l.from s)
+    let l = c.loop-size in
+    let n = c.first_area-n in
+    let some : eqb n.result 0 ≡ false = ne_eqb _ _ c.if-n-eq0.false in (
+      omega arith,
+      length-set l.size-items l.size-index n.result ∙ l.invariant.1,
+      behind l.size-items l.size-index n.result (omega arith) l.invariant.2,
+      taken s l.size-items l.left.now l.size-index n.result (omega arith) l.invariant.1 n.ensures.0 some l.invariant.3
+          ∙ ap (λ (r : List ℕ). take (l.size-index + 1) (set l.size-items l.size-index n.result) ++ greedy (8 - (l.size-index + 1)) r) (sym (tail n.result l.left.now)),
+      over s l.left.now l.size-index n.result (omega arith) n.ensures.0 some l.invariant.4
+          ∙ ap (rest (8 - (l.size-index + 1))) (sym (tail n.result l.left.now)),
+    )
+
+pub returns-then-is_empty : goal.returns-then-is_empty
+returns-then-is_empty c =
+    let s = c.args.site.now in
+    let l = c.loop-size in
+    let i = l.invariant in
+    let empty = sym c.if-is_empty.true ∙ c.is_empty.ensures in
+    elim c.loop-size-test.branch [
+      | else-loop-size-test w ↦
+          rw w.sizes-is
+          (told s l.size-items l.left.now l.size-index l.areas true i.1 i.2 i.0 (full s l.size-items l.left.now l.size-index (omega arith) i.3 i.4) empty)
+      | then-loop-size-test+then-n-eq0 w ↦
+          rw w.sizes-is
+          ((λ j. Some (record { sizes = set-get_or l.size-items l.size-index 0 j; areas = l.areas; number = 0 }))
+          ∙ told s l.size-items l.left.now l.size-index l.areas true i.1 i.2 i.0
+          (stopped s l.size-items l.left.now l.size-index (omega arith) (sym w.first_area-n.ensures.0 ∙ w.if-n-eq0.true) i.3 i.4) empty)
+    ]
+
+pub returns-else-is_empty : goal.returns-else-is_empty
+returns-else-is_empty c =
+    let s = c.args.site.now in
+    let l = c.loop-size in
+    let i = l.invariant in
+    let empty = sym c.if-is_empty.false ∙ c.is_empty.ensures in
+    elim c.loop-size-test.branch [
+      | else-loop-size-test w ↦
+          told s l.size-items l.left.now l.size-index l.areas false i.1 i.2 i.0 (full s l.size-items l.left.now l.size-index (omega arith) i.3 i.4) empty
+      | then-loop-size-test+then-n-eq0 w ↦
+          told s l.size-items l.left.now l.size-index l.areas false i.1 i.2 i.0
+          (stopped s l.size-items l.left.now l.size-index (omega arith) (sym w.first_area-n.ensures.0 ∙ w.if-n-eq0.true) i.3 i.4) empty
+    ]

@@ -1,16 +1,21 @@
--- `board::rows::sets_fault` meets its contract: 26, or by whether the number is 1 or more.
+-- `board::rows::sets_fault` meets its contract: the definition is opened, arm by arm.
+use Rattle.std.proofs.Common.{arith}
+use Rattle.std.proofs.lemmas.Grind.{common_steps}
 use Rattle.board.specs.Row.{sets_fault}
-use borrow.Author.Tests.{eq-eqb, ne_eqb, le-leb, lt-leb}
 use Rattle.board.proofs.rows.sets_fault.Goals as goal
 
-pub returns-then-number-eq26 : goal.returns-then-number-eq26
+pub returns-in_default : goal.returns-in_default
 unfolding sets_fault
-returns-then-number-eq26 c = simp (eq-eqb _ _ c.if-number-eq26.true)
+returns-in_default c = grind (arith, common_steps)
 
-pub returns-then-number-ge1 : goal.returns-then-number-ge1
+pub returns-in_default-2 : goal.returns-in_default-2
 unfolding sets_fault
-returns-then-number-ge1 c = simp (ne_eqb _ _ c.if-number-eq26.false, le-leb _ _ c.if-number-ge1.true)
+returns-in_default-2 c = grind (arith, common_steps)
 
-pub returns-else-number-ge1 : goal.returns-else-number-ge1
+pub returns-in-1-to-9 : goal.returns-in-1-to-9
 unfolding sets_fault
-returns-else-number-ge1 c = simp (ne_eqb _ _ c.if-number-eq26.false, lt-leb _ _ c.if-number-ge1.false)
+returns-in-1-to-9 c = grind (arith, common_steps)
+
+pub returns-in-1-to-9-2 : goal.returns-in-1-to-9-2
+unfolding sets_fault
+returns-in-1-to-9-2 c = grind (arith, common_steps)

@@ -2,71 +2,89 @@
 -- Assumes nothing.
 use mathlib.Core.Path.{◌≡◌, refl, sym, ap, ◌∙◌}
 use mathlib.Core.Bool.{true, false}
-use mathlib.Core.List.{List}
+use mathlib.Core.List.{List, []}
 use Prim.Native.Nat.{ℕ, ◌-◌, ◌≤◌}
 use native.Mathlib.Omega.{arith}
-use borrow.Author.Tests.{eq-eqb, ne_eqb}
+use borrow.Author.Rules.{rules}
 use lib.Dec.{eqb}
 use lib.ListN.{length, take, drop, length-drop}
 use lib.Seq.{take_all}
-use Rattle.enraf.specs.Item.{setting, setting_taken, value, kind_in}
+use Rattle.enraf.specs.declared.kind.ItemKind.{ItemKind}
+use Rattle.enraf.specs.declared.kind.ItemKind.TheVariants.{Alone, Setting, Taken, SettingTaken, Value, Failed}
+use Rattle.enraf.specs.Inside.{kind_number}
+use Rattle.enraf.specs.Item.{setting, setting_taken, value, kind_in, characters_in}
 use Rattle.enraf.proofs.ByTests.{characters-by, setting-long, setting-taken-long}
-use borrow.Author.Rules.{rules}
-use Rattle.enraf.proofs.reading.characters_in.Goals.{Then-kind-eq2, Then-kind-eq4}
+use Rattle.enraf.proofs.reading.characters_in.Goals.{Start, In-Setting, In-SettingTaken}
 use Rattle.enraf.proofs.reading.characters_in.Goals as goal
 
-apart : (t : List ℕ) → kind_in t ≡ 4 → eqb (kind_in t) setting ≡ false
-apart t k = ap (λ (n : ℕ). eqb n setting) k
+-- the data of each kind
+abbrev data_of : ItemKind → List ℕ → List ℕ
+data_of Alone t = []
+data_of Setting t = drop 1 t
+data_of Taken t = []
+data_of SettingTaken t = take (length t - 2) (drop 1 t)
+data_of Value t = t
+data_of Failed t = []
 
-one : (c : Then-kind-eq2) → 1 ≤ length c.args.tail.now
-one c = setting-long c.args.tail.now (sym c.requires ∙ c.if-kind-eq2.true)
+by-kind : (k : ItemKind) (t : List ℕ) → kind_number k ≡ kind_in t → data_of k t ≡ characters_in t
+by-kind Alone t e = sym (characters-by t false false false (ap (λ (n : ℕ). eqb n setting) (sym e)) (ap (λ (n : ℕ). eqb n setting_taken) (sym e)) (ap (λ (n : ℕ). eqb n value) (sym e)))
+by-kind Setting t e = sym (characters-by t true _ _ (ap (λ (n : ℕ). eqb n setting) (sym e)) refl refl)
+by-kind Taken t e = sym (characters-by t false false false (ap (λ (n : ℕ). eqb n setting) (sym e)) (ap (λ (n : ℕ). eqb n setting_taken) (sym e)) (ap (λ (n : ℕ). eqb n value) (sym e)))
+by-kind SettingTaken t e = sym (characters-by t false true _ (ap (λ (n : ℕ). eqb n setting) (sym e)) (ap (λ (n : ℕ). eqb n setting_taken) (sym e)) refl)
+by-kind Value t e = sym (characters-by t false false true (ap (λ (n : ℕ). eqb n setting) (sym e)) (ap (λ (n : ℕ). eqb n setting_taken) (sym e)) (ap (λ (n : ℕ). eqb n value) (sym e)))
+by-kind Failed t e = sym (characters-by t false false false (ap (λ (n : ℕ). eqb n setting) (sym e)) (ap (λ (n : ℕ). eqb n setting_taken) (sym e)) (ap (λ (n : ℕ). eqb n value) (sym e)))
 
-two : (c : Then-kind-eq4) → 2 ≤ length c.args.tail.now
-two c = setting-taken-long c.args.tail.now (sym c.requires ∙ c.if-kind-eq4.true)
+no-data : (k : ItemKind) (t : List ℕ) → (k ≡ Setting → ⊥) → (k ≡ SettingTaken → ⊥) → (k ≡ Value → ⊥) → [] ≡ data_of k t
+no-data Alone t a b c = refl
+no-data Setting t a b c = absurd (a refl)
+no-data Taken t a b c = refl
+no-data SettingTaken t a b c = absurd (b refl)
+no-data Value t a b c = absurd (c refl)
+no-data Failed t a b c = refl
+
+one : (c : In-Setting) → 1 ≤ length c.args.tail.now
+one c = setting-long c.args.tail.now (sym c.requires ∙ ap kind_number c.in-Setting.is)
+
+two : (c : In-SettingTaken) → 2 ≤ length c.args.tail.now
+two c = setting-taken-long c.args.tail.now (sym c.requires ∙ ap kind_number c.in-SettingTaken.is)
 
 pub slice_bounds-result-count : goal.slice_bounds-result-count
-slice_bounds-result-count c = one c
+slice_bounds-result-count c = one (goal.at.slice_bounds-result-count c).In-Setting
 
 pub slice_bounds-result-start : goal.slice_bounds-result-start
 slice_bounds-result-start c =
-    let long = one c in
+    let long = one (goal.at.slice_bounds-result-start c).In-Setting in
     search rules
 
-pub returns-then-kind-eq2 : goal.returns-then-kind-eq2
-returns-then-kind-eq2 c =
+pub overflow_sub-result : goal.overflow_sub-result
+overflow_sub-result c = let long = two (goal.at.overflow_sub-result c).In-SettingTaken in omega arith
+
+pub slice_bounds-result-count-in-SettingTaken : goal.slice_bounds-result-count-in-SettingTaken
+slice_bounds-result-count-in-SettingTaken c =
+    let long = two (goal.at.slice_bounds-result-count-in-SettingTaken c).In-SettingTaken in
+    omega arith
+
+pub slice_bounds-result-start-in-SettingTaken : goal.slice_bounds-result-start-in-SettingTaken
+slice_bounds-result-start-in-SettingTaken c =
+    let long = two (goal.at.slice_bounds-result-start-in-SettingTaken c).In-SettingTaken in
+    search rules
+
+pub returns-in-Setting : goal.returns-in-Setting
+returns-in-Setting c =
     let t = c.args.tail.now in
-    let k : kind_in t ≡ 2 = sym c.requires ∙ c.if-kind-eq2.true in
     let all : length (drop 1 t) ≤ length t - 1 = simp length-drop (omega arith) in
-    take_all (length t - 1) (drop 1 t) all ∙ sym (characters-by t true _ _ (eq-eqb _ _ k) refl refl)
+    take_all (length t - 1) (drop 1 t) all ∙ ap (λ (k : ItemKind). data_of k t) (sym c.in-Setting.is) ∙ by-kind c.args.kind t c.requires
 
-pub overflow_sub-end : goal.overflow_sub-end
-overflow_sub-end c = let long = two c in omega arith
-
-pub slice_bounds-result-count-then-kind-eq4 : goal.slice_bounds-result-count-then-kind-eq4
-slice_bounds-result-count-then-kind-eq4 c = let long = two c in omega arith
-
-pub slice_bounds-result-start-then-kind-eq4 : goal.slice_bounds-result-start-then-kind-eq4
-slice_bounds-result-start-then-kind-eq4 c =
-    let long = two c in
-    search rules
-
-pub returns-then-kind-eq4 : goal.returns-then-kind-eq4
-returns-then-kind-eq4 c =
+pub returns-in-SettingTaken : goal.returns-in-SettingTaken
+returns-in-SettingTaken c =
     let t = c.args.tail.now in
-    let k : kind_in t ≡ 4 = sym c.requires ∙ c.if-kind-eq4.true in
     let inner : length t - 1 - 1 ≡ length t - 2 = omega arith in
-    ap (λ (n : ℕ). take n (drop 1 t)) inner ∙ sym (characters-by t false true _ (apart t k) (eq-eqb _ _ k) refl)
+    ap (λ (n : ℕ). take n (drop 1 t)) inner ∙ ap (λ (k : ItemKind). data_of k t) (sym c.in-SettingTaken.is) ∙ by-kind c.args.kind t c.requires
 
-pub returns-then-kind-eq5 : goal.returns-then-kind-eq5
-returns-then-kind-eq5 c =
-    let t = c.args.tail.now in
-    let k : kind_in t ≡ 5 = sym c.requires ∙ c.if-kind-eq5.true in
-    sym (characters-by t false false true (ap (λ (n : ℕ). eqb n setting) k) (ap (λ (n : ℕ). eqb n setting_taken) k) (eq-eqb _ _ k))
+pub returns-in-Value : goal.returns-in-Value
+returns-in-Value c = ap (λ (k : ItemKind). data_of k c.args.tail.now) (sym c.in-Value.is) ∙ by-kind c.args.kind c.args.tail.now c.requires
 
-pub returns : goal.returns
-returns c =
-    let t = c.args.tail.now in
-    let k : kind_in t ≡ c.args.kind = sym c.requires in
-    sym
-    (characters-by t false false false (ap (λ (n : ℕ). eqb n setting) k ∙ ne_eqb _ _ c.if-kind-eq2.false)
-    (ap (λ (n : ℕ). eqb n setting_taken) k ∙ ne_eqb _ _ c.if-kind-eq4.false) (ap (λ (n : ℕ). eqb n value) k ∙ ne_eqb _ _ c.if-kind-eq5.false))
+pub returns-in_default : goal.returns-in_default
+returns-in_default c =
+    let d = c.in_default in
+    no-data c.args.kind c.args.tail.now d.not-Setting d.not-SettingTaken d.not-Value ∙ by-kind c.args.kind c.args.tail.now c.requires

@@ -1,19 +1,20 @@
--- `enraf::text::is_data` meets its contract, test by test. Assumes nothing.
-use mathlib.Core.Path.{refl, sym}
-use mathlib.Core.Bool.{true, false}
-use borrow.Author.Tests.{lt-leb, le-leb}
-use Rattle.enraf.proofs.ByTests.{data-by}
+-- `enraf::text::is_data` meets its contract: the length, and then each byte. Assumes nothing.
+use mathlib.Core.Path.{◌≡◌, ◌∙◌}
+use Rattle.std.proofs.Common.{rules, tests}
+use Rattle.std.proofs.lemmas.Iterator.{YieldsList-from_slice}
+use Rattle.std.proofs.lemmas.Iterator.Search.{all_from_yields_List}
+use Rattle.enraf.specs.Item.{is_character, all_characters, is_data}
+use Rattle.enraf.proofs.Sums.{all-are}
 use Rattle.enraf.proofs.text.is_data.Goals as goal
 
-pub returns-then-part-lt1 : goal.returns-then-part-lt1
-returns-then-part-lt1 c = sym (data-by c.args.part.now false _ _ (lt-leb _ _ c.if-part-lt1.true) refl refl)
+pub returns-then-matches : goal.returns-then-matches
+unfolding is_data
+returns-then-matches c =
+    let part = c.args.part.now in
+    let run = all_from_yields_List is_character _ _ c.all.result c.all.ensures.ran (YieldsList-from_slice part cc) (λ x b q k. search (rules, tests)) in
+    let all : c.all.result ≡ all_characters part = run ∙ all-are part in
+    search rules
 
-pub returns-then-part-gt16 : goal.returns-then-part-gt16
-returns-then-part-gt16 c =
-    sym (data-by c.args.part.now true false _ (le-leb _ _ c.if-part-lt1.false) (lt-leb _ _ c.if-part-gt16.true) refl)
-
-pub returns : goal.returns
-returns c =
-    sym
-    (data-by c.args.part.now true true c.all_characters.result (le-leb _ _ c.if-part-lt1.false) (le-leb _ _ c.if-part-gt16.false)
-    (sym c.all_characters.ensures))
+pub returns-else-matches : goal.returns-else-matches
+unfolding is_data
+returns-else-matches c = search rules

@@ -4,103 +4,100 @@ use mathlib.Core.List.{[], ◌∷◌, ◌++◌}
 use Prim.Native.Nat.{◌+◌}
 use native.Mathlib.Omega.{arith}
 use lib.ListN.{length, length-append}
-use Rattle.putting.proofs.Putting.{then, text-is, at_most, nothing_put}
+use Rattle.putting.proofs.Added.{then, text-is, at_most, nothing_added}
 use Rattle.enraf.specs.Item.{ampersand}
-use Rattle.enraf.proofs.SixKinds.{one-of-six, the-first, error-few, characters-few}
+use Rattle.enraf.specs.Inside.{kind_number}
+use Rattle.enraf.proofs.SixKinds.{error-few, characters-few}
 use Rattle.enraf.proofs.Tails.{tail-alone, tail-setting, tail-taken, tail-setting-taken, tail-value, tail-error}
 use Rattle.enraf.proofs.writing.put_tail.Goals as goal
 
-pub put_byte-at-requires : goal.put_byte-at-requires
-put_byte-at-requires c =
+pub byte-requires : goal.byte-requires
+byte-requires c =
     let a = c.args in
-    let long = ap length (tail-setting a.kind a.error a.characters.now c.in-2.is) in
+    let long = ap length (tail-setting _ a.error a.characters.now (ap kind_number c.in-Setting.is)) in
     omega arith
 
-pub put_word-requires : goal.put_word-requires
-put_word-requires c =
+pub word-requires : goal.word-requires
+word-requires c =
     let a = c.args in
-    let long = ap length (tail-setting a.kind a.error a.characters.now c.in-2.is) in
+    let long = ap length (tail-setting _ a.error a.characters.now (ap kind_number c.in-Setting.is)) in
     omega arith
 
-pub put_byte-requires : goal.put_byte-requires
-put_byte-requires c =
+pub byte-requires-in-Taken : goal.byte-requires-in-Taken
+byte-requires-in-Taken c =
     let a = c.args in
-    let long = ap length (tail-taken a.kind a.error a.characters.now c.in-3.is) in
+    let long = ap length (tail-taken _ a.error a.characters.now (ap kind_number c.in-Taken.is)) in
     omega arith
 
-pub put_byte-at-requires-in-4 : goal.put_byte-at-requires-in-4
-put_byte-at-requires-in-4 c =
+pub byte-requires-in-SettingTaken : goal.byte-requires-in-SettingTaken
+byte-requires-in-SettingTaken c =
     let a = c.args in
-    let long = ap length (tail-setting-taken a.kind a.error a.characters.now c.in-4.is) in
+    let long = ap length (tail-setting-taken _ a.error a.characters.now (ap kind_number c.in-SettingTaken.is)) in
     omega arith
 
-pub put_word-end-requires : goal.put_word-end-requires
-put_word-end-requires c =
+pub word-requires-in-SettingTaken : goal.word-requires-in-SettingTaken
+word-requires-in-SettingTaken c =
     let a = c.args in
-    let long = ap length (tail-setting-taken a.kind a.error a.characters.now c.in-4.is) in
+    let long = ap length (tail-setting-taken _ a.error a.characters.now (ap kind_number c.in-SettingTaken.is)) in
     let joined : length (a.characters.now ++ ampersand ∷ []) ≡ length a.characters.now + 1 = length-append a.characters.now (ampersand ∷ []) in
     omega arith
 
-pub put_byte-requires-in-4 : goal.put_byte-requires-in-4
-put_byte-requires-in-4 c =
+pub byte-requires-in-SettingTaken-2 : goal.byte-requires-in-SettingTaken-2
+byte-requires-in-SettingTaken-2 c =
     let a = c.args in
-    let long = ap length (tail-setting-taken a.kind a.error a.characters.now c.in-4.is) in
+    let long = ap length (tail-setting-taken _ a.error a.characters.now (ap kind_number c.in-SettingTaken.is)) in
     let joined : length (a.characters.now ++ ampersand ∷ []) ≡ length a.characters.now + 1 = length-append a.characters.now (ampersand ∷ []) in
     omega arith
 
-pub put_word-requires-in-5 : goal.put_word-requires-in-5
-put_word-requires-in-5 c =
+pub word-requires-in-Value : goal.word-requires-in-Value
+word-requires-in-Value c =
     let a = c.args in
-    let long = ap length (tail-value a.kind a.error a.characters.now c.in-5.is) in
+    let long = ap length (tail-value _ a.error a.characters.now (ap kind_number c.in-Value.is)) in
     omega arith
 
-pub put_byte-at-requires-in-6 : goal.put_byte-at-requires-in-6
-put_byte-at-requires-in-6 c =
+pub byte-requires-in-Failed : goal.byte-requires-in-Failed
+byte-requires-in-Failed c =
     let a = c.args in
-    let long = ap length (tail-error a.kind a.error a.characters.now c.in-6.is) in
+    let long = ap length (tail-error _ a.error a.characters.now (ap kind_number c.in-Failed.is)) in
     omega arith
 
 pub put_three-requires : goal.put_three-requires
 put_three-requires c =
     let a = c.args in
-    let long = ap length (tail-error a.kind a.error a.characters.now c.in-6.is) in
-    let few = error-few a.kind a.error a.characters.now c.requires.characters_value in
-    record { at_in_bounds = omega arith; n_bound = few }
+    let long = ap length (tail-error _ a.error a.characters.now (ap kind_number c.in-Failed.is)) in
+    record { room = omega arith; n_bound = error-few _ a.error a.characters.now c.requires.characters_value }
 
-pub returns-in-2 : goal.returns-in-2
-returns-in-2 c =
+pub returns-in-Setting : goal.returns-in-Setting
+returns-in-Setting c =
     let a = c.args in
-    let few = characters-few a.kind a.error a.characters.now c.requires.characters_value in
-    at_most (omega arith) (text-is (sym (tail-setting a.kind a.error a.characters.now c.in-2.is)) (then c.put_byte-at.ensures c.put_word.ensures))
+    let few = characters-few _ a.error a.characters.now c.requires.characters_value in
+    at_most (omega arith) (text-is (sym (tail-setting _ a.error a.characters.now (ap kind_number c.in-Setting.is))) (then c.byte.ensures c.word.ensures))
 
-pub returns-in-3 : goal.returns-in-3
-returns-in-3 c =
+pub returns-in-Taken : goal.returns-in-Taken
+returns-in-Taken c =
     let a = c.args in
-    let few = characters-few a.kind a.error a.characters.now c.requires.characters_value in
-    at_most (omega arith) (text-is (sym (tail-taken a.kind a.error a.characters.now c.in-3.is)) c.put_byte.ensures)
+    let few = characters-few _ a.error a.characters.now c.requires.characters_value in
+    at_most (omega arith) (text-is (sym (tail-taken _ a.error a.characters.now (ap kind_number c.in-Taken.is))) c.byte-in-Taken.ensures)
 
-pub returns-in-4 : goal.returns-in-4
-returns-in-4 c =
+pub returns-in-SettingTaken : goal.returns-in-SettingTaken
+returns-in-SettingTaken c =
     let a = c.args in
-    let few = characters-few a.kind a.error a.characters.now c.requires.characters_value in
-    at_most (omega arith) (text-is (sym (tail-setting-taken a.kind a.error a.characters.now c.in-4.is)) (then c.put_byte-at-in-4.ensures (then c.put_word-end.ensures c.put_byte-in-4.ensures)))
+    let few = characters-few _ a.error a.characters.now c.requires.characters_value in
+    at_most (omega arith) (text-is (sym (tail-setting-taken _ a.error a.characters.now (ap kind_number c.in-SettingTaken.is))) (then c.byte-in-SettingTaken.ensures (then c.word-in-SettingTaken.ensures c.byte-in-SettingTaken-2.ensures)))
 
-pub returns-in-5 : goal.returns-in-5
-returns-in-5 c =
+pub returns-in-Value : goal.returns-in-Value
+returns-in-Value c =
     let a = c.args in
-    let few = characters-few a.kind a.error a.characters.now c.requires.characters_value in
-    at_most (omega arith) (text-is (sym (tail-value a.kind a.error a.characters.now c.in-5.is)) c.put_word-in-5.ensures)
+    let few = characters-few _ a.error a.characters.now c.requires.characters_value in
+    at_most (omega arith) (text-is (sym (tail-value _ a.error a.characters.now (ap kind_number c.in-Value.is))) c.word-in-Value.ensures)
 
-pub returns-in-6 : goal.returns-in-6
-returns-in-6 c =
+pub returns-in-Failed : goal.returns-in-Failed
+returns-in-Failed c =
     let a = c.args in
-    let few = characters-few a.kind a.error a.characters.now c.requires.characters_value in
-    at_most (omega arith) (text-is (sym (tail-error a.kind a.error a.characters.now c.in-6.is)) (then c.put_byte-at-in-6.ensures c.put_three.ensures))
+    let few = characters-few _ a.error a.characters.now c.requires.characters_value in
+    at_most (omega arith) (text-is (sym (tail-error _ a.error a.characters.now (ap kind_number c.in-Failed.is))) (then c.byte-in-Failed.ensures c.put_three.ensures))
 
-pub returns-in_default : goal.returns-in_default
-returns-in_default c =
+pub returns-in-Alone : goal.returns-in-Alone
+returns-in-Alone c =
     let a = c.args in
-    let r = c.in_default.in_default-own.rest in
-    let six = one-of-six a.kind a.error a.characters.now c.requires.characters_value in
-    let first = the-first a.kind six.0 six.1 r.0.0.0.0.1 r.0.0.0.1 r.0.0.1 r.0.1 r.1 in
-    nothing_put (sym (tail-alone a.kind a.error a.characters.now first))
+    nothing_added (sym (tail-alone _ a.error a.characters.now (ap kind_number c.in-Alone.is)))

@@ -1,8 +1,8 @@
 -- `forms::days::put_two` meets its contract: one digit after the other. Assumes nothing.
-use Rattle.putting.proofs.Putting.{then}
+use Rattle.putting.proofs.Added.{then}
 use Rattle.forms.specs.Days.{two_digits}
 use Rattle.forms.proofs.days.put_two.Goals as goal
 
 pub returns : goal.returns
 unfolding two_digits
-returns c = then c.put_byte-ten.ensures c.put_byte.ensures
+returns c = then c.byte.ensures c.byte-2.ensures

@@ -1,7 +1,7 @@
 -- `forms::days::put_year` meets its contract, by its test: no number has more than ten digits. Assumes nothing.
 use mathlib.Core.Path.{◌≡◌}
 use native.Mathlib.Omega.{arith}
-use Rattle.putting.proofs.Putting.{then, text-is, at_most}
+use Rattle.putting.proofs.Added.{then, text-is, at_most}
 use mathlib.Core.List.{◌++◌}
 use Prim.Native.Nat.{ℕ, ◌<◌, ◌≤◌, ◌/◌, ◌%◌}
 use borrow.Author.Tests.{lt-ltb, le-ltb}
@@ -20,10 +20,10 @@ unfolding year_text
 more y h = simp (le-ltb y 10000 h)
 
 pub returns-then-year-lt10000 : goal.returns-then-year-lt10000
-returns-then-year-lt10000 c = at_most (omega arith) (text-is (four c.args.year c.if-year-lt10000.true) (then c.put_two-hundreds.ensures c.put_two.ensures))
+returns-then-year-lt10000 c = at_most (omega arith) (text-is (four c.args.year c.if-year-lt10000.true) (then c.put_two.ensures c.put_two-then-year-lt10000.ensures))
 
 pub put_number-requires : goal.put_number-requires
 put_number-requires c = omega (arith, few-digits 9 c.args.year (omega arith), c.requires)
 
-pub returns : goal.returns
-returns c = text-is (more c.args.year c.if-year-lt10000.false) c.put_number.ensures
+pub returns-else-year-lt10000 : goal.returns-else-year-lt10000
+returns-else-year-lt10000 c = text-is (more c.args.year c.if-year-lt10000.false) c.put_number.ensures

@@ -1,9 +1,9 @@
 -- `forms::words::put_level` meets its contract: each mode has its form. Assumes nothing.
-use mathlib.Core.Path.{◌≡◌}
+use mathlib.Core.Path.{◌≡◌, ap, ◌∙◌}
 use native.Mathlib.Omega.{arith}
 use Prim.Native.Nat.{ℕ, ◌%◌}
 use borrow.Author.Tests.{eq-eqb, ne_eqb}
-use Rattle.putting.proofs.Putting.{text-is, at_most}
+use Rattle.putting.proofs.Added.{text-is, at_most}
 use Rattle.forms.specs.Words.{in_sixteenths, in_hundredths, in_millimetres, level_text}
 use Rattle.forms.proofs.words.put_level.Goals as goal
 
@@ -20,17 +20,17 @@ millimetres : (settings n : ℕ) → (settings % 4 ≡ 0 → ⊥) → (settings 
 unfolding level_text
 millimetres settings n g h = simp (ne_eqb (settings % 4) 0 g, ne_eqb (settings % 4) 1 h)
 
-pub returns-then-mode-eq0 : goal.returns-then-mode-eq0
-returns-then-mode-eq0 c =
+pub returns-in-0 : goal.returns-in-0
+returns-in-0 c =
     let a = c.args in
-    at_most (omega arith) (text-is (sixteenths a.settings a.level c.if-mode-eq0.true) c.put_form.ensures)
+    at_most (omega arith) (text-is (ap in_sixteenths c.from-n.ensures ∙ sixteenths a.settings a.level c.in-0.is) c.put_form.ensures)
 
-pub returns-then-mode-eq1 : goal.returns-then-mode-eq1
-returns-then-mode-eq1 c =
+pub returns-in-1 : goal.returns-in-1
+returns-in-1 c =
     let a = c.args in
-    at_most (omega arith) (text-is (hundredths a.settings a.level c.if-mode-eq0.false c.if-mode-eq1.true) c.put_form-then-mode-eq1.ensures)
+    at_most (omega arith) (text-is (ap in_hundredths c.from-n.ensures ∙ hundredths a.settings a.level (omega arith) c.in-1.is) c.put_form-in-1.ensures)
 
-pub returns : goal.returns
-returns c =
+pub returns-in_default : goal.returns-in_default
+returns-in_default c =
     let a = c.args in
-    at_most (omega arith) (text-is (millimetres a.settings a.level c.if-mode-eq0.false c.if-mode-eq1.false) c.put_form-2.ensures)
+    at_most (omega arith) (text-is (ap in_millimetres c.from-n.ensures ∙ millimetres a.settings a.level (omega arith) (omega arith)) c.put_form-in_default.ensures)

@@ -1,62 +1,38 @@
--- `frame::heat::degrees_at` meets its contract: 1000 tells a digit above 9; else the number is that of the three digits with
--- its hundreds, and below 2 ^ 13, so that the sign can stand above it. Assumes nothing.
-use mathlib.Core.Path.{◌≡◌, sym, ◌∙◌}
-use mathlib.Core.Bool.{true, false}
-use Prim.Native.Nat.{ℕ, ◌+◌, ◌*◌, ◌/◌, ◌%◌, ◌^◌, ◌<◌, ◌≤◌}
-use native.Mathlib.Omega.{arith}
-use borrow.Author.Tests.{lt-ltb}
-use lib.Dec.{eqb}
-use Rattle.frame.specs.declared.Temperature.TheVariants.{Degrees}
-use Rattle.frame.specs.Temperature.{told, signed}
-use Rattle.frame.specs.Line.{field, three_decimal, three_digits}
-use Rattle.frame.specs.Inside.Packed.{three_by, heat_by}
-use Rattle.frame.proofs.Three.{was-bad, was-good, number-le}
-use Rattle.frame.proofs.heat.degrees_at.Goals.{Else-m-eq1000}
+-- `frame::heat::degrees_at` meets its contract: no number tells a digit above 9; else the number is that of the three digits with its
+-- hundreds, and it and its negative fit 16 bits. Assumes nothing.
+use Rattle.std.proofs.Common.{◌≡◌, sym, ℕ, ◌+◌, ◌*◌, true, false, Some, None, arith}
+use borrow.Author.Tests.{ne_eqb}
+use mir.Syntax.{w16}
+use mir.Facts.{to_z-of_z, to_z_pos}
+use Rattle.frame.specs.Line.{bit, field, three_decimal, three_digits}
+use Rattle.frame.specs.Inside.Packed.{three_by}
+use Rattle.frame.proofs.Signs.{minus_is, minus-small}
+use Rattle.frame.proofs.Three.{was-bad, was-good}
 use Rattle.frame.proofs.heat.degrees_at.Goals as goal
 
 -- the digits at bits 44 to 55
-is-bad : (n : ℕ) → three_by n 9 ≡ 1000 → three_decimal n 44 ≡ false
+is-bad : (n : ℕ) → three_by n 9 ≡ None → three_decimal n 44 ≡ false
 unfolding three_by
 is-bad n e = was-bad (field n 44 47) (field n 48 51) (field n 52 55) e
 
-is-good : (n : ℕ) → (three_by n 9 ≡ 1000 → ⊥) → three_decimal n 44 ≡ true
+is-good : (n m : ℕ) → Some m ≡ three_by n 9 → (three_decimal n 44 ≡ true) × (three_digits n 44 ≡ m)
 unfolding three_by
-is-good n e = was-good (field n 44 47) (field n 48 51) (field n 52 55) e
+is-good n m e = was-good (field n 44 47) (field n 48 51) (field n 52 55) m (sym e)
 
-three-is : (n : ℕ) → three_decimal n 44 ≡ true → three_by n 9 ≡ three_digits n 44
-unfolding three_by
-three-is n e = rw e
+pub returns-in_err-d : goal.returns-in_err-d
+returns-in_err-d c = rw (c.from_residual.ensures, is-bad c.args.n (sym c.in_err-d.ensures.value))
 
-small : (c : Else-m-eq1000) → c.three-m.result ≤ 999
-small c =
-    let n = c.args.n in
-    let good = is-good n (λ e. c.if-m-eq1000.false (c.three-m.ensures ∙ e)) in
-    rw (c.three-m.ensures, three-is n good) (number-le (field n 44 47) (field n 48 51) (field n 52 55) good)
+pub returns-then-plus : goal.returns-then-plus
+returns-then-plus c =
+    let a = c.args in
+    let m = c.in_ok-d.field-0 in
+    let good = is-good a.n m c.in_ok-d.ensures.value in
+    rw (to_z_pos w16 {n = a.hundreds * 1000 + m} (omega (arith, c.requires, c.in_ok-d.ensures.bound)), good.0, c.if-plus.true, good.1)
 
-pub returns-then-m-eq1000 : goal.returns-then-m-eq1000
-returns-then-m-eq1000 c =
-    let n = c.args.n in
-    rw (is-bad n (sym c.three-m.ensures ∙ c.if-m-eq1000.true))
-
-pub overflow_add-result : goal.overflow_add-result
-overflow_add-result c = omega (arith, small c)
-
-pub overflow_add-result-2 : goal.overflow_add-result-2
-overflow_add-result-2 c = omega (arith, small c)
-
--- a sign and tenths in one number, taken apart again
-parts : (p m : ℕ) → p < 2 → m < 0x2000 → heat_by (p * 0x2000 + m) ≡ told (Degrees (signed (eqb p 1) m))
-parts p m hp hm =
-    let high : (p * 0x2000 + m) / 0x2000 ≡ p = omega arith in
-    let low : (p * 0x2000 + m) % 0x2000 ≡ m = omega arith in
-    let few : p * 0x2000 + m < 0x4000 = omega arith in
-    rw (lt-ltb _ _ few, high, low)
-
-pub returns : goal.returns
-returns c =
-    let n = c.args.n in
-    let h = c.args.hundreds in
-    let good = is-good n (λ e. c.if-m-eq1000.false (c.three-m.ensures ∙ e)) in
-    let m : c.three-m.result ≡ three_digits n 44 = c.three-m.ensures ∙ three-is n good in
-    let sum : n / 2 ^ 23 % 2 * 0x2000 + h * 1000 + c.three-m.result ≡ n / 2 ^ 23 % 2 * 0x2000 + (h * 1000 + c.three-m.result) = omega arith in
-    rw (sum, parts (n / 2 ^ 23 % 2) (h * 1000 + c.three-m.result) (omega arith) (omega (arith, small c)), m, good)
+pub returns-else-plus : goal.returns-else-plus
+returns-else-plus c =
+    let a = c.args in
+    let m = c.in_ok-d.field-0 in
+    let good = is-good a.n m c.in_ok-d.ensures.value in
+    let v = a.hundreds * 1000 + m in
+    rw (to_z_pos w16 {n = v} (omega (arith, c.requires, c.in_ok-d.ensures.bound)), minus_is v, to_z-of_z {w = w16} (minus-small v (omega (arith, c.requires, c.in_ok-d.ensures.bound))), good.0, ne_eqb (bit a.n 41) 1 c.if-plus.false, good.1)

@@ -1,6 +1,5 @@
 -- `frame::level::with_digit` meets its contract: a level below 2 ^ 32 times at most 16 values fits the word. Assumes nothing.
-use mathlib.Core.Path.{ap}
-use Prim.Native.Nat.{ℕ, ◌+◌, ◌*◌, ◌%◌, ◌≤◌}
+use Prim.Native.Nat.{◌%◌, ◌≤◌}
 use native.Mathlib.Nat.{mul-le-mul_left}
 use native.Mathlib.Omega.{arith}
 use Rattle.frame.proofs.Tables.{size-high}
@@ -17,6 +16,3 @@ overflow_add-result c =
     let a = c.args in
     let small : c.size.result ≤ 16 = rw c.size.ensures (size-high (a.row % 16)) in
     omega (arith, mul-le-mul_left a.sofar small)
-
-pub returns : goal.returns
-returns c = ap (λ (n : ℕ). c.args.sofar * n + c.args.d) c.size.ensures

@@ -13,12 +13,6 @@ use Rattle.frame.proofs.level_writing.digit_code.Goals as goal
 split : {q n m : ℕ} (v : ℕ) → q ≡ v / m → n ≡ m → q * n + v % m ≡ v
 split {m = m} v eq en = rw (eq, en) (div-add-mod' v m)
 
-pub overflow_mul-above : goal.overflow_mul-above
-overflow_mul-above c = omega (arith, split c.args.v c.requires c.size.ensures)
-
-pub overflow_sub-v : goal.overflow_sub-v
-overflow_sub-v c = omega (arith, split c.args.v c.requires c.size.ensures)
-
 pub code-requires : goal.code-requires
 code-requires c =
     let v = c.args.v in

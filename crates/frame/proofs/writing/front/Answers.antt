@@ -1,6 +1,7 @@
 -- `frame::writing::front` meets its contract: the parts are small enough to add up, and add up to the definition. Assumes nothing.
-use Prim.Native.Nat.{◌%◌, ◌^◌, ◌<◌}
+use Prim.Native.Nat.{◌%◌, ◌^◌, ◌<◌, ◌≤◌}
 use native.Mathlib.Omega.{arith}
+use Rattle.frame.proofs.Marks.{flag-small}
 use Rattle.frame.proofs.Sums.{level-small, three-lt}
 use Rattle.frame.proofs.writing.front.Goals.{After-three_of, After-write_level-level}
 use Rattle.frame.proofs.writing.front.Goals as goal
@@ -18,4 +19,7 @@ pub overflow_add-result : goal.overflow_add-result
 overflow_add-result c = omega (arith, head (goal.at.overflow_add-result c).After-three_of, level (goal.at.overflow_add-result c).After-write_level-level)
 
 pub overflow_add-result-2 : goal.overflow_add-result-2
-overflow_add-result-2 c = omega (arith, head (goal.at.overflow_add-result-2 c).After-three_of, level (goal.at.overflow_add-result-2 c).After-write_level-level, c.mark.ensures.1, c.mark-2.ensures.1)
+overflow_add-result-2 c =
+    let one : c.from.result ≤ 1 = rw c.from.ensures (flag-small _) in
+    let zero : c.from-2.result ≤ 1 = rw c.from-2.ensures (flag-small _) in
+    omega (arith, head (goal.at.overflow_add-result-2 c).After-three_of, level (goal.at.overflow_add-result-2 c).After-write_level-level, one, zero)

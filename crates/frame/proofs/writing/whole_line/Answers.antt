@@ -28,9 +28,6 @@ small c =
     le_trans (mul-le-mul_right last c.parity_bit.ensures.1)
     (rw (one-mul last, c.last_bit.ensures) (last-small c.is_absent-short.result))
 
-pub overflow_mul-result : goal.overflow_mul-result
-overflow_mul-result c = omega (arith, small c)
-
 pub overflow_add-result : goal.overflow_add-result
 overflow_add-result c = omega (arith, small c, room (goal.at.overflow_add-result c).After-body-n)
 

@@ -6,7 +6,7 @@ use Rattle.layers.proofs.noting.pair_at.Goals as goal
 
 pub returns : goal.returns
 returns c =
-    let high = c.wide-high.ensures.value in
-    let low = c.wide-low.ensures.value in
-    let settings = c.wide-settings.ensures.value in
+    let high = c.from-high.ensures in
+    let low = c.from-low.ensures in
+    let settings = c.from-settings.ensures in
     (λ t. (high t * 256 + low t) * 0x10000 + settings t) ∙ pair-bytes c.args.sheet.now c.args.slot c.requires.slot_bound_2

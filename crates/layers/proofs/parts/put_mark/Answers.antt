@@ -1,21 +1,34 @@
--- `layers::parts::put_mark` meets its contract: the text is that of the case that the match saw. Assumes nothing.
-use mathlib.Core.Path.{sym, ap}
+-- `layers::parts::put_mark` meets its contract, by the reply: the mark of an alarm where it is shown. Assumes nothing.
+use mathlib.Core.Path.{◌≡◌, sym, ap, ◌∙◌}
+use mathlib.Core.Bool.{true, false}
+use mathlib.Core.List.{[], ◌∷◌}
+use Prim.Native.Nat.{ℕ}
 use native.Mathlib.Omega.{arith}
-use Rattle.putting.proofs.Putting.{text-is, at_most}
-use Rattle.layers.specs.Drawing.{mark_text}
+use Rattle.frame.specs.declared.Reading.{Reading}
+use Rattle.listing.specs.Text.{ascii}
+use Rattle.putting.proofs.Added.{text-is, at_most, nothing_added}
+use Rattle.calendar.specs.declared.counting.Day.{Day}
+use Rattle.forms.specs.Form.{fill}
+use Rattle.layers.specs.Drawing.{alarm_shown, alarm_mark, mark_text}
 use Rattle.layers.proofs.parts.put_mark.Goals as goal
+use Rattle.std.specs.Prelude.{Option, Result, Ok}
+use Rattle.frame.specs.declared.faults.Fault.{Fault}
 
-pub returns-in-Read : goal.returns-in-Read
-returns-in-Read c =
-    let a = c.args in
-    at_most (omega arith) (text-is (ap (mark_text a.begin a.layer a.minute) (sym c.in-Read.is)) c.put_alarm.ensures)
+module _ (begin : Option Day) (layer minute : ℕ) (reply : Result Reading Fault) (r : Reading) (is : reply ≡ Ok r) where
+  shown : alarm_shown layer r ≡ true → fill (ascii "<path d='M~,0h1'/>") (minute ∷ []) ≡ mark_text begin layer minute reply
+  unfolding alarm_mark
+  shown e = sym (ap (mark_text begin layer minute) is ∙ simp e)
 
-pub returns-in-Refused : goal.returns-in-Refused
-returns-in-Refused c =
-    let a = c.args in
-    at_most (omega arith) (text-is (ap (mark_text a.begin a.layer a.minute) (sym c.in-Refused.is)) c.put_faulty.ensures)
+  not-shown : alarm_shown layer r ≡ false → [] ≡ mark_text begin layer minute reply
+  unfolding alarm_mark
+  not-shown e = sym (ap (mark_text begin layer minute) is ∙ simp e)
 
-pub returns-in-Unreadable : goal.returns-in-Unreadable
-returns-in-Unreadable c =
+pub returns-in-Ok : goal.returns-in-Ok
+returns-in-Ok c =
     let a = c.args in
-    at_most (omega arith) (text-is (ap (mark_text a.begin a.layer a.minute) (sym c.in-Unreadable.is)) c.put_faulty-in-Unreadable.ensures)
+    at_most (omega arith) (text-is (shown a.begin _ a.seen.minute a.seen.reply c.in-Ok.r c.in-Ok.is (sym c.alarm_shown.ensures ∙ c.if-alarm_shown.true)) c.put_form.ensures)
+
+pub returns-else-alarm_shown : goal.returns-else-alarm_shown
+returns-else-alarm_shown c =
+    let a = c.args in
+    nothing_added (not-shown a.begin _ a.seen.minute a.seen.reply c.in-Ok.r c.in-Ok.is (sym c.alarm_shown.ensures ∙ c.if-alarm_shown.false))

@@ -1,15 +1,38 @@
 -- `layers::parts::put_point` meets its contract: a point where there is a value. Assumes nothing.
-use borrow.Author.Tests.{not-true, not-false}
-use Rattle.layers.proofs.ByTests.{no-point, a_point}
-use Rattle.putting.proofs.Putting.{text-is, nothing_put}
+use mathlib.Core.Path.{◌≡◌, refl, sym, ap, ◌∙◌}
+use mathlib.Core.Bool.{Bool, true, false}
+use mathlib.Core.List.{[], ◌∷◌}
+use Prim.Native.Nat.{ℕ}
+use Rattle.std.proofs.Common.{Option, None, Some}
+use Rattle.std.specs.Int.{from_bool}
+use Rattle.frame.specs.Pick.{pick}
+use Rattle.listing.specs.Text.{ascii}
+use Rattle.putting.proofs.Added.{text-is, nothing_added}
+use Rattle.forms.specs.Form.{fill, choice}
+use Rattle.layers.specs.Drawing.{point_text}
 use Rattle.layers.proofs.parts.put_point.Goals as goal
 
-pub returns-then-not-v : goal.returns-then-not-v
-returns-then-not-v c =
-    let a = c.args in
-    nothing_put (no-point a.joined a.minute a.v (not-true a.v.there c.if-not-v.true))
+-- yes as 1, and no as 0
+as-number : (b : Bool) → from_bool b ≡ pick b 1 0
+as-number true = refl
+as-number false = refl
 
-pub returns : goal.returns
-returns c =
+module _ (joined : Bool) (minute : ℕ) (value : Option ℕ) where
+  no-point : value ≡ None → [] ≡ point_text joined minute value
+  unfolding point_text
+  no-point is = ap (point_text joined minute) (sym is)
+
+  a_point : (form y z : ℕ) → form ≡ pick joined 1 0 → z ≡ y → value ≡ Some y → fill (choice form (ascii "M~,~h0|L~,~")) (minute ∷ z ∷ []) ≡ point_text joined minute value
+  unfolding point_text
+  a_point form y z f e is =
+      (λ i. fill (choice (f i) (ascii "M~,~h0|L~,~")) (minute ∷ e i ∷ [])) ∙ ap (point_text joined minute) (sym is)
+
+pub returns-in_default : goal.returns-in_default
+returns-in_default c =
     let a = c.args in
-    text-is (a_point a.joined a.minute a.v _ c.one_if.ensures (not-false a.v.there c.if-not-v.false)) c.put_choice.ensures
+    nothing_added (no-point a.joined a.minute a.value c.in_default.is)
+
+pub returns-in-Some : goal.returns-in-Some
+returns-in-Some c =
+    let a = c.args in
+    text-is (a_point a.joined a.minute a.value c.from.result c.in-Some.y _ (c.from.ensures ∙ as-number a.joined) c.from-in-Some.ensures c.in-Some.is) c.put_choice.ensures

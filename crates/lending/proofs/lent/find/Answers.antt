@@ -1,5 +1,4 @@
 -- `lending::lent::find` meets its contract: what is found on the array by value is found on the board that it was loaded from.
-use Rattle.std.proofs.Common.{◌≡◌, ◌∙◌}
 use Rattle.board.specs.Rows.{board_of}
 use Rattle.board.proofs.LentRows.{length-counted}
 use Rattle.lending.proofs.lent.find.Goals as goal

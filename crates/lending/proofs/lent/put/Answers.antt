@@ -1,24 +1,20 @@
--- `lending::lent::put` meets its contract: a turn carries on as the definition does, and where nothing is left the whole change is made.
-use Rattle.std.proofs.Common.{◌≡◌, ◌∙◌, ℕ, ◌+◌, ◌-◌, ◌<◌, sym, ap, refl, subst, length, arith, set, get_or}
-use lib.ListN.{length-set}
-use Rattle.board.specs.Inside.ByValue.{carry, moved, Within}
-use Rattle.board.proofs.Carried.{carry-none, carry-more, within-turn}
+-- `lending::lent::put` meets its contract: the run that is cut out is carried over, and stands where it stood.
+use Rattle.std.proofs.Common.{◌∙◌, sym, ap, subst, length}
+use Rattle.board.specs.declared.value.Way.{Way}
+use Rattle.board.specs.Inside.ByValue.{up_by, down_by, carry, Within}
+use Rattle.lending.proofs.Runs.{on-within, back-within, put-on, put-back}
 use Rattle.lending.proofs.lent.put.Goals as goal
 
-pub loop-left-preserved : goal.loop-left-preserved
-loop-left-preserved c =
-    let l = c.loop-left in
+pub returns-in-Onward : goal.returns-in-Onward
+returns-in-Onward c =
     let k = c.args.c in
-    let less : 0 < l.left = omega (arith, c.loop-left-test.true) in
-    let w = within-turn (length l.rows) k.up k.down l.left l.at less l.invariant.fits in
-    record {
-      same = sym (carry-more k.up k.down l.left l.at l.held l.rows less) ∙ l.invariant.same;
-      fits = subst (λ (n : ℕ). Within n k.up k.down (l.left - 1) (l.at - k.down + k.up)) (sym (length-set l.rows (l.at - k.down) l.held)) w.2;
-    }
+    let rows = c.args.rows.now in
+    let fits = on-within (subst (λ (w : Way). Within (length rows) (up_by w) (down_by w) k.count k.at) c.in-Onward.is c.requires) in
+    put-on k.at k.count k.row rows c.carry_on.new.run c.carry_on.ensures fits ∙ sym (ap (λ (w : Way). carry (up_by w) (down_by w) k.count k.at k.row rows) c.in-Onward.is)
 
-pub returns : goal.returns
-returns c =
-    let l = c.loop-left in
+pub returns-in-Back : goal.returns-in-Back
+returns-in-Back c =
     let k = c.args.c in
-    let none : l.left ≡ 0 = omega (arith, c.loop-left-test.false) in
-    (refl, sym (carry-none k.up k.down l.at l.held l.rows) ∙ sym (ap (λ (n : ℕ). carry k.up k.down n l.at l.held l.rows) none) ∙ l.invariant.same)
+    let rows = c.args.rows.now in
+    let fits = back-within (subst (λ (w : Way). Within (length rows) (up_by w) (down_by w) k.count k.at) c.in-Back.is c.requires) in
+    put-back k.at k.count k.row rows c.carry_back.new.run c.carry_back.ensures fits.0 fits.1 ∙ sym (ap (λ (w : Way). carry (up_by w) (down_by w) k.count k.at k.row rows) c.in-Back.is)

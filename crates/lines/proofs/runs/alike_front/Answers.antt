@@ -22,13 +22,5 @@ front row a x d byte =
     let agree : w < 2 ^ (64 - z) = rw rest at long.2 in
     (omega arith, λ k h l. agree-front row a x z d byte agree k (omega arith) most)
 
-pub overflow_cast-result : goal.overflow_cast-result
-overflow_cast-result c =
-    omega (arith, leading_le 64 (bit_xor c.word.result (c.wide.result * 0x0101010101010101)))
-
 pub returns : goal.returns
-returns c =
-    let a = c.word.result in
-    let own : c.wide.result ≡ c.args.sample = c.wide.ensures in
-    let eight : Digits c.args.part.now 8 a = rw c.requires at c.word.ensures in
-    rw own (front c.args.part.now a c.args.sample eight c.ranges.sample.fits)
+returns c = rw c.from.ensures (front c.args.eight.now c.word.result c.args.sample c.word.ensures c.ranges.sample.fits)

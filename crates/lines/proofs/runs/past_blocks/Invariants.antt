@@ -4,8 +4,8 @@ use lib.ListN.{length}
 use Rattle.lines.specs.Inside.Runs.{RunTo}
 use Rattle.lines.proofs.runs.past_blocks.Given as goal
 
-abbrev pub invariant-loop-i : goal.invariant-loop-i
-invariant-loop-i l = RunTo l.samples l.from l.i l.sample
+abbrev pub invariant-loop-block : goal.invariant-loop-block
+invariant-loop-block l = RunTo l.samples l.from l.i l.sample
 
-abbrev pub decreases-loop-i : goal.decreases-loop-i
-decreases-loop-i l = length l.samples - l.i
+abbrev pub decreases-loop-block : goal.decreases-loop-block
+decreases-loop-block l = length l.samples - l.i

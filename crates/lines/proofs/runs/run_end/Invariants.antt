@@ -4,8 +4,8 @@ use lib.ListN.{length}
 use Rattle.lines.specs.Inside.Runs.{RunTo}
 use Rattle.lines.proofs.runs.run_end.Given as goal
 
-abbrev pub invariant-loop-i : goal.invariant-loop-i
-invariant-loop-i l = RunTo l.samples l.from l.i l.sample
+abbrev pub invariant-loop-eight : goal.invariant-loop-eight
+invariant-loop-eight l = RunTo l.samples l.from l.i l.sample
 
-abbrev pub decreases-loop-i : goal.decreases-loop-i
-decreases-loop-i l = length l.samples - l.i
+abbrev pub decreases-loop-eight : goal.decreases-loop-eight
+decreases-loop-eight l = length l.samples - l.i

@@ -4,27 +4,20 @@ use borrow.Author.Tests.{eq-eqb, ne_eqb}
 use Rattle.lines.specs.Inside.Runs.{grown}
 use Rattle.lines.proofs.step.grown.Goals as goal
 
-pub returns-then-s : goal.returns-then-s
+pub returns-then-is_open : goal.returns-then-is_open
 unfolding grown
-returns-then-s c =
-    let a = c.args in
-    sym (simp (eq-eqb a.sample 0 c.if-sample-eq0.true, c.if-s.true))
+returns-then-is_open c =
+    sym (simp (eq-eqb c.args.sample 0 c.if-sample-eq0.true, sym c.is_open.ensures ∙ c.if-is_open.true, c.longer.ensures))
 
-pub returns-then-sample-eq0 : goal.returns-then-sample-eq0
+pub returns-else-is_open : goal.returns-else-is_open
 unfolding grown
-returns-then-sample-eq0 c =
-    let a = c.args in
-    sym (simp (eq-eqb a.sample 0 c.if-sample-eq0.true, c.if-s.false, c.longer_by.ensures))
+returns-else-is_open c = sym (simp (eq-eqb c.args.sample 0 c.if-sample-eq0.true, sym c.is_open.ensures ∙ c.if-is_open.false))
 
 pub returns-then-s-eq0 : goal.returns-then-s-eq0
 unfolding grown
-returns-then-s-eq0 c =
-    let a = c.args in
-    sym (simp (ne_eqb a.sample 0 c.if-sample-eq0.false, eq-eqb a.s.line 0 c.if-s-eq0.true))
+returns-then-s-eq0 c = sym (simp (ne_eqb c.args.sample 0 c.if-sample-eq0.false, eq-eqb c.args.s.line 0 c.if-s-eq0.true))
 
-pub returns : goal.returns
+pub returns-else-s-eq0 : goal.returns-else-s-eq0
 unfolding grown
-returns c =
-    let a = c.args in
-    c.in_run.ensures
-    ∙ sym (simp (ne_eqb a.sample 0 c.if-sample-eq0.false, ne_eqb a.s.line 0 c.if-s-eq0.false, c.longer_by-2.ensures))
+returns-else-s-eq0 c =
+    sym (simp (ne_eqb c.args.sample 0 c.if-sample-eq0.false, ne_eqb c.args.s.line 0 c.if-s-eq0.false, c.longer-else-s-eq0.ensures))

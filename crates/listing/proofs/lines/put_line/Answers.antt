@@ -1,16 +1,17 @@
 -- `listing::lines::put_line` meets its contract: its parts are put one after another. Assumes nothing.
-use mathlib.Core.Path.{◌≡◌, sym}
+use mathlib.Core.Path.{◌≡◌, ap}
+use Prim.Native.Nat.{ℕ}
 use native.Mathlib.Omega.{arith}
-use lib.ListN.{length}
-use lib.Seq.{length-take-le}
-use Rattle.putting.proofs.Putting.{then}
+use lib.ListN.{take}
+use Rattle.frame.specs.Line.{bytes_for}
+use Rattle.sheet.specs.Look.{entry_with}
+use Rattle.listing.specs.Lines.{record_text}
+use Rattle.putting.proofs.Added.{then, text-is}
 use Rattle.listing.proofs.lines.put_line.Goals as goal
-
-pub slice_bounds-put_record-end : goal.slice_bounds-put_record-end
-slice_bounds-put_record-end c =
-    let long : length c.args.reply ≡ 8 = c.well_formed.1.1.1.1.0.1.0.1 in
-    sym (length-take-le _ c.args.reply (omega arith))
 
 pub returns : goal.returns
 returns c =
-    then (then (then c.put_short-number.ensures c.put_byte-gap.ensures) c.put_record-record.ensures) c.put_byte.ensures
+    let head = c.args.head in
+    let size : c.div_ceil-size.result ≡ bytes_for head.count = omega (arith, c.div_ceil-size.ensures) in
+    let record-is = text-is (ap (λ (n : ℕ). record_text (entry_with head (take n c.args.reply))) size) c.put_record.ensures in
+    then (then (then c.put_short.ensures c.byte.ensures) record-is) c.byte-2.ensures

@@ -1,7 +1,7 @@
 -- `listing::lines::put_other` meets its contract: the number, then the word. Assumes nothing.
-use Rattle.putting.proofs.Putting.{then}
+use Rattle.putting.proofs.Added.{then}
 use Rattle.listing.proofs.lines.put_other.Goals as goal
 
 pub returns : goal.returns
 returns c =
-    then c.put_short-number.ensures c.put_word.ensures
+    then c.put_short.ensures c.word.ensures

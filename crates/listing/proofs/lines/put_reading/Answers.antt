@@ -7,7 +7,7 @@ use Rattle.frame.specs.Line.{mark}
 use Rattle.putting.specs.Digit.{digit}
 use Rattle.listing.specs.Text.{digits_up_to}
 use Rattle.listing.specs.Lines.{alarm_text, reading_text}
-use Rattle.putting.proofs.Putting.{then, text-is}
+use Rattle.putting.proofs.Added.{then, text-is}
 use Rattle.listing.proofs.lines.put_reading.Goals as goal
 
 -- the byte of an alarm is its text
@@ -22,7 +22,7 @@ returns c =
     let r = c.args.r in
     then
     (then
-    (then (then (then (then c.put_short-level.ensures c.put_byte-gap.ensures) c.put_temperature-heat.ensures) c.put_byte-gap1.ensures)
-    (text-is (alarm-digit r.alarm1 _ c.alarm.ensures) c.put_byte-alarm1.ensures))
-    c.put_byte-gap0.ensures)
-    (text-is (alarm-digit r.alarm0 _ c.alarm-2.ensures) c.put_byte.ensures)
+    (then (then (then (then c.put_short.ensures c.byte.ensures) c.put_temperature.ensures) c.byte-2.ensures)
+    (text-is (alarm-digit r.alarm1 _ c.alarm.ensures) c.byte-3.ensures))
+    c.byte-4.ensures)
+    (text-is (alarm-digit r.alarm0 _ c.alarm-2.ensures) c.byte-5.ensures)

@@ -18,30 +18,25 @@ sheet-of c = c.args.sheet.now
 counted : (c : After-records_in-records) → c.loop-k.records + c.records_in-records.result ≡ length (list_up_to (sheet-of c) (c.loop-k.k + 1))
 counted c =
     let l = c.loop-k in
-    let look = c.look-looked in
+    let look = c.look in
     let near : l.k < slots (sheet-of c) = omega (arith, c.requires.many_value) in
     let one : c.records_in-records.result ≡ length (record_in (slot_of (slot_at (sheet-of c) l.k))) = c.records_in-records.ensures ∙ seen-records (sheet-of c) l.k look.result c.requires.sheet_value near look.ensures in
-    let before : l.records ≡ length (list_up_to (sheet-of c) l.k) = l.invariant.1 in
+    let before : l.records ≡ length (list_up_to (sheet-of c) l.k) = l.invariant in
     omega (arith, records-more (sheet-of c) l.k)
 
 pub loop-k-init : goal.loop-k-init
 unfolding list_up_to
-loop-k-init c = (omega arith, refl)
+loop-k-init c = refl
 
 pub overflow_add-records : goal.overflow_add-records
-overflow_add-records c = omega (arith, counted c, few-records (sheet-of c) (c.loop-k.k + 1))
-
-pub overflow_add-k : goal.overflow_add-k
-overflow_add-k c = omega arith
-
-pub loop-k-smaller : goal.loop-k-smaller
-loop-k-smaller c = omega arith
+overflow_add-records c =
+    omega (arith, counted (goal.at.overflow_add-records c).After-records_in-records, few-records c.args.sheet.now (c.loop-k.k + 1))
 
 pub loop-k-preserved : goal.loop-k-preserved
-loop-k-preserved c = (omega arith, counted c)
+loop-k-preserved c = counted (goal.at.loop-k-preserved c).After-records_in-records
 
 pub returns : goal.returns
 returns c =
     let l = c.loop-k in
     let all : l.k ≡ slots c.args.sheet.now = omega (arith, c.requires.many_value) in
-    l.invariant.1 ∙ ap (λ (n : ℕ). length (list_up_to c.args.sheet.now n)) all
+    l.invariant ∙ ap (λ (n : ℕ). length (list_up_to c.args.sheet.now n)) all

@@ -2,7 +2,7 @@
 use mathlib.Core.Path.{◌≡◌}
 use Prim.Native.Nat.{ℕ}
 use native.Mathlib.Omega.{arith}
-use Rattle.putting.proofs.Putting.{text-is, at_most}
+use Rattle.putting.proofs.Added.{text-is, at_most}
 use borrow.Author.Tests.{eq-eqb, ne_eqb}
 use Rattle.listing.specs.Text.{ascii}
 use Rattle.summary.specs.Line.{no_level}
@@ -19,7 +19,7 @@ unfolding bound_text
 a-level settings n h = simp (ne_eqb n no_level h)
 
 pub returns-then-n-eq65535 : goal.returns-then-n-eq65535
-returns-then-n-eq65535 c = at_most (omega arith) (text-is (no-level c.args.settings c.args.n c.if-n-eq65535.true) c.put_word.ensures)
+returns-then-n-eq65535 c = at_most (omega arith) (text-is (no-level c.args.settings c.args.n c.if-n-eq65535.true) c.word.ensures)
 
-pub returns : goal.returns
-returns c = text-is (a-level c.args.settings c.args.n c.if-n-eq65535.false) c.put_level.ensures
+pub returns-else-n-eq65535 : goal.returns-else-n-eq65535
+returns-else-n-eq65535 c = text-is (a-level c.args.settings c.args.n c.if-n-eq65535.false) c.put_level.ensures

@@ -3,7 +3,7 @@ use mathlib.Core.Path.{◌≡◌}
 use mathlib.Core.List.{◌++◌}
 use Prim.Native.Nat.{◌<◌, ◌≤◌}
 use native.Mathlib.Omega.{arith}
-use Rattle.putting.proofs.Putting.{then, text-is, at_most}
+use Rattle.putting.proofs.Added.{then, text-is, at_most}
 use borrow.Author.Tests.{lt-ltb, le-ltb}
 use Rattle.listing.specs.Text.{ascii}
 use Rattle.layers.specs.declared.gauge.Gauged.{Gauged}
@@ -20,7 +20,7 @@ unfolding heat_text
 some-heat g h = simp (le-ltb g.warm g.cold h)
 
 pub returns-then-g : goal.returns-then-g
-returns-then-g c = at_most (omega arith) (text-is (no-heat c.args.g c.if-g.true) c.put_word.ensures)
+returns-then-g c = at_most (omega arith) (text-is (no-heat c.args.g c.if-g.true) c.word.ensures)
 
-pub returns : goal.returns
-returns c = at_most (omega arith) (text-is (some-heat c.args.g c.if-g.false) (then (then c.put_degrees-cold.ensures c.put_word-gap.ensures) c.put_degrees.ensures))
+pub returns-else-g : goal.returns-else-g
+returns-else-g c = at_most (omega arith) (text-is (some-heat c.args.g c.if-g.false) (then (then c.put_degrees.ensures c.word-else-g.ensures) c.put_degrees-else-g.ensures))

@@ -3,7 +3,7 @@ use mathlib.Core.Path.{◌≡◌, ◌∙◌}
 use mathlib.Core.List.{[], ◌∷◌, ◌++◌}
 use Prim.Native.Nat.{ℕ, ◌-◌}
 use native.Mathlib.Omega.{arith}
-use Rattle.putting.proofs.Putting.{then, text-is, at_most, nothing_put}
+use Rattle.putting.proofs.Added.{then, text-is, at_most, nothing_added}
 use borrow.Author.Tests.{eq-eqb, ne_eqb}
 use Rattle.listing.specs.Text.{ascii}
 use lib.Dec.{ltb}
@@ -21,8 +21,8 @@ some-kind : (n k fault place : ℕ) → (n ≡ 0 → ⊥) → fault ≡ pick (lt
 unfolding kind_text
 some-kind n k fault place h f p = (λ i. fill (ascii "; ~ ") (n ∷ []) ++ fault_text (f i) (p i)) ∙ simp (ne_eqb n 0 h)
 
-pub returns-then-n-eq0 : goal.returns-then-n-eq0
-returns-then-n-eq0 c = nothing_put (no_kind c.args.n c.args.k c.if-n-eq0.true)
+pub returns-then-n-ne0 : goal.returns-then-n-ne0
+returns-then-n-ne0 c = at_most (omega arith) (text-is (some-kind c.args.n c.args.k _ _ c.if-n-ne0.true c.fault_of.ensures c.saturating_sub.ensures) (then c.put_form.ensures c.put_fault.ensures))
 
-pub returns : goal.returns
-returns c = at_most (omega arith) (text-is (some-kind c.args.n c.args.k _ _ c.if-n-eq0.false c.fault_of.ensures c.place_of.ensures) (then c.put_form-many.ensures c.put_fault.ensures))
+pub returns-else-n-ne0 : goal.returns-else-n-ne0
+returns-else-n-ne0 c = nothing_added (no_kind c.args.n c.args.k c.if-n-ne0.false)

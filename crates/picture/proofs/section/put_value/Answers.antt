@@ -1,32 +1,39 @@
--- `picture::section::put_value` meets its contract, by its tests. Assumes nothing.
-use mathlib.Core.Path.{◌≡◌}
+-- `picture::section::put_value` meets its contract, by the layer. Assumes nothing.
+use mathlib.Core.Path.{◌≡◌, refl, sym, ap}
 use mathlib.Core.List.{[]}
 use Prim.Native.Nat.{ℕ}
 use native.Mathlib.Omega.{arith}
-use Rattle.putting.proofs.Putting.{text-is, at_most, nothing_put}
-use borrow.Author.Tests.{eq-eqb, ne_eqb}
+use Rattle.putting.proofs.Added.{text-is, at_most, nothing_added}
 use Rattle.forms.specs.Words.{level_text, degrees_text}
+use Rattle.layers.specs.declared.layer.Layer.{Layer}
+use Rattle.layers.specs.declared.layer.Layer.TheVariants.{Levels, Temperatures, Faults, Alarm1, Alarm0, FaultList}
+use Rattle.layers.specs.Layers.{number_of}
 use Rattle.picture.specs.Page.{value_text}
 use Rattle.picture.proofs.section.put_value.Goals as goal
 
-module _ (layer settings n : ℕ) where
-  a-level : layer ≡ 0 → level_text settings n ≡ value_text layer settings n
+module _ (settings n : ℕ) where
+  a-level : (layer : Layer) → layer ≡ Levels → level_text settings n ≡ value_text (number_of layer) settings n
   unfolding value_text
-  a-level h = simp (eq-eqb layer 0 h)
+  a-level layer is = ap (λ (l : Layer). value_text (number_of l) settings n) (sym is)
 
-  a-heat : (layer ≡ 0 → ⊥) → layer ≡ 1 → degrees_text n ≡ value_text layer settings n
+  a-heat : (layer : Layer) → layer ≡ Temperatures → degrees_text n ≡ value_text (number_of layer) settings n
   unfolding value_text
-  a-heat g h = simp (ne_eqb layer 0 g, eq-eqb layer 1 h)
+  a-heat layer is = ap (λ (l : Layer). value_text (number_of l) settings n) (sym is)
 
-  no_value : (layer ≡ 0 → ⊥) → (layer ≡ 1 → ⊥) → [] ≡ value_text layer settings n
+  no_value : (layer : Layer) → (layer ≡ Levels → ⊥) → (layer ≡ Temperatures → ⊥) → [] ≡ value_text (number_of layer) settings n
   unfolding value_text
-  no_value g h = simp (ne_eqb layer 0 g, ne_eqb layer 1 h)
+  no_value Levels f g = absurd (f refl)
+  no_value Temperatures f g = absurd (g refl)
+  no_value Faults f g = refl
+  no_value Alarm1 f g = refl
+  no_value Alarm0 f g = refl
+  no_value FaultList f g = refl
 
-pub returns-then-layer-eq0 : goal.returns-then-layer-eq0
-returns-then-layer-eq0 c = text-is (a-level c.args.layer c.args.settings c.args.n c.if-layer-eq0.true) c.put_level.ensures
+pub returns-in-Levels : goal.returns-in-Levels
+returns-in-Levels c = text-is (a-level c.args.settings c.args.n c.args.layer c.in-Levels.is) c.put_level.ensures
 
-pub returns-then-layer-eq1 : goal.returns-then-layer-eq1
-returns-then-layer-eq1 c = at_most (omega arith) (text-is (a-heat c.args.layer c.args.settings c.args.n c.if-layer-eq0.false c.if-layer-eq1.true) c.put_degrees.ensures)
+pub returns-in-Temperatures : goal.returns-in-Temperatures
+returns-in-Temperatures c = at_most (omega arith) (text-is (a-heat c.args.settings c.args.n c.args.layer c.in-Temperatures.is) c.put_degrees.ensures)
 
-pub returns : goal.returns
-returns c = nothing_put (no_value c.args.layer c.args.settings c.args.n c.if-layer-eq0.false c.if-layer-eq1.false)
+pub returns-in_default : goal.returns-in_default
+returns-in_default c = nothing_added (no_value c.args.settings c.args.n c.args.layer c.in_default.not-Levels c.in_default.not-Temperatures)

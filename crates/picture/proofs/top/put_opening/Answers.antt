@@ -1,7 +1,7 @@
 -- `picture::top::put_opening` meets its contract: its parts are put one after another. Assumes nothing.
-use native.Mathlib.Omega.{arith}
-use Rattle.putting.proofs.Putting.{then, at_most}
+use Rattle.std.proofs.Common.{arith}
+use Rattle.putting.proofs.Added.{then, at_most}
 use Rattle.picture.proofs.top.put_opening.Goals as goal
 
 pub returns : goal.returns
-returns c = at_most (omega arith) (then (then (then c.put_word-a.ensures c.put_word-b.ensures) c.put_word-c.ensures) c.put_word.ensures)
+returns c = at_most (omega arith) (then (then (then c.word.ensures c.word-2.ensures) c.word-3.ensures) c.word-4.ensures)

@@ -3,7 +3,7 @@ use mathlib.Core.Path.{◌≡◌}
 use mathlib.Core.List.{[], ◌∷◌}
 use Prim.Native.Nat.{ℕ}
 use native.Mathlib.Omega.{arith}
-use Rattle.putting.proofs.Putting.{text-is, at_most, nothing_put}
+use Rattle.putting.proofs.Added.{text-is, at_most, nothing_added}
 use borrow.Author.Tests.{eq-eqb, ne_eqb}
 use Rattle.listing.specs.Text.{ascii}
 use Rattle.forms.specs.Form.{fill}
@@ -18,8 +18,8 @@ some-others : (n : ℕ) → (n ≡ 0 → ⊥) → fill (ascii "<p>~ records are 
 unfolding others_text
 some-others n h = simp (ne_eqb n 0 h)
 
-pub returns-then-n-eq0 : goal.returns-then-n-eq0
-returns-then-n-eq0 c = nothing_put (no-others c.args.n c.if-n-eq0.true)
+pub returns-then-n-ne0 : goal.returns-then-n-ne0
+returns-then-n-ne0 c = at_most (omega arith) (text-is (some-others c.args.n c.if-n-ne0.true) c.put_form.ensures)
 
-pub returns : goal.returns
-returns c = at_most (omega arith) (text-is (some-others c.args.n c.if-n-eq0.false) c.put_form.ensures)
+pub returns-else-n-ne0 : goal.returns-else-n-ne0
+returns-else-n-ne0 c = nothing_added (no-others c.args.n c.if-n-ne0.false)

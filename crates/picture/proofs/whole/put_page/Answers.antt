@@ -2,9 +2,10 @@
 use mathlib.Core.Path.{◌≡◌, refl, ap, ◌∙◌}
 use mathlib.Core.Bool.{Bool, true}
 use mathlib.Core.List.{List, ◌++◌}
-use Prim.Native.Nat.{ℕ, zero, suc, ◌+◌, ◌-◌, ◌*◌, ◌≤◌}
+use Prim.Native.Nat.{ℕ, zero, suc, ◌+◌, ◌*◌, ◌≤◌}
 use native.Mathlib.Omega.{arith}
-use lib.ListN.{length, take, replicate, length-take, length-append}
+use lib.ListN.{length, take, length-take}
+use Rattle.std.proofs.lemmas.List.{length-map}
 use Rattle.frame.specs.Pick.{pick}
 use Rattle.sheet.specs.declared.Found.{Found}
 use Rattle.sheet.specs.declared.Found.TheVariants.{Blank, Spoiled, Foreign, Record, Refused}
@@ -18,16 +19,17 @@ use Rattle.cards.proofs.FewCounted.{few-counted}
 use Rattle.summary.specs.declared.Line.{Line}
 use Rattle.summary.specs.declared.Summary.{Summary}
 use Rattle.summary.specs.declared.Made.{Made}
-use Rattle.summary.specs.Line.{blank_line, blank_summary, page}
+use Rattle.summary.specs.Line.{blank_summary, page}
 use Rattle.summary.specs.Handed.{lines_of}
-use Rattle.summary.specs.Worked.{pairs_of, kept_pairs, in_order, other_records, summary_of}
+use Rattle.summary.specs.Worked.{line_for, pairs_of, kept_pairs, in_order, other_records, summary_of}
 use Rattle.summary.specs.Calls.{made_of, afresh, MakesSummary}
 use Rattle.summary.proofs.KeptPairs.{once-pairs, once-take, rises-order, length-order}
-use Rattle.summary.proofs.OneRecordMore.{worked, count-worked}
+use Rattle.summary.proofs.OneRecordMore.{worked}
 use Rattle.summary.proofs.Pages.{lines-page}
 use Rattle.sheet.proofs.Seen.{few-slots}
 use Rattle.listing.specs.Text.{ascii}
-use Rattle.putting.proofs.Putting.{then, text-is, at_most}
+use Rattle.putting.proofs.Added.{then, text-is, at_most}
+use Rattle.std.specs.Prelude.{Option}
 use Rattle.calendar.specs.declared.counting.Day.{Day}
 use Rattle.picture.specs.declared.axis.Axis.{Axis}
 use Rattle.picture.specs.Axis.{axis_of}
@@ -50,10 +52,6 @@ page-others : (n : ℕ) (ls : List Line) → (page n ls).others ≡ n
 unfolding page
 page-others n ls = refl
 
-page-long : (n : ℕ) (ls : List Line) → length ls ≤ length (page n ls).lines
-unfolding page
-page-long n ls = omega (arith, length-append ls (replicate (30 - length ls) blank_line))
-
 module _ (s : List ℕ) (y : Summary) (is : y ≡ page (other_records (kept_pairs (list_of s)) (list_of s)) (lines_for (list_of s))) where
   abbrev l : List Entry
   l = list_of s
@@ -64,13 +62,11 @@ module _ (s : List ℕ) (y : Summary) (is : y ≡ page (other_records (kept_pair
   count-is : y.count ≡ length (lines_for l)
   count-is = ap (λ (z : Summary). z.count) is ∙ page-count others (lines_for l)
 
-  few : y.count ≤ 30
-  few = omega (arith, count-is, count-worked l)
+  kept : length (in_order (kept_pairs l)) ≤ 30
+  kept = omega (arith, length-order (kept_pairs l) (once-take 30 (pairs_of l) (once-pairs l)), length-take 30 (pairs_of l))
 
-  long : y.count ≤ length y.lines
-  long =
-      let same : length y.lines ≡ length (page others (lines_for l)).lines = ap (λ (z : Summary). length z.lines) is in
-      omega (arith, count-is, page-long others (lines_for l))
+  few : y.count ≤ 30
+  few = omega (arith, count-is, length-map (in_order (kept_pairs l)) (line_for l), kept)
 
   others-are : y.others ≡ others
   others-are = ap (λ (z : Summary). z.others) is ∙ page-others others (lines_for l)
@@ -80,7 +76,6 @@ module _ (s : List ℕ) (y : Summary) (is : y ≡ page (other_records (kept_pair
 
   room : room_of l (take y.count y.lines) ≤ 138000 + 624 * slots s
   room =
-      let kept : length (in_order (kept_pairs l)) ≤ 30 = omega (arith, length-order (kept_pairs l) (once-take 30 (pairs_of l) (once-pairs l)), length-take 30 (pairs_of l)) in
       let same : room_of l (take y.count y.lines) ≡ room_of l (lines_for l) = ap (room_of l) lines_are in
       omega (arith, same, room-few l (in_order (kept_pairs l)) (rises-order (kept_pairs l)) kept, few-records s (slots s))
 
@@ -105,43 +100,41 @@ small s t size e =
     rw e (omega (arith, n, k), (omega (arith, n, f), (omega (arith, n, f), omega (arith, n, f))))
 
 -- the parts of the page are the page
-page-is : (s name : List ℕ) (begin : Day) (t : Tally) (left : ℕ) (a : Axis) (ls : List Line) → t ≡ tally_of s → left ≡ other_records (kept_pairs (list_of s)) (list_of s) → a ≡ axis_of begin t.first t.last → ls ≡ lines_for (list_of s) → style_text name ++ top_text name t left a ++ sections_text (list_of s) a ls ++ ascii "</main></body></html>\n" ≡ page_of s name begin
+page-is : (s name : List ℕ) (begin : Option Day) (t : Tally) (left : ℕ) (a : Axis) (ls : List Line) → t ≡ tally_of s → left ≡ other_records (kept_pairs (list_of s)) (list_of s) → a ≡ axis_of begin t.first t.last → ls ≡ lines_for (list_of s) → style_text name ++ top_text name t left a ++ sections_text (list_of s) a ls ++ ascii "</main></body></html>\n" ≡ page_of s name begin
 unfolding page_of
 page-is s name begin t left a ls e b g h =
     let w : a ≡ axis_of begin (tally_of s).first (tally_of s).last = g ∙ ap (λ (z : Tally). axis_of begin z.first z.last) e in
     λ i. style_text name ++ top_text name (e i) (b i) (w i) ++ sections_text (list_of s) (w i) (h i) ++ ascii "</main></body></html>\n"
 
-pub put_style-style-requires : goal.put_style-style-requires
-put_style-style-requires c = omega (arith, c.requires.name_in_bounds)
-
-pub put_top-top-requires : goal.put_top-top-requires
-put_top-top-requires c =
+pub put_top-requires : goal.put_top-requires
+put_top-requires c =
     let b = small c.args.sheet.now c.count-tally.result c.requires.sheet_value c.count-tally.ensures in
-    record { slots_bound = b.0; records_bound = b.1.0; spoiled_bound = b.1.1.0; foreign_bound = b.1.1.1; name_in_bounds = omega (arith, c.requires.name_in_bounds, c.put_style-style.ensures.ends, c.put_style-style.ensures.within, c.put_style-style.auto.out) }
+    record { slots_bound = b.0; records_bound = b.1.0; spoiled_bound = b.1.1.0; foreign_bound = b.1.1.1; room = omega (arith, c.requires.room) }
 
-pub put_sections-sections-requires : goal.put_sections-sections-requires
-put_sections-sections-requires c =
+pub put_sections-requires : goal.put_sections-requires
+put_sections-requires c =
     let s = c.args.sheet.now in
-    let made = c.sisal_summary_of-made in
-    let y = made.result.summary in
-    let is = made-is s made.result c.requires.sheet_value made.ensures in
-    record { sheet_value = c.requires.sheet_value; many_value = c.requires.many_value; count_bound = few s y is; count_in_bounds = long s y is; lines_in_bounds = omega (arith, room s y is, c.requires.many_value, c.requires.name_in_bounds, c.put_style-style.ensures.ends, c.put_style-style.ensures.within, c.put_style-style.auto.out, c.put_top-top.ensures.ends, c.put_top-top.ensures.within, c.put_top-top.auto.out) }
+    let made = c.sisal_summary_of in
+    omega (arith, room s made.result.summary (made-is s made.result c.requires.sheet_value made.ensures), c.requires.many_value, c.requires.room)
 
-pub put_word-requires : goal.put_word-requires
-put_word-requires c =
+pub word-requires : goal.word-requires
+word-requires c =
     let s = c.args.sheet.now in
-    let made = c.sisal_summary_of-made in
-    let y = made.result.summary in
-    let is = made-is s made.result c.requires.sheet_value made.ensures in
-    omega (arith, room s y is, c.requires.many_value, c.requires.name_in_bounds, c.put_style-style.ensures.ends, c.put_style-style.ensures.within, c.put_style-style.auto.out, c.put_top-top.ensures.ends, c.put_top-top.ensures.within, c.put_top-top.auto.out, c.put_sections-sections.ensures.ends, c.put_sections-sections.ensures.within, c.put_sections-sections.auto.out)
+    let made = c.sisal_summary_of in
+    omega (arith, room s made.result.summary (made-is s made.result c.requires.sheet_value made.ensures), c.requires.many_value, c.requires.room)
 
 pub returns : goal.returns
 returns c =
     let s = c.args.sheet.now in
-    let made = c.sisal_summary_of-made in
+    let made = c.sisal_summary_of in
     let y = made.result.summary in
     let is = made-is s made.result c.requires.sheet_value made.ensures in
     let t = c.count-tally in
     let axis = c.axis_of-axis in
     let whole = page-is s c.args.name.now c.args.begin t.result y.others axis.result (take y.count y.lines) t.ensures (others-are s y is) axis.ensures (lines_are s y is) in
-    at_most (omega (arith, room s y is, c.requires.many_value)) (text-is whole (then (then (then c.put_style-style.ensures c.put_top-top.ensures) c.put_sections-sections.ensures) c.put_word.ensures))
+    at_most (omega (arith, room s y is, c.requires.many_value)) (text-is whole (then (then (then c.put_style.ensures c.put_top.ensures) c.put_sections.ensures) c.word.ensures))
+
+pub shared_ref_as_front-put_sections : goal.shared_ref_as_front-put_sections
+shared_ref_as_front-put_sections c =
+    let made = c.sisal_summary_of in
+    few c.args.sheet.now made.result.summary (made-is c.args.sheet.now made.result c.requires.sheet_value made.ensures)

@@ -1,11 +1,11 @@
--- `polling::beginning::replies_of` meets its contract: after each turn so many rows have their replies, and no reply stands behind them. Assumes nothing.
+-- `polling::beginning::replies_of` meets its contract: each turn puts down one reply more.
 use mathlib.Core.Path.{◌≡◌, refl, sym, ap, ◌∙◌}
 use mathlib.Core.List.{List, [], ◌∷◌, ◌++◌, map}
 use Prim.Native.Nat.{ℕ, suc, ◌+◌, ◌-◌, ◌<◌}
 use native.Mathlib.Omega.{arith}
 use native.Mathlib.Numerals.{add-one}
 use lib.ListN.{length, get_or, take, set, replicate, length-map}
-use lib.Seq.{take-suc, set_at, append_snoc, length-take-le}
+use lib.Seq.{take-suc, set_at, append_snoc, length-take-le, get_or-take}
 use Rattle.board.specs.declared.Row.{Row}
 use Rattle.board.specs.Row.{free_row}
 use Rattle.round.specs.declared.Polled.{Polled}
@@ -34,36 +34,20 @@ one_more minute held i x long less is =
 thirty : (s : Start) → length s.args.held ≡ 30
 thirty s = s.well_formed.0.1.0.1
 
-pub loop-i-init : goal.loop-i-init
-loop-i-init c = (omega arith, c.no_replies-replies.ensures)
-
-pub offset_bounds-held-i : goal.offset_bounds-held-i
-offset_bounds-held-i c = omega arith
-
-pub bounds-held-i : goal.bounds-held-i
-bounds-held-i c = omega arith
-
-pub offset_bounds-replies-i : goal.offset_bounds-replies-i
-offset_bounds-replies-i c = omega arith
-
-pub bounds-replies-i : goal.bounds-replies-i
-bounds-replies-i c = omega arith
-
-pub overflow_add-i : goal.overflow_add-i
-overflow_add-i c = omega arith
-
-pub loop-i-smaller : goal.loop-i-smaller
-loop-i-smaller c = omega arith
-
 pub loop-i-preserved : goal.loop-i-preserved
 loop-i-preserved c =
-    let l = c.loop-i in (
-      omega arith,
-      ap (λ (x : List Polled). set x l.i c.unanswered.result) l.invariant.1 ∙ one_more c.args.minute c.args.held l.i c.unanswered.result (thirty (goal.at.loop-i-preserved c).Start) (omega arith) c.unanswered.ensures,
-    )
+    let l = c.loop-i in
+    let a = c.args in
+    let whole : length a.held ≡ 30 = thirty (goal.at.loop-i-preserved c).Start in
+    let long : length (take a.count a.held) ≡ a.count = length-take-le a.count a.held (omega arith) in
+    ap (λ (x : List Polled). set x l.i c.unanswered.result) l.invariant
+    ∙ one_more a.minute a.held l.i c.unanswered.result whole (omega arith) (c.unanswered.ensures ∙ ap (reply_for a.minute) (get_or-take a.count a.held l.i free_row (omega arith)))
 
 pub returns : goal.returns
 returns c =
     let l = c.loop-i in
-    let place : l.i ≡ c.args.count = omega arith in
-    l.invariant.1 ∙ ap (λ (k : ℕ). map (reply_for c.args.minute) (take k c.args.held) ++ replicate (30 - k) no_reply) place
+    let a = c.args in
+    let whole : length a.held ≡ 30 = thirty (goal.at.returns c).Start in
+    let long : length (take a.count a.held) ≡ a.count = length-take-le a.count a.held (omega arith) in
+    let place : l.i ≡ a.count = omega arith in
+    l.invariant ∙ ap (λ (k : ℕ). map (reply_for a.minute) (take k a.held) ++ replicate (30 - k) no_reply) place

@@ -1,4 +1,4 @@
--- `polling::beginning::unanswered` meets its contract: the eight zeros are those of a reply of 0 bits. Assumes nothing.
+-- `polling::beginning::unanswered` meets its contract: the eight zeros are those of a reply of 0 bits.
 use mathlib.Core.Path.{refl}
 use Rattle.frame.specs.Line.{first_bytes}
 use Rattle.polling.proofs.beginning.unanswered.Goals as goal

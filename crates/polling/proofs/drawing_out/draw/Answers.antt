@@ -18,7 +18,7 @@ returns-then-bad_pace c =
     let a = c.args in
     record {
       on = λ rs its. draws-bad (state_of rs a.t) a.p a.out.now (left_by_drawing rs a.t c.undrawn.result) (sym c.bad_pace.ensures ∙ c.if-bad_pace.true)
-          (ap (left_by_drawing rs a.t) c.undrawn.ensures);
+          (ap (left_by_drawing rs a.t) c.undrawn.ensures ∙ ap (drew (state_of rs a.t) 0 0) c.number.ensures);
     }
 
 pub returns-then-is_over : goal.returns-then-is_over

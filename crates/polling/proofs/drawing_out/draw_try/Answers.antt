@@ -30,6 +30,6 @@ returns c =
     let a = c.args in
     let i = c.idle-end in
     let poll = c.poll-more in
-    let still = c.left in
-    let before = c.left-2 in
+    let still = c.saturating_sub in
+    let before = c.saturating_sub-2 in
     two-parts a.p a.address a.from a.out.now i.new.out poll.new.out i.result poll.result still.result before.result still.ensures before.ensures i.ensures poll.ensures

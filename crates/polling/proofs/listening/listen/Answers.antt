@@ -1,19 +1,23 @@
 -- `polling::listening::listen` meets its contract: at each turn the try is what its rest is from the lines as they are, i samples later; a turn hears one piece of
--- the samples, cut at the limit (`Pieces`). Assumes nothing.
-use mathlib.Core.Path.{◌≡◌, sym, ap, ◌∙◌}
-use mathlib.Core.Bool.{true≢false}
-use Prim.Native.Nat.{◌+◌, ◌-◌, ◌<◌, ◌≤◌}
+-- the samples, cut at the limit (`Pieces`).
+use mathlib.Core.Path.{◌≡◌, sym, ap, ap₂, ◌∙◌}
+use mathlib.Core.Bool.{Bool, true, false, not, ◌||◌}
+use Prim.Native.Nat.{ℕ, ◌+◌, ◌-◌, ◌<◌, ◌≤◌}
 use native.Mathlib.Omega.{arith}
+use lib.Dec.{eqb}
 use lib.ListN.{length, take, drop}
+use borrow.Author.Tests.{eq-eqb, ne_eqb}
 use Rattle.lines.specs.declared.LinesTold.{LinesTold}
 use Rattle.lines.specs.Hearing.{hear}
 use Rattle.lines.specs.Calls.{answered}
 use Rattle.polling.specs.Pace.{timing_of}
 use Rattle.polling.specs.Inside.Ears.{limit_of, next_limit, cut_to, ear_of}
 use Rattle.polling.proofs.Paces.{good}
-use Rattle.polling.proofs.OneTurn.{first, at-end, next-limit, cut_by, cut-so, limit-most, closed-settled, Turn, turn}
-use Rattle.polling.specs.declared.listening.Ear.{Ear}
-use Rattle.polling.proofs.listening.listen.Goals.{After-cut}
+use Rattle.polling.proofs.OneTurn.{first, at-end, next-limit, cut_by, cut-so, limit-most, Turn, turn}
+use Rattle.polling.specs.declared.listening.Told.{Told}
+use Rattle.polling.specs.declared.listening.Ear.TheVariants.{Closed}
+use borrow.Author.Rules.{rules}
+use Rattle.polling.proofs.listening.listen.Goals.{After-cut, then-told-ne0-via-then-told-ne0, then-told-ne0-via-else-told-ne0+then-told-ne0-2}
 use Rattle.polling.proofs.listening.listen.Goals as goal
 
 -- where a turn's piece is cut, and what it comes to
@@ -44,6 +48,16 @@ its-turn : (c : After-cut) (told : LinesTold)
 its-turn c told e =
     let l = c.loop-i in
     turn c.args.p (good c.args.p c.requires.p_value) l.s l.invariant.1 c.args.before l.i c.cut.result c.args.samples.now (within c) (cut_at c) told e
+
+-- whether the lines told of something
+some-count : (count number : ℕ) → (count ≡ 0 → ⊥) → (not (eqb count 0) || not (eqb number 0)) ≡ true
+some-count count number some = ap (λ (b : Bool). not b || not (eqb number 0)) (ne_eqb count 0 some)
+
+some-number : (count number : ℕ) → count ≡ 0 → (number ≡ 0 → ⊥) → (not (eqb count 0) || not (eqb number 0)) ≡ true
+some-number count number none some = ap₂ (λ (a b : Bool). not a || not b) (eq-eqb count 0 none) (ne_eqb number 0 some)
+
+nothing-told : (count number : ℕ) → count ≡ 0 → number ≡ 0 → (not (eqb count 0) || not (eqb number 0)) ≡ false
+nothing-told count number none good = ap₂ (λ (a b : Bool). not a || not b) (eq-eqb count 0 none) (eq-eqb number 0 good)
 
 pub loop-i-init : goal.loop-i-init
 loop-i-init c =
@@ -90,14 +104,6 @@ overflow_add-i c =
     let u = its-turn (goal.at.overflow_add-i c).After-cut h.result h.ensures in
     omega (arith, u.few)
 
-pub returns-then-told : goal.returns-then-told
-returns-then-told c =
-    let l = c.loop-i in
-    let h = c.hear-told in
-    let u = its-turn (goal.at.returns-then-told c).After-cut h.result h.ensures in
-    let is = c.closed.ensures ∙ u.closes c.if-told.true ∙ ap ear_of (sym l.invariant.2) in
-    (is, λ e. absurd (true≢false (sym (ap (λ (x : Ear). x.settled) c.closed.ensures ∙ closed-settled h.result (l.i + h.result.taken)) ∙ e)))
-
 pub overflow_add-before-in-loop-i-2 : goal.overflow_add-before-in-loop-i-2
 overflow_add-before-in-loop-i-2 c =
     let l = c.loop-i in
@@ -112,36 +118,54 @@ overflow_add-before-in-loop-i-3 c =
     let u = its-turn (goal.at.overflow_add-before-in-loop-i-3 c).After-cut h.result h.ensures in
     omega (arith, u.small, l.invariant.3)
 
-pub returns-then-next_limit-before : goal.returns-then-next_limit-before
-returns-then-next_limit-before c =
-    let l = c.loop-i in
-    let h = c.hear-told in
-    let u = its-turn (goal.at.returns-then-next_limit-before c).After-cut h.result h.ensures in
-    let next = c.next_limit in
-    let reached = (next-limit c.args.p (good c.args.p c.requires.p_value) h.result.so_far (c.args.before + (l.i + h.result.taken)) next.result next.ensures).1 c.if-next_limit-before.true in
-    let is = c.at_limit.ensures ∙ ap ear_of (sym (l.invariant.2 ∙ u.ends c.if-told.false reached)) in
-    (is, λ e. absurd (true≢false (sym (ap (λ (x : Ear). x.settled) c.at_limit.ensures) ∙ e)))
-
 pub loop-i-smaller : goal.loop-i-smaller
 loop-i-smaller c =
     let l = c.loop-i in
     let h = c.hear-told in
     let u = its-turn (goal.at.loop-i-smaller c).After-cut h.result h.ensures in
-    omega (arith, u.few, u.some c.if-told.false)
+    omega (arith, u.few, u.some (nothing-told _ _ c.if-told-ne0.false c.if-told-ne0-2.false))
 
 pub loop-i-preserved : goal.loop-i-preserved
 loop-i-preserved c =
     let l = c.loop-i in
     let h = c.hear-told in
     let g = good c.args.p c.requires.p_value in
+    let none = nothing-told _ _ c.if-told-ne0.false c.if-told-ne0-2.false in
     let u = its-turn (goal.at.loop-i-preserved c).After-cut h.result h.ensures in
     let next = c.next_limit in
     let near = (next-limit c.args.p g h.result.so_far (c.args.before + (l.i + h.result.taken)) next.result next.ensures).0 in
     let short : c.args.before + (l.i + h.result.taken) < limit_of c.args.p h.result.so_far = omega (arith, near, c.if-next_limit-before.false) in
-    (omega (arith, u.few), u.ready c.if-told.false, l.invariant.2 ∙ u.goes c.if-told.false short, omega (arith, short, limit-most c.args.p g h.result.so_far))
+    (omega (arith, u.few), u.ready none, l.invariant.2 ∙ u.goes none short, omega (arith, short, limit-most c.args.p g h.result.so_far))
+
+pub returns-then-told-ne0 : goal.returns-then-told-ne0
+returns-then-told-ne0 c =
+    let l = c.loop-i in
+    let h = c.hear-told in
+    let u = its-turn (goal.at.returns-then-told-ne0 c).After-cut h.result h.ensures in
+    let some : (not (eqb h.result.count 0) || not (eqb h.result.number 0)) ≡ true = elim c.then-told-ne0.branch [
+      | then-told-ne0-via-then-told-ne0 w ↦ some-count _ _ w.if-told-ne0.true
+      | then-told-ne0-via-else-told-ne0+then-told-ne0-2 w ↦ some-number _ _ w.if-told-ne0.false w.if-told-ne0-2.true
+    ] in
+    record {
+      value = ap (λ (t : Told). Closed t (l.i + h.result.taken)) c.of.ensures ∙ u.closes some ∙ ap ear_of (sym l.invariant.2);
+      room = search rules;
+    }
+
+pub returns-then-next_limit-before : goal.returns-then-next_limit-before
+returns-then-next_limit-before c =
+    let l = c.loop-i in
+    let h = c.hear-told in
+    let u = its-turn (goal.at.returns-then-next_limit-before c).After-cut h.result h.ensures in
+    let none = nothing-told _ _ c.if-told-ne0.false c.if-told-ne0-2.false in
+    let next = c.next_limit in
+    let reached = (next-limit c.args.p (good c.args.p c.requires.p_value) h.result.so_far (c.args.before + (l.i + h.result.taken)) next.result next.ensures).1 c.if-next_limit-before.true in
+    record {
+      value = ap (λ (t : Told). Closed t (l.i + h.result.taken)) c.at_limit.ensures ∙ ap ear_of (sym (l.invariant.2 ∙ u.ends none reached));
+      room = search rules;
+    }
 
 pub returns : goal.returns
 returns c =
     let l = c.loop-i in
     let end = at-end c.args.p l.s (c.args.before + l.i) l.i c.args.samples.now (omega arith) in
-    (c.left_open.ensures ∙ ap ear_of (sym (l.invariant.2 ∙ end)), λ e. rw c.left_open.ensures l.invariant.3)
+    record { value = ap ear_of (sym (l.invariant.2 ∙ end)); room = l.invariant.3 }

@@ -1,5 +1,5 @@
--- `polling::settling::hear` meets its contract: each return is what the tests that led there leave, whatever the other replies are. Assumes nothing.
-use mathlib.Core.Path.{◌≡◌, sym, ap, ◌∙◌}
+-- `polling::settling::hear` meets its contract: each return is what the tests that led there leave, whatever the other replies are.
+use mathlib.Core.Path.{◌≡◌, sym, ap, ap₂, ◌∙◌}
 use mathlib.Core.Bool.{false}
 use mathlib.Core.List.{List}
 use Prim.Native.Nat.{ℕ}
@@ -29,7 +29,7 @@ returns-then-bad_pace c =
     record {
       on = λ rs its. hears-bad (state_of rs a.t) a.p a.minute a.samples.now (left_by_hearing rs (place_of a.t.at) a.t c.untold.result) (sym c.bad_pace.ensures ∙ c.if-bad_pace.true)
           (ap (left_by_hearing rs (place_of a.t.at) a.t) c.untold.ensures
-          ∙ ap (λ (x : List Polled). settled_of (state_of x a.t) 0 0 0 0 20) (kept rs (place_of a.t.at) a.t.entry its));
+          ∙ ap₂ (λ (x : List Polled) (k : ℕ). settled_of (state_of x a.t) 0 0 0 0 k) (kept rs (place_of a.t.at) a.t.entry its) c.number.ensures);
     }
 
 pub returns-then-is_over : goal.returns-then-is_over
@@ -46,7 +46,7 @@ returns-then-is_over c =
 
 pub meant-w-requires : goal.meant-w-requires
 meant-w-requires c =
-    record { p_value = sym c.bad_pace.ensures ∙ c.if-bad_pace.false; t_value = sym c.is_over.ensures ∙ c.if-is_over.false }
+    record { p_value = sym c.bad_pace.ensures ∙ c.if-bad_pace.false; self_value = sym c.is_over.ensures ∙ c.if-is_over.false }
 
 pub returns-then-w-eq0 : goal.returns-then-w-eq0
 returns-then-w-eq0 c =

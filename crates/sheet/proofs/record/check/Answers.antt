@@ -4,22 +4,22 @@ use mathlib.Core.Path.{sym, ◌∙◌}
 use Rattle.frame.specs.Faults.{first_of}
 use Rattle.sheet.proofs.record.check.Goals as goal
 
-pub returns-then-settings-gt15 : goal.returns-then-settings-gt15
+pub returns-then-head-gt15 : goal.returns-then-head-gt15
 unfolding first_of
-returns-then-settings-gt15 c = simp (lt-ltb _ _ c.if-settings-gt15.true)
+returns-then-head-gt15 c = simp (lt-ltb _ _ c.if-head-gt15.true)
 
-pub returns-then-address-gt999 : goal.returns-then-address-gt999
+pub returns-then-head-gt999 : goal.returns-then-head-gt999
 unfolding first_of
-returns-then-address-gt999 c = simp (le-ltb _ _ c.if-settings-gt15.false, lt-ltb _ _ c.if-address-gt999.true)
+returns-then-head-gt999 c = simp (le-ltb _ _ c.if-head-gt15.false, lt-ltb _ _ c.if-head-gt999.true)
 
 pub returns-then-formed : goal.returns-then-formed
 unfolding first_of
 returns-then-formed c =
     simp
-    (le-ltb _ _ c.if-settings-gt15.false, le-ltb _ _ c.if-address-gt999.false, sym c.formed.ensures ∙ c.if-formed.true)
+    (le-ltb _ _ c.if-head-gt15.false, le-ltb _ _ c.if-head-gt999.false, sym c.formed.ensures ∙ c.if-formed.true)
 
 pub returns : goal.returns
 unfolding first_of
 returns c =
     simp
-    (le-ltb _ _ c.if-settings-gt15.false, le-ltb _ _ c.if-address-gt999.false, sym c.formed.ensures ∙ c.if-formed.false)
+    (le-ltb _ _ c.if-head-gt15.false, le-ltb _ _ c.if-head-gt999.false, sym c.formed.ensures ∙ c.if-formed.false)

@@ -16,11 +16,11 @@ part-lt k from part bytes =
 
 pub overflow_cast-result : goal.overflow_cast-result
 overflow_cast-result c =
-    omega (arith, part-lt 4 4 c.args.part.now (λ i. omega (arith, c.shared_slice_known-1.given i)), c.number.ensures)
+    omega (arith, part-lt 4 4 c.args.part.now (λ i. c.fits-part i), c.number.ensures)
 
 pub overflow_cast-result-2 : goal.overflow_cast-result-2
 overflow_cast-result-2 c =
-    omega (arith, part-lt 2 8 c.args.part.now (λ i. omega (arith, c.shared_slice_known-1.given i)), c.number-2.ensures)
+    omega (arith, part-lt 2 8 c.args.part.now (λ i. c.fits-part i), c.number-2.ensures)
 
 pub returns : goal.returns
 unfolding fields_of

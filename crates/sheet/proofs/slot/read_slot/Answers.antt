@@ -17,13 +17,13 @@ use Rattle.sheet.specs.declared.Found.TheVariants.{Record}
 use Rattle.sheet.specs.Bytes.{FF, big_endian, number_in, all_blank}
 use Rattle.sheet.specs.Record.{fields_of, is_record}
 use Rattle.sheet.specs.Slots.{blank, spoiled, foreign, holds, slot_of}
-use Rattle.sheet.specs.Look.{look_told, part_of, head_of}
+use Rattle.sheet.specs.Look.{bare, look_told, part_of, head_of}
 use Rattle.sheet.specs.Inside.Word.{first_bits}
 use Rattle.sheet.proofs.Numbers.{AreBytes}
 use Rattle.sheet.proofs.Blank.{blank-first}
 use Rattle.sheet.proofs.Records.{record-passes, record-reply, passes-formed, formed-few}
 use Rattle.sheet.proofs.SlotParts.{no_slot}
-use Rattle.sheet.proofs.slot.read_slot.Goals.{After-blank_slot, After-is_record}
+use Rattle.sheet.proofs.slot.read_slot.Goals.{then-blank, else-blank}
 use Rattle.sheet.proofs.slot.read_slot.Goals as goal
 
 -- a slot by the three tests
@@ -32,20 +32,14 @@ reads_as : (x : List ℕ) (a f r : Bool) → length x ≡ 32 → all_blank x ≡
 unfolding part_of slot_of
 reads_as x a f r long ea ef er = simp (eq-eqb (length x) 32 long, ea, ef, er)
 
--- what is known of a slot once it is asked whether it holds a record: one that does not begin with FF is not blank
-asked : (c : After-is_record) (r : Bool) → let x = c.args.part.now in c.is_record.result ≡ r
-    → part_of x ≡ look_told (pick r (holds (fields_of x)) foreign)
-asked c r e =
-    let x = c.args.part.now in
-    let other = ne_eqb (get_or x 0 0) FF c.if-part.false in
-    reads_as x false false r c.if-part-ne32.false (blank-first x (omega arith) other) other (sym c.is_record.ensures ∙ e)
+-- a slot that begins with FF: one that does not is not blank
+begun : (x : List ℕ) (a : Bool) → length x ≡ 32 → get_or x 0 0 ≡ FF → a ≡ all_blank x → part_of x ≡ look_told (pick a blank spoiled)
+begun x a long e ea = reads_as x a true (is_record x) long (sym ea) (eq-eqb (get_or x 0 0) FF e) refl
 
--- and of one that begins with FF once it is asked whether it is blank
-begun : (c : After-blank_slot) (a : Bool) → let x = c.args.part.now in c.blank_slot.result ≡ a
-    → part_of x ≡ look_told (pick a blank spoiled)
-begun c a e =
-    let x = c.args.part.now in
-    reads_as x a true (is_record x) c.if-part-ne32.false (sym c.blank_slot.ensures ∙ e) (eq-eqb (get_or x 0 0) FF c.if-part.true) refl
+other : (x : List ℕ) (r : Bool) → length x ≡ 32 → (get_or x 0 0 ≡ FF → ⊥) → r ≡ is_record x → part_of x ≡ look_told (pick r (holds (fields_of x)) foreign)
+other x r long e er =
+    let not_ff = ne_eqb (get_or x 0 0) FF e in
+    reads_as x false false r long (blank-first x (omega arith) not_ff) not_ff (sym er)
 
 -- of a record: its count, and the bytes of its reply
 record-few : (x : List ℕ) (h : Head) → h ≡ head_of (fields_of x) → is_record x ≡ true → h.count ≤ 64
@@ -68,29 +62,41 @@ record-told x h r bytes long e few is q =
     ∙ ap (λ (n : ℕ). take size (drop 11 x) ++ replicate (8 - n) 0) (sym short) in
     λ i. record { found = Record (e i); reply = own i }
 
-pub returns-then-part-ne32 : goal.returns-then-part-ne32
-returns-then-part-ne32 c = c.no_reply.ensures ∙ sym (no_slot c.args.part.now c.if-part-ne32.true)
-
-pub returns-then-blank_slot : goal.returns-then-blank_slot
-returns-then-blank_slot c = c.no_reply-then-blank_slot.ensures ∙ sym (begun (goal.at.returns-then-blank_slot c).After-blank_slot true c.if-blank_slot.true)
+pub returns-in_default : goal.returns-in_default
+returns-in_default c = c.bare.ensures ∙ sym (no_slot c.args.part.now c.in_default.ensures.1)
 
 pub returns-then-part : goal.returns-then-part
-returns-then-part c = c.no_reply-then-part.ensures ∙ sym (begun (goal.at.returns-then-part c).After-blank_slot false c.if-blank_slot.false)
+returns-then-part c =
+    let same = c.in-Ok.ensures.1 in
+    let long : length c.in-Ok.part.now ≡ 32 = ap length same.same ∙ same.long in
+    let b = c.blank_slot-blank in
+    let told : c.bare-then-part.result ≡ look_told (pick b.result blank spoiled) =
+    elim c.if-blank.branch [
+      | then-blank w ↦ c.bare-then-part.ensures ∙ ap bare w.bare-is ∙ sym (ap (λ (t : Bool). look_told (pick t blank spoiled)) w.if-blank.true)
+      | else-blank w ↦ c.bare-then-part.ensures ∙ ap bare w.bare-is ∙ sym (ap (λ (t : Bool). look_told (pick t blank spoiled)) w.if-blank.false)
+    ] in
+    told ∙ sym (begun c.in-Ok.part.now b.result long c.if-part.true b.ensures) ∙ ap part_of same.same
+
+pub returns-then-not-is_record : goal.returns-then-not-is_record
+returns-then-not-is_record c =
+    let same = c.in-Ok.ensures.1 in
+    let long : length c.in-Ok.part.now ≡ 32 = ap length same.same ∙ same.long in
+    c.bare-then-not-is_record.ensures
+    ∙ sym (other c.in-Ok.part.now false long c.if-part.false (sym c.if-not-is_record.true ∙ c.is_record.ensures))
+    ∙ ap part_of same.same
 
 pub reply_in-reply-requires : goal.reply_in-reply-requires
 reply_in-reply-requires c =
-    let x = c.args.part.now in
-    let few = record-few x c.head_in-head.result c.head_in-head.ensures (sym c.is_record.ensures ∙ c.if-is_record.true) in
-    record { part_len = omega arith; count_bound = omega arith }
-
-pub returns-then-is_record : goal.returns-then-is_record
-returns-then-is_record c =
-    let x = c.args.part.now in
-    let h = c.head_in-head in
-    let is = sym c.is_record.ensures ∙ c.if-is_record.true in
-    record-told x h.result c.reply_in-reply.result (λ i. omega (arith, c.shared_slice_known-1.given i)) c.if-part-ne32.false h.ensures
-    (record-few x h.result h.ensures is) is c.reply_in-reply.ensures
-    ∙ sym (asked (goal.at.returns-then-is_record c).After-is_record true c.if-is_record.true)
+    record-few c.in-Ok.part.now c.head_in-head.result c.head_in-head.ensures (sym c.is_record.ensures ∙ c.if-not-is_record.false)
 
 pub returns : goal.returns
-returns c = c.no_reply-2.ensures ∙ sym (asked (goal.at.returns c).After-is_record false c.if-is_record.false)
+returns c =
+    let same = c.in-Ok.ensures.1 in
+    let x = c.in-Ok.part.now in
+    let long : length x ≡ 32 = ap length same.same ∙ same.long in
+    let h = c.head_in-head in
+    let is = sym c.is_record.ensures ∙ c.if-not-is_record.false in
+    let bytes : AreBytes x = rw same.same (λ i. omega (arith, c.type_inv.part i)) in
+    record-told x h.result c.reply_in-reply.result bytes long h.ensures (record-few x h.result h.ensures is) is c.reply_in-reply.ensures
+    ∙ sym (other x true long c.if-part.false (sym is))
+    ∙ ap part_of same.same

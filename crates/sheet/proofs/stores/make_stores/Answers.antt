@@ -54,11 +54,11 @@ returns c =
     let e = entry_with a.head a.reply.now in
     let size : 9 + length a.reply.now ≡ length_of e = omega arith in
     record {
-      answers = c.smaller-3.ensures ∙ ap (λ (n : ℕ). min a.allowance (n + 2)) size;
+      answers = c.min-3.ensures ∙ ap (λ (n : ℕ). min a.allowance (n + 2)) size;
       leaves = whole a.sheet.now c.store_row.new.sheet c.store_row-2.new.sheet c.store_length.new.sheet
-          a.at a.allowance a.head a.reply.now c.before_reply-bytes.result c.smaller.result
-          c.left_after-of_reply.result c.smaller-2.result c.left_after.result c.requires.reply_len_bound
-          c.before_reply-bytes.ensures c.smaller.ensures c.left_after-of_reply.ensures
-          c.smaller-2.ensures c.left_after.ensures c.store_row.ensures
+          a.at a.allowance a.head a.reply.now c.before_reply-bytes.result c.min.result
+          c.saturating_sub-of_reply.result c.min-2.result c.saturating_sub.result c.requires.reply_len_bound
+          c.before_reply-bytes.ensures c.min.ensures c.saturating_sub-of_reply.ensures
+          c.min-2.ensures c.saturating_sub.ensures c.store_row.ensures
           c.store_row-2.ensures c.store_length.ensures;
     }

@@ -5,7 +5,7 @@ use Prim.Native.Nat.{ℕ, ◌+◌, ◌<◌, ◌≤◌, min}
 use native.Mathlib.Omega.{arith}
 use lib.ListN.{length, take, get_or, set}
 use Rattle.sheet.specs.Stores.{Store, ◌puts◌, made, ascending}
-use Rattle.sheet.proofs.Storing.{made-length, made_more, ascending-length, ascending-at}
+use Rattle.sheet.proofs.Storing.{made_more, ascending-length, ascending-at}
 use Rattle.sheet.proofs.stores.store_row.Goals as goal
 use Rattle.sheet.proofs.stores.store_row.Goals.{then-i-many, else-i-many}
 
@@ -32,50 +32,26 @@ enough s₀ s i j many ps h k before =
 pub loop-i-init : goal.loop-i-init
 unfolding made
 loop-i-init c =
-    let none : 0 ≡ min 0 c.args.many = omega arith in
-    let a = c.args in (omega arith, ap (λ (n : ℕ). made a.sheet.now (take n (ascending a.at a.row.now))) none)
-
-pub overflow_add-at : goal.overflow_add-at
-overflow_add-at c = omega arith
-
-pub bounds-row-i : goal.bounds-row-i
-bounds-row-i c = omega arith
-
-pub store-requires : goal.store-requires
-store-requires c =
     let a = c.args in
-    omega (arith, ap length c.loop-i.invariant.1 ∙ made-length a.sheet.now (take (min c.loop-i.i a.many) (ascending a.at a.row.now)))
-
-pub overflow_add-i : goal.overflow_add-i
-overflow_add-i c = omega arith
-
-pub loop-i-smaller : goal.loop-i-smaller
-loop-i-smaller c = omega arith
+    let none : 0 ≡ min 0 a.many = omega arith in
+    ap (λ (n : ℕ). made a.sheet.now (take n (ascending a.at a.row.now))) none
 
 pub loop-i-preserved : goal.loop-i-preserved
 loop-i-preserved c =
     let l = c.loop-i in
-    let a = c.args in (
-      omega arith,
-      elim c.if-i-many.branch [
-        | then-i-many w ↦
-            stored a.sheet.now l.sheet c.if-i-many.sheet a.at l.i a.many a.row.now w.if-i-many.true (omega arith) l.invariant.1
-            (w.sheet-is ∙ w.store.ensures)
-        | else-i-many w ↦
-            w.sheet-is
-            ∙ enough a.sheet.now l.sheet l.i (l.i + 1) a.many (ascending a.at a.row.now) w.if-i-many.false (omega arith) l.invariant.1
-      ],
-    )
-
-pub shape_of-sheet : goal.shape_of-sheet
-shape_of-sheet c =
     let a = c.args in
-    let l = c.loop-i in
-    ap length l.invariant.1 ∙ made-length a.sheet.now (take (min l.i a.many) (ascending a.at a.row.now))
+    elim c.if-i-many.branch [
+      | then-i-many w ↦
+          stored a.sheet.now l.sheet c.if-i-many.sheet a.at l.i a.many a.row.now w.if-i-many.true (omega arith) l.invariant
+          (w.sheet-is ∙ w.store.ensures)
+      | else-i-many w ↦
+          w.sheet-is
+          ∙ enough a.sheet.now l.sheet l.i (l.i + 1) a.many (ascending a.at a.row.now) w.if-i-many.false (omega arith) l.invariant
+    ]
 
 pub returns : goal.returns
 returns c =
     let a = c.args in
     let l = c.loop-i in
     let all : min l.i a.many ≡ a.many = omega arith in
-    l.invariant.1 ∙ ap (λ (n : ℕ). made a.sheet.now (take n (ascending a.at a.row.now))) all
+    l.invariant ∙ ap (λ (n : ℕ). made a.sheet.now (take n (ascending a.at a.row.now))) all

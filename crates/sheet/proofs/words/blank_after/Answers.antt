@@ -1,36 +1,48 @@
--- `sheet::words::blank_after` meets its contract: each return is one part of the law `after-reply`. Assumes nothing.
-use mathlib.Core.Path.{◌≡◌, refl, sym, ap, ◌∙◌}
-use mathlib.Core.Bool.{Bool, true, false, ◌&&◌}
+-- `sheet::words::blank_after` meets its contract: its three tests are those of the law `after-reply`. Assumes nothing.
+use mathlib.Core.Path.{◌≡◌, sym, ap, ◌∙◌}
+use mathlib.Core.Bool.{Bool, ◌&&◌, and_assoc}
 use mathlib.Core.List.{List}
 use Prim.Native.Nat.{ℕ, ◌-◌, ◌^◌}
-use native.Mathlib.Omega.{arith}
 use borrow.Author.Tests.{eq-eqb, ne_eqb}
 use lib.Dec.{eqb}
-use lib.ListN.{get_or, take, drop}
+use lib.ListN.{length, get_or, take, drop}
 use Rattle.sheet.specs.Bytes.{FF, number_in, all_blank}
+use Rattle.sheet.proofs.Numbers.{AreBytes}
 use Rattle.sheet.proofs.BlankWords.{after-reply}
-use Rattle.sheet.proofs.words.blank_after.Goals.{After-number}
 use Rattle.sheet.proofs.words.blank_after.Goals as goal
+use Rattle.sheet.proofs.words.blank_after.Goals.{Joined-number-eq4294967295, then-number-eq4294967295, else-number-eq4294967295}
 
--- the bytes after the reply, by the three tests
-abbrev slot : After-number → List ℕ
-slot c = c.args.part.now
+-- the bytes after the reply, by the first two tests taken together and the third
+tested : (x : List ℕ) (n : ℕ) (v : Bool) → AreBytes x → length x ≡ 32 → n ≡ number_in (take 4 (drop 19 x)) → v ≡ (eqb n (2 ^ 32 - 1) && eqb (get_or x 23 0) FF)
+    → all_blank (drop 19 x) ≡ (v && eqb (number_in (take 8 (drop 24 x))) (2 ^ 64 - 1))
+tested x n v bytes long en ev =
+    let r = eqb (number_in (take 8 (drop 24 x))) (2 ^ 64 - 1) in
+    let q = eqb (get_or x 23 0) FF in
+    after-reply x bytes long
+    ∙ sym (and_assoc (eqb (number_in (take 4 (drop 19 x))) (2 ^ 32 - 1)) q r)
+    ∙ ap (λ (m : ℕ). (eqb m (2 ^ 32 - 1) && q) && r) (sym en)
+    ∙ ap (λ (t : Bool). t && r) (sym ev)
 
-tested : (c : After-number) (p q r : Bool) → eqb c.number.result (2 ^ 32 - 1) ≡ p → eqb (get_or (slot c) 23 0) FF ≡ q
-    → eqb (number_in (take 8 (drop 24 (slot c)))) (2 ^ 64 - 1) ≡ r → all_blank (drop 19 (slot c)) ≡ (p && (q && r))
-tested c p q r ep eq er =
-    after-reply (slot c) (λ i. omega (arith, c.type_inv.part i)) c.requires
-    ∙ (λ i. (ap (λ (n : ℕ). eqb n (2 ^ 32 - 1)) (sym c.number.ensures) ∙ ep) i && (eq i && er i))
+-- the same where the first two are joined
+decided : (c : Joined-number-eq4294967295) → let x = c.args.part.now in
+    all_blank (drop 19 x) ≡ (c.if-number-eq4294967295.value && eqb (number_in (take 8 (drop 24 x))) (2 ^ 64 - 1))
+decided c =
+    let q = eqb (get_or c.args.part.now 23 0) FF in
+    let two : c.if-number-eq4294967295.value ≡ (eqb c.number.result (2 ^ 32 - 1) && q) =
+    elim c.if-number-eq4294967295.branch [
+      | then-number-eq4294967295 w ↦ w.value-is ∙ sym (ap (λ (t : Bool). t && q) (eq-eqb _ _ w.if-number-eq4294967295.true))
+      | else-number-eq4294967295 w ↦
+          w.value-is ∙ ne_eqb _ _ w.if-number-eq4294967295.false ∙ sym (ap (λ (t : Bool). t && q) (ne_eqb _ _ w.if-number-eq4294967295.false))
+    ] in
+    tested c.args.part.now c.number.result c.if-number-eq4294967295.value c.fits-part c.told-part c.number.ensures two
 
-pub returns-then-number-ne4294967295 : goal.returns-then-number-ne4294967295
-returns-then-number-ne4294967295 c = sym (tested (goal.at.returns-then-number-ne4294967295 c).After-number false _ _ (ne_eqb _ _ c.if-number-ne4294967295.true) refl refl)
+pub returns-then-part-eq255 : goal.returns-then-part-eq255
+returns-then-part-eq255 c =
+    let r = λ (v : Bool). v && eqb (number_in (take 8 (drop 24 c.args.part.now))) (2 ^ 64 - 1) in
+    ap (λ (n : ℕ). eqb n (2 ^ 64 - 1)) c.number-then-part-eq255.ensures
+    ∙ sym (decided (goal.at.returns-then-part-eq255 c).Joined-number-eq4294967295 ∙ ap r c.if-part-eq255.true)
 
-pub returns-then-part : goal.returns-then-part
-returns-then-part c =
-    sym (tested (goal.at.returns-then-part c).After-number true false _ (eq-eqb _ _ c.if-number-ne4294967295.false) (ne_eqb _ _ c.if-part.true) refl)
-
-pub returns : goal.returns
-returns c =
-    sym
-    (tested (goal.at.returns c).After-number true true (eqb c.number-2.result (2 ^ 64 - 1)) (eq-eqb _ _ c.if-number-ne4294967295.false) (eq-eqb _ _ c.if-part.false)
-    (ap (λ (n : ℕ). eqb n (2 ^ 64 - 1)) (sym c.number-2.ensures)))
+pub returns-else-part-eq255 : goal.returns-else-part-eq255
+returns-else-part-eq255 c =
+    let r = λ (v : Bool). v && eqb (number_in (take 8 (drop 24 c.args.part.now))) (2 ^ 64 - 1) in
+    c.if-part-eq255.false ∙ sym (decided (goal.at.returns-else-part-eq255 c).Joined-number-eq4294967295 ∙ ap r c.if-part-eq255.false)

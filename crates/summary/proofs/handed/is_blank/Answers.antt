@@ -1,32 +1,17 @@
--- `summary::handed::is_blank` meets its contract: the first field that is not 0 decides.
-use mathlib.Core.Path.{sym}
-use Rattle.summary.proofs.Every.{blank-by}
+-- `summary::handed::is_blank` meets its contract: the fields are compared in their order.
+use mathlib.Core.Path.{◌≡◌, refl, ◌∙◌}
+use mathlib.Core.Bool.{Bool, true, false, ◌&&◌}
+use lib.Dec.{eqb}
 use Rattle.summary.specs.Handed.{is_blank}
-use borrow.Author.Tests.{eq-eqb, ne_eqb}
 use Rattle.summary.proofs.handed.is_blank.Goals as goal
 
-pub returns-then-line-ne0 : goal.returns-then-line-ne0
-unfolding is_blank
-returns-then-line-ne0 c = simp (ne_eqb _ _ c.if-line-ne0.true)
-
-pub returns-then-line-ne0-2 : goal.returns-then-line-ne0-2
-unfolding is_blank
-returns-then-line-ne0-2 c = simp (eq-eqb _ _ c.if-line-ne0.false, ne_eqb _ _ c.if-line-ne0-2.true)
-
-pub returns-then-line-ne0-3 : goal.returns-then-line-ne0-3
-unfolding is_blank
-returns-then-line-ne0-3 c = simp (eq-eqb _ _ c.if-line-ne0.false, eq-eqb _ _ c.if-line-ne0-2.false, ne_eqb _ _ c.if-line-ne0-3.true)
-
-pub returns-then-line-ne0-4 : goal.returns-then-line-ne0-4
-unfolding is_blank
-returns-then-line-ne0-4 c =
-    simp (eq-eqb _ _ c.if-line-ne0.false, eq-eqb _ _ c.if-line-ne0-2.false, eq-eqb _ _ c.if-line-ne0-3.false, ne_eqb _ _ c.if-line-ne0-4.true)
-
-pub returns-then-line-ne0-5 : goal.returns-then-line-ne0-5
-unfolding is_blank
-returns-then-line-ne0-5 c =
-    simp (eq-eqb _ _ c.if-line-ne0.false, eq-eqb _ _ c.if-line-ne0-2.false, eq-eqb _ _ c.if-line-ne0-3.false, eq-eqb _ _ c.if-line-ne0-4.false, ne_eqb _ _ c.if-line-ne0-5.true)
+grouped : (a b c d e f : Bool) → (a && (b && (c && (d && (e && f))))) ≡ (((((a && b) && c) && d) && e) && f)
+grouped false b c d e f = refl
+grouped true false c d e f = refl
+grouped true true false d e f = refl
+grouped true true true false e f = refl
+grouped true true true true e f = refl
 
 pub returns : goal.returns
-returns c =
-    sym (blank-by _ c.if-line-ne0.false c.if-line-ne0-2.false c.if-line-ne0-3.false c.if-line-ne0-4.false c.if-line-ne0-5.false)
+unfolding is_blank
+returns c = (rw c.blank_line.ensures at c.eq.ensures) ∙ (let l = c.args.line in grouped (eqb l.address 0) (eqb l.settings 0) (eqb l.lowest 0) (eqb l.highest 0) (eqb l.good 0) (eqb l.faulty 0))

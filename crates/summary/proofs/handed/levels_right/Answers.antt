@@ -1,21 +1,34 @@
--- `summary::handed::levels_right` meets its contract: by whether there is a good reply, then by the two levels.
-use mathlib.Core.Path.{sym}
-use Rattle.summary.proofs.Every.{levels-by}
+-- `summary::handed::levels_right` meets its contract: both levels are tested against the count of good replies.
+use mathlib.Core.Path.{◌≡◌, refl}
+use mathlib.Core.Bool.{Bool, true, false, not, ◌&&◌, beq}
+use lib.Dec.{eqb}
+use Rattle.frame.specs.Pick.{pick}
+use Rattle.summary.specs.Line.{no_level}
 use Rattle.summary.specs.Handed.{levels_right}
-use borrow.Author.Tests.{eq-eqb, ne_eqb}
 use Rattle.summary.proofs.handed.levels_right.Goals as goal
 
-pub returns-then-line-ne65535 : goal.returns-then-line-ne65535
-unfolding levels_right
-returns-then-line-ne65535 c = simp (eq-eqb _ _ c.if-line-eq0.true, ne_eqb _ _ c.if-line-ne65535.true)
+-- one level is as it is to be: the other decides
+one-right : (a l h : Bool) → beq l a ≡ true → beq h a ≡ pick a (l && h) (not l && not h)
+one-right true true true e = refl
+one-right true true false e = refl
+one-right false false true e = refl
+one-right false false false e = refl
+one-right true false h e = absurd (cc)
+one-right false true h e = absurd (cc)
 
-pub returns-then-line-eq0 : goal.returns-then-line-eq0
-unfolding levels_right
-returns-then-line-eq0 c = simp (eq-eqb _ _ c.if-line-eq0.true, eq-eqb _ _ c.if-line-ne65535.false)
+-- or it is not
+one-wrong : (a l h : Bool) → beq l a ≡ false → beq l a ≡ pick a (l && h) (not l && not h)
+one-wrong true true h e = absurd (cc)
+one-wrong false false h e = absurd (cc)
+one-wrong true false h e = refl
+one-wrong false true h e = refl
 
-pub returns-then-line-eq65535 : goal.returns-then-line-eq65535
+pub returns-then-line-none : goal.returns-then-line-none
 unfolding levels_right
-returns-then-line-eq65535 c = simp (ne_eqb _ _ c.if-line-eq0.false, eq-eqb _ _ c.if-line-eq65535.true)
+returns-then-line-none c =
+    let l = c.args.line in one-right (eqb l.good 0) (eqb l.lowest no_level) (eqb l.highest no_level) c.if-line-none.true
 
-pub returns : goal.returns
-returns c = sym (levels-by _ c.if-line-eq0.false c.if-line-eq65535.false)
+pub returns-else-line-none : goal.returns-else-line-none
+unfolding levels_right
+returns-else-line-none c =
+    let l = c.args.line in one-wrong (eqb l.good 0) (eqb l.lowest no_level) (eqb l.highest no_level) c.if-line-none.false

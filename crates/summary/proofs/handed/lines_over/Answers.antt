@@ -1,32 +1,16 @@
--- `summary::handed::lines_over` meets its contract. The invariant: no line passed has a count that is over.
-use mathlib.Core.Path.{sym, ◌∙◌}
-use native.Mathlib.Omega.{arith}
-use borrow.Author.Count.{below_more}
-use Rattle.summary.proofs.Every.{one-over, none_over}
+-- `summary::handed::lines_over` meets its contract: it is told by any of the 30 lines.
+use mathlib.Core.Path.{◌≡◌, ◌∙◌}
+use lib.ListN.{length}
+use Rattle.std.proofs.Common.{rules, tests}
+use Rattle.std.proofs.lemmas.Iterator.{YieldsList-from_slice}
+use Rattle.std.proofs.lemmas.Iterator.Search.{any_from_yields_List}
+use Rattle.std.specs.List.{list_any}
+use Rattle.summary.specs.Handed.{counts_over}
+use Rattle.summary.proofs.Every.{any-over}
 use Rattle.summary.proofs.handed.lines_over.Goals as goal
 
-pub loop-i-init : goal.loop-i-init
-loop-i-init c = (omega arith, λ k l. absurd (omega arith))
-
-pub offset_bounds-lines-i : goal.offset_bounds-lines-i
-offset_bounds-lines-i c = omega arith
-
-pub bounds-lines-i : goal.bounds-lines-i
-bounds-lines-i c = omega arith
-
-pub returns-then-counts_over : goal.returns-then-counts_over
-returns-then-counts_over c =
-    sym (one-over _ c.loop-i.i (omega arith) (sym c.counts_over.ensures ∙ c.if-counts_over.true))
-
-pub overflow_add-i : goal.overflow_add-i
-overflow_add-i c = omega arith
-
-pub loop-i-smaller : goal.loop-i-smaller
-loop-i-smaller c = omega arith
-
-pub loop-i-preserved : goal.loop-i-preserved
-loop-i-preserved c =
-    (omega arith, below_more _ _ c.loop-i.invariant.1 (sym c.counts_over.ensures ∙ c.if-counts_over.false))
-
 pub returns : goal.returns
-returns c = sym (none_over _ (λ i l. c.loop-i.invariant.1 i (omega arith)))
+returns c =
+    let told : c.any.result ≡ list_any counts_over c.args.s.now.lines = any_from_yields_List counts_over _ _ _ c.any.ensures.ran (YieldsList-from_slice c.args.s.now.lines cc) (λ x b q k. search (rules, tests)) in
+    let long : length c.args.s.now.lines ≡ 30 = search rules in
+    told ∙ any-over c.args.s.now long

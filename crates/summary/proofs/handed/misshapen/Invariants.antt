@@ -2,10 +2,9 @@
 use mathlib.Core.Path.{◌≡◌}
 use mathlib.Core.Bool.{true}
 use mathlib.Core.List.{List}
-use Prim.Native.Nat.{ℕ, zero, suc, ◌-◌, ◌<◌, ◌≤◌}
+use Prim.Native.Nat.{ℕ, zero, suc, ◌<◌}
 use lib.ListN.{get_or}
 use Rattle.summary.specs.declared.Line.{Line}
-use Rattle.summary.specs.declared.Summary.{Summary}
 use Rattle.summary.specs.Line.{pair_of, blank_line}
 use Rattle.summary.specs.Handed.{place_right}
 use Rattle.summary.proofs.handed.misshapen.Given as goal
@@ -15,12 +14,6 @@ abbrev pub least_at : List Line → ℕ → ℕ
 least_at ls zero = 0
 least_at ls (suc i) = suc (pair_of (get_or ls i blank_line))
 
-abbrev pub plain : ℕ → List Line → Summary
-plain count lines = record { count = count; others = 0; lines = lines }
-
 abbrev pub invariant-loop-i : goal.invariant-loop-i
 invariant-loop-i l =
-    (l.i ≤ 30) × ((l.least ≡ least_at l.lines l.i) × ((k : ℕ) → k < l.i → place_right (plain l.count l.lines) k ≡ true))
-
-abbrev pub decreases-loop-i : goal.decreases-loop-i
-decreases-loop-i l = 30 - l.i
+    (l.least ≡ least_at l.fn.s.lines l.i) × ((k : ℕ) → k < l.i → place_right l.fn.s k ≡ true)

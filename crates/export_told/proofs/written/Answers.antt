@@ -1,8 +1,0 @@
--- `export_told::written` meets its contract, case by case of the answer.
-use Rattle.export_told.proofs.written.Goals as goal
-
-pub returns-in-Bytes : goal.returns-in-Bytes
-returns-in-Bytes c = simp c.in-Bytes.is
-
-pub returns-in-Refused : goal.returns-in-Refused
-returns-in-Refused c = simp c.in-Refused.is

@@ -1,5 +1,0 @@
--- `frame::modes::Decimal::read` meets its contract: the constants that it hands over are those of its record. Assumes nothing.
-use Rattle.frame.proofs.modes.Decimal.read.Goals as goal
-
-pub returns : goal.returns
-returns c = c.read_by.ensures

@@ -1,5 +1,0 @@
--- `frame::modes::Fractional::read` meets its contract: the constants that it hands over are those of its record. Assumes nothing.
-use Rattle.frame.proofs.modes.Fractional.read.Goals as goal
-
-pub returns : goal.returns
-returns c = c.read_by.ensures

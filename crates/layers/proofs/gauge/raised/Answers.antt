@@ -1,9 +1,0 @@
--- `layers::gauge::raised` meets its contract, by its test. Assumes nothing.
-use borrow.Author.Tests.{lt-ltb, le-ltb}
-use Rattle.layers.proofs.gauge.raised.Goals as goal
-
-pub returns-then-n-lt4294967295 : goal.returns-then-n-lt4294967295
-returns-then-n-lt4294967295 c = simp (lt-ltb _ _ c.if-n-lt4294967295.true)
-
-pub returns-else-n-lt4294967295 : goal.returns-else-n-lt4294967295
-returns-else-n-lt4294967295 c = simp (le-ltb _ _ c.if-n-lt4294967295.false)

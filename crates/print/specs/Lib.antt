@@ -1,0 +1,2 @@
+-- What a transmitter's settings say, for the programs that print them.
+pub mod Words
