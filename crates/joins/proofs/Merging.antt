@@ -1,12 +1,12 @@
 -- Merging two rows of lines: the line that is next, and that a row which rises, put among others line by line, is the two merged. The second goes by
 -- induction: the first line of the row stands below all behind it, so that it can be put first and the rest merged. Assumes nothing.
 use mathlib.Core.Path.{◌≡◌, refl, sym, ap, ◌∙◌}
-use mathlib.Core.List.{List, [], ◌∷◌, ◌++◌, append-nil}
+use mathlib.Core.List.{List, [], ◌∷◌, ◌++◌, map, append-nil}
 use Prim.Native.Nat.{ℕ, suc, ◌+◌, ◌-◌, ◌<◌, ◌≤◌}
 use native.Mathlib.Omega.{arith}
 use native.Mathlib.Numerals.{add-one}
 use borrow.Author.Tests.{eq-eqb, ne_eqb, lt-ltb, le-ltb}
-use lib.ListN.{length, get_or, take, drop, set, replicate, length-append, length-set, take-append-drop}
+use lib.ListN.{length, get_or, take, drop, set, replicate, length-append, length-set, take-append-drop, get_or-map}
 use lib.Seq.{drop-cons, length-take-le, take-suc-set, drop-set-lt, append_snoc}
 use Rattle.std.specs.declared.cmp.Ordering.{Ordering}
 use Rattle.std.specs.declared.cmp.Ordering.TheVariants.{Less, Greater, Equal}
@@ -23,6 +23,10 @@ use Rattle.joins.specs.Inside.Joining.{merged_from, merged, Turn}
 use Rattle.summary.proofs.LinesAdded.{count-of, line-of}
 use Rattle.summary.proofs.PutAll.{AllFew, few_none, few_more, at-few}
 use Rattle.summary.proofs.Putting.{Order, less, same, more, order, pair-together, put-before, put-at, put-after}
+
+-- the pairs of lines as numbers
+pub pair-at : (ls : List Line) (i : ℕ) → get_or (map pair_of ls) i 0 ≡ pair_of (get_or ls i blank_line)
+pair-at ls i = unfold pair_of in get_or-map pair_of ls i blank_line
 
 -- the line that is next
 merged-none : (l : Line) (ls : List Line) → merged (l ∷ ls) [] ≡ l ∷ merged ls []

@@ -1,4 +1,4 @@
--- Numbers in decimal: how many digits, and the last ones. Each law is an induction over the digits, and is then taken at ten. Assumes nothing.
+-- Numbers in decimal: one digit more, how many digits, and the last ones. Each law is an induction over the digits, then taken at ten. Assumes nothing.
 use mathlib.Core.Path.{◌≡◌, refl, sym, ap, ◌∙◌}
 use mathlib.Core.List.{List, [], ◌∷◌, ◌++◌}
 use Prim.Native.Nat.{ℕ, zero, suc, ◌+◌, ◌*◌, ◌/◌, ◌%◌, ◌^◌, ◌<◌, ◌≤◌}
@@ -26,6 +26,16 @@ less k n small =
     let power : 10 ^ suc k ≡ 10 ^ k * 10 = pow-suc 10 k in
     omega arith
 
+-- a bound that is large enough may be larger
+enough : (k n : ℕ) → n < 10 ^ suc k → digits_up_to (suc (suc k)) n ≡ digits_up_to (suc k) n
+enough zero n small = one_of 1 n small ∙ sym (one_of 0 n small)
+enough (suc j) n small = go (dec_lt n 10) (enough j (n / 10) (less (suc j) n small))
+  where
+    go : Dec (n < 10) → digits_up_to (suc (suc j)) (n / 10) ≡ digits_up_to (suc j) (n / 10) → digits_up_to (suc (suc (suc j))) n ≡ digits_up_to (suc (suc j)) n
+    go (yes p) ih = one_of (suc (suc j)) n p ∙ sym (one_of (suc j) n p)
+    go (no q) ih =
+        more_of (suc (suc j)) n (omega arith) ∙ ap (λ (t : List ℕ). t ++ digit (n % 10) ∷ []) ih ∙ sym (more_of (suc j) n (omega arith))
+
 -- the digits of a number below a power of ten
 pub none_of : (n : ℕ) → digits_up_to 0 n ≡ []
 unfolding digits_up_to
@@ -50,6 +60,10 @@ counted_of (suc j) (suc most) n h from small =
     let large : 10 ^ suc j ≤ n = from (omega arith) in
     let rest : length (digits_up_to (suc most) (n / 10)) ≡ suc j = counted_of j most (n / 10) (omega arith) (λ _. omega arith) (less (suc j) n small) in
     rw (more_of (suc most) n (omega arith)) (simp length-append (omega arith))
+
+pub more-digits : (n : ℕ) → 10 ≤ n → n < 2 ^ 32 → in_decimal n ≡ in_decimal (n / 10) ++ digit (n % 10) ∷ []
+more-digits n large small =
+    more_of 9 n large ∙ ap (λ (t : List ℕ). t ++ digit (n % 10) ∷ []) (sym (enough 8 (n / 10) (omega arith)))
 
 pub few-digits : (k n : ℕ) → n < 10 ^ suc k → length (in_decimal n) ≤ suc k
 few-digits k n small = few-of k 10 n small
