@@ -81,9 +81,7 @@ pub fn write_poll(address: u16, raise: bool, reset: bool, out: &mut [u8]) -> Res
     if out.len() < 2 {
         return Err(Fault::ShortOutput);
     }
-    let [high, low] = polls::word(address, raise, reset).to_be_bytes();
-    out[0] = high;
-    out[1] = low;
+    out[..2].copy_from_slice(&polls::word(address, raise, reset).to_be_bytes());
     Ok(2)
 }
 

@@ -1,5 +1,5 @@
 -- `frame::write_poll` meets its contract: a refusal leaves the output, and the two bytes stored are those of the poll's line. Assumes nothing.
-use mathlib.Core.Path.{◌≡◌, ap, ◌∙◌}
+use mathlib.Core.Path.{◌≡◌, ap}
 use mathlib.Core.List.{List, [], ◌∷◌, ◌++◌}
 use Prim.Native.Nat.{ℕ, ◌*◌, ◌/◌, ◌%◌, ◌^◌}
 use native.Mathlib.Omega.{arith}
@@ -7,7 +7,6 @@ use borrow.Author.Tests.{lt-ltb, le-ltb}
 use lib.ListN.{drop}
 use Rattle.frame.specs.Line.{field, first_bytes}
 use Rattle.frame.specs.Poll.{poll_line, write_poll_fault}
-use Rattle.frame.proofs.Fronts.{front}
 use Rattle.frame.proofs.write_poll.Goals as goal
 
 -- the two bytes of a word that stands at the top of a line
@@ -35,5 +34,5 @@ returns c =
     let room = le-ltb _ _ c.if-out-lt2.false in
     record {
       answers = simp (known, room);
-      leaves = simp (known, room) (rw c.to_be_bytes.ensures (front (c.word.result / 256 % 256 ∷ c.word.result % 256 ∷ []) a.out.now c.if-out-lt2.false ∙ ap (λ (s : List ℕ). s ++ drop 2 a.out.now) (two_bytes c.word.result (poll_line a.address a.raise a.reset) c.word.ensures)));
+      leaves = simp (known, room) (rw (c.copy_from_slice.ensures.after, c.to_be_bytes.ensures) (ap (λ (s : List ℕ). s ++ drop 2 a.out.now) (two_bytes c.word.result (poll_line a.address a.raise a.reset) c.word.ensures)));
     }
