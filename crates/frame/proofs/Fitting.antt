@@ -3,20 +3,21 @@
 -- the other. The top digit may be read in four bits because no bit stands above it. That each of the four modes fits is computed. Assumes
 -- nothing.
 use mathlib.Core.Path.{◌≡◌, ◌∙◌}
-use mathlib.Core.Bool.{Bool, false}
+use mathlib.Core.Bool.{Bool, true, false}
 use mathlib.Core.List.{List, ◌∷◌}
 use Prim.Native.Nat.{ℕ, ◌+◌, ◌/◌, ◌%◌, ◌^◌, ◌<◌, ◌≤◌}
 use native.Mathlib.Nat.{mod-eq_of_lt, mod-lt}
 use native.Mathlib.Omega.{arith}
 use borrow.Author.Tests.{ne_eqb}
+use lib.Dec.{eqb}
 use lib.Pow.{pow_pos}
+use Rattle.frame.specs.Pick.{pick}
 use Rattle.frame.specs.Charts.{Chart}
 use Rattle.frame.specs.Level.{Mode, mode_of, width_of, read_row, write_row, put_level, fractional_mode, decimal_mode, twenty_metre_mode, thirty_metre_mode}
 use Rattle.frame.specs.Inside.Packed.{digit_row, level_code}
 use Rattle.frame.specs.declared.constants.Constants.{Constants}
 use Rattle.frame.specs.Inside.Fitting.{fractional_fits, decimal_fits, metres20_fits, metres30_fits}
-use Rattle.frame.specs.Inside.Constants.{Fits, fractional, decimal_feet, metres20, metres30, in_four_bits, digit_bits, read_by, write_by}
-use Rattle.frame.proofs.EachMode.{every-mode}
+use Rattle.frame.specs.Inside.Constants.{Fits, fractional, decimal_feet, metres20, metres30, constants_by, in_four_bits, digit_bits, read_by, write_by}
 use Rattle.frame.proofs.Upward.{placed-up}
 
 -- a digit read in four bits, where the bits fit its own width
@@ -65,6 +66,42 @@ module _ (k : ℕ) where
       let one : k ≡ 1 → ⊥ = omega arith in
       simp (ne_eqb k 0 none, ne_eqb k 1 one, ne_eqb k 2 other)
 
--- constants fit the mode of any number
-pub constants-fit : (k : ℕ) → (c : Constants) × Fits (mode_of k) c
-constants-fit = every-mode (λ (m : Mode). (c : Constants) × Fits m c) (fractional, fractional_fits) (decimal_feet, decimal_fits) (metres20, metres20_fits) (metres30, metres30_fits)
+-- the constants of every number fit the mode of that number
+pub constants-fit : (k : ℕ) → Fits (mode_of k) (constants_by k)
+unfolding mode_of
+constants-fit k = go (eqb k 0) (eqb k 1) (eqb k 2)
+  where
+    go : (a b c : Bool)
+        → Fits (pick a fractional_mode (pick b decimal_mode (pick c twenty_metre_mode thirty_metre_mode))) (pick a fractional (pick b decimal_feet (pick c metres20 metres30)))
+    go true b c = fractional_fits
+    go false true c = decimal_fits
+    go false false true = metres20_fits
+    go false false false = metres30_fits
+
+-- so constants fit the mode of any number
+pub some-fit : (k : ℕ) → (c : Constants) × Fits (mode_of k) c
+some-fit k = (constants_by k, constants-fit k)
+
+-- and are within the bounds that the readers ask for, since their type says so
+abbrev pub Allowed : Constants → Type 0
+Allowed k = (k.digits ≤ 5) × ((16 ≤ k.first) × ((k.first ≤ 17) × (k.after ≤ 6)))
+
+pub allowed : (k : ℕ) → Allowed (constants_by k)
+allowed k = let c = constants_by k in (c.few_digits, (c.from_16, (c.by_17, c.few_after)))
+
+-- those of a number by the same two questions
+module _ (k : ℕ) where
+  pub fractional-by : k ≡ 0 → constants_by k ≡ fractional
+  fractional-by e = rw e
+
+  pub decimal-by : k < 2 → (k ≡ 0 → ⊥) → constants_by k ≡ decimal_feet
+  decimal-by few some = let one : k ≡ 1 = omega arith in rw one
+
+  pub metres20-by : k ≡ 2 → constants_by k ≡ metres20
+  metres20-by e = rw e
+
+  pub metres30-by : 2 ≤ k → (k ≡ 2 → ⊥) → constants_by k ≡ metres30
+  metres30-by many other =
+      let none : k ≡ 0 → ⊥ = omega arith in
+      let one : k ≡ 1 → ⊥ = omega arith in
+      simp (ne_eqb k 0 none, ne_eqb k 1 one, ne_eqb k 2 other)

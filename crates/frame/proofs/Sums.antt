@@ -19,7 +19,7 @@ use Rattle.frame.specs.Inside.Packed.{three_of}
 use Rattle.frame.specs.Inside.Written.{front_of}
 use Rattle.frame.specs.declared.constants.Constants.{Constants}
 use Rattle.frame.specs.Inside.Constants.{Fits, digit_bits, codes_by, write_by}
-use Rattle.frame.proofs.Fitting.{write-is, constants-fit}
+use Rattle.frame.proofs.Fitting.{write-is, some-fit}
 use Rattle.frame.proofs.Upward.{up_lt, sixteen}
 use Rattle.frame.proofs.Tables.{pick-case}
 
@@ -42,7 +42,7 @@ module _ (m : Mode) (k : Constants) (f : Fits m k) where
   below v = rw (← write-is m k f v) (placed v)
 
 pub level-small : (k v : ℕ) → put_level (mode_of k) v < 2 ^ 53
-level-small k v = let f = constants-fit k in below (mode_of k) f.0 f.1 v
+level-small k v = let f = some-fit k in below (mode_of k) f.0 f.1 v
 
 -- a part that begins at bit 9 of the word and stays below bit 25
 pub record Low (n : ℕ) : Type 0 where

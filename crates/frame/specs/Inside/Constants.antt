@@ -21,6 +21,10 @@ metres20 = record { digits = 5; first = 16; after = 5; largest = 19999; charts =
 abbrev pub metres30 : Constants
 metres30 = record { digits = 5; first = 16; after = 4; largest = 32699; charts = 0x33331; start = false; few_digits = lit≤ tt; from_16 = lit≤ tt; by_17 = lit≤ tt; few_after = lit≤ tt }
 
+-- The constants of the mode of a number.
+abbrev pub constants_by : ℕ → Constants
+constants_by k = pick (eqb k 0) fractional (pick (eqb k 1) decimal_feet (pick (eqb k 2) metres20 metres30))
+
 -- The fill bits before the digits, from bit 16 on, and after them, up to bit 37, are 0.
 abbrev pub fill_at : ℕ → ℕ → ℕ → Bool
 fill_at n first after = eqb (n / 2 ^ (65 - first) % 2 ^ (first - 16)) 0 && eqb (n / 2 ^ 27 % 2 ^ after) 0
