@@ -86,7 +86,7 @@ fn judged(largest: u64, zeros: u64, v: u64) -> u64
     level::judged(largest, v)
 }
 
-// A level by its mode's constants, as `level::read_by` has it, two digits at a time. A digit 0000 stands before digits that are odd in number: read
+// A level by its mode's constants, as `modes::read` has it, two digits at a time. A digit 0000 stands before digits that are odd in number: read
 // straight it is 0 and even, so that the first digit of the mode is still read straight.
 pub(crate) fn read_by(k: Constants, n: u64) -> u64
     ensures { result ≡ read_pairs_by k n }
