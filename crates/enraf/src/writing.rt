@@ -72,6 +72,17 @@ fn put_three(text: &mut Text, n: u16)
     ]);
 }
 
+// Data, character by character: the data and the output both lie in the host's memory, and of a copy at once the compiler makes `memmove`, which the archive
+// asks of no host.
+fn put_data(text: &mut Text, characters: &[u8])
+    requires { HasRoom text.old (length characters.now) }
+    ensures { Adds characters.now (length characters.now) text.old text.new }
+{
+    for character in characters {
+        text.byte(*character);
+    }
+}
+
 // What follows the letters.
 pub(crate) fn put_tail(text: &mut Text, kind: ItemKind, error: u16, characters: &[u8])
     requires characters_value { kind_fits (kind_number kind) error characters.now ≡ true }
@@ -82,15 +93,15 @@ pub(crate) fn put_tail(text: &mut Text, kind: ItemKind, error: u16, characters: 
         ItemKind::Alone => {}
         ItemKind::Setting => {
             text.byte(b'=');
-            text.word(characters);
+            put_data(text, characters);
         }
         ItemKind::Taken => text.byte(b'&'),
         ItemKind::SettingTaken => {
             text.byte(b'=');
-            text.word(characters);
+            put_data(text, characters);
             text.byte(b'&');
         }
-        ItemKind::Value => text.word(characters),
+        ItemKind::Value => put_data(text, characters),
         ItemKind::Failed => {
             text.byte(b'!');
             put_three(text, error);

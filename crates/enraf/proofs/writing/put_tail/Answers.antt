@@ -17,8 +17,8 @@ byte-requires c =
     let long = ap length (tail-setting _ a.error a.characters.now (ap kind_number c.in-Setting.is)) in
     omega arith
 
-pub word-requires : goal.word-requires
-word-requires c =
+pub put_data-requires : goal.put_data-requires
+put_data-requires c =
     let a = c.args in
     let long = ap length (tail-setting _ a.error a.characters.now (ap kind_number c.in-Setting.is)) in
     omega arith
@@ -35,8 +35,8 @@ byte-requires-in-SettingTaken c =
     let long = ap length (tail-setting-taken _ a.error a.characters.now (ap kind_number c.in-SettingTaken.is)) in
     omega arith
 
-pub word-requires-in-SettingTaken : goal.word-requires-in-SettingTaken
-word-requires-in-SettingTaken c =
+pub put_data-requires-in-SettingTaken : goal.put_data-requires-in-SettingTaken
+put_data-requires-in-SettingTaken c =
     let a = c.args in
     let long = ap length (tail-setting-taken _ a.error a.characters.now (ap kind_number c.in-SettingTaken.is)) in
     let joined : length (a.characters.now ++ ampersand ∷ []) ≡ length a.characters.now + 1 = length-append a.characters.now (ampersand ∷ []) in
@@ -49,8 +49,8 @@ byte-requires-in-SettingTaken-2 c =
     let joined : length (a.characters.now ++ ampersand ∷ []) ≡ length a.characters.now + 1 = length-append a.characters.now (ampersand ∷ []) in
     omega arith
 
-pub word-requires-in-Value : goal.word-requires-in-Value
-word-requires-in-Value c =
+pub put_data-requires-in-Value : goal.put_data-requires-in-Value
+put_data-requires-in-Value c =
     let a = c.args in
     let long = ap length (tail-value _ a.error a.characters.now (ap kind_number c.in-Value.is)) in
     omega arith
@@ -71,7 +71,7 @@ pub returns-in-Setting : goal.returns-in-Setting
 returns-in-Setting c =
     let a = c.args in
     let few = characters-few _ a.error a.characters.now c.requires.characters_value in
-    at_most (omega arith) (text-is (sym (tail-setting _ a.error a.characters.now (ap kind_number c.in-Setting.is))) (then c.byte.ensures c.word.ensures))
+    at_most (omega arith) (text-is (sym (tail-setting _ a.error a.characters.now (ap kind_number c.in-Setting.is))) (then c.byte.ensures c.put_data.ensures))
 
 pub returns-in-Taken : goal.returns-in-Taken
 returns-in-Taken c =
@@ -83,13 +83,13 @@ pub returns-in-SettingTaken : goal.returns-in-SettingTaken
 returns-in-SettingTaken c =
     let a = c.args in
     let few = characters-few _ a.error a.characters.now c.requires.characters_value in
-    at_most (omega arith) (text-is (sym (tail-setting-taken _ a.error a.characters.now (ap kind_number c.in-SettingTaken.is))) (then c.byte-in-SettingTaken.ensures (then c.word-in-SettingTaken.ensures c.byte-in-SettingTaken-2.ensures)))
+    at_most (omega arith) (text-is (sym (tail-setting-taken _ a.error a.characters.now (ap kind_number c.in-SettingTaken.is))) (then c.byte-in-SettingTaken.ensures (then c.put_data-in-SettingTaken.ensures c.byte-in-SettingTaken-2.ensures)))
 
 pub returns-in-Value : goal.returns-in-Value
 returns-in-Value c =
     let a = c.args in
     let few = characters-few _ a.error a.characters.now c.requires.characters_value in
-    at_most (omega arith) (text-is (sym (tail-value _ a.error a.characters.now (ap kind_number c.in-Value.is))) c.word-in-Value.ensures)
+    at_most (omega arith) (text-is (sym (tail-value _ a.error a.characters.now (ap kind_number c.in-Value.is))) c.put_data-in-Value.ensures)
 
 pub returns-in-Failed : goal.returns-in-Failed
 returns-in-Failed c =
