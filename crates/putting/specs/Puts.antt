@@ -1,4 +1,5 @@
--- What the calls that put bytes into an output do; the crates that write text or records say it of theirs too.
+-- What putting a text into an output leaves, the places told beside it. No call's contract says it, they say `Adds`; the proofs of putting and of
+-- listing take what was added for what was put.
 use Rattle.std.specs.Prelude.{◌≡◌, List, ℕ, ◌+◌, ◌≤◌, length}
 use Rattle.std.proofs.lemmas.List.Edits.{sets}
 
