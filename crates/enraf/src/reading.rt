@@ -70,7 +70,11 @@ fn error_in(tail: &[u8], kind: ItemKind) -> u16
         ItemKind::Failed => u16::from(digit_of(tail[1])) * 100
             + u16::from(digit_of(tail[2])) * 10
             + u16::from(digit_of(tail[3])),
-        _ => 0,
+        ItemKind::Alone
+        | ItemKind::Setting
+        | ItemKind::Taken
+        | ItemKind::SettingTaken
+        | ItemKind::Value => 0,
     }
 }
 
@@ -83,7 +87,7 @@ fn characters_in(tail: &[u8], kind: ItemKind) -> &[u8]
         ItemKind::Setting => &tail[1..],
         ItemKind::SettingTaken => &tail[1..tail.len() - 1],
         ItemKind::Value => tail,
-        _ => &[],
+        ItemKind::Alone | ItemKind::Taken | ItemKind::Failed => &[],
     }
 }
 

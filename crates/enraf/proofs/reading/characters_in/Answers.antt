@@ -3,6 +3,7 @@
 use mathlib.Core.Path.{◌≡◌, refl, sym, ap, ◌∙◌}
 use mathlib.Core.Bool.{true, false}
 use mathlib.Core.List.{List, []}
+use mathlib.Core.Logic.{◌⊎◌, inl, inr}
 use Prim.Native.Nat.{ℕ, ◌-◌, ◌≤◌}
 use native.Mathlib.Omega.{arith}
 use borrow.Author.Rules.{rules}
@@ -34,13 +35,10 @@ by-kind SettingTaken t e = sym (characters-by t false true _ (ap (λ (n : ℕ). 
 by-kind Value t e = sym (characters-by t false false true (ap (λ (n : ℕ). eqb n setting) (sym e)) (ap (λ (n : ℕ). eqb n setting_taken) (sym e)) (ap (λ (n : ℕ). eqb n value) (sym e)))
 by-kind Failed t e = sym (characters-by t false false false (ap (λ (n : ℕ). eqb n setting) (sym e)) (ap (λ (n : ℕ). eqb n setting_taken) (sym e)) (ap (λ (n : ℕ). eqb n value) (sym e)))
 
-no-data : (k : ItemKind) (t : List ℕ) → (k ≡ Setting → ⊥) → (k ≡ SettingTaken → ⊥) → (k ≡ Value → ⊥) → [] ≡ data_of k t
-no-data Alone t a b c = refl
-no-data Setting t a b c = absurd (a refl)
-no-data Taken t a b c = refl
-no-data SettingTaken t a b c = absurd (b refl)
-no-data Value t a b c = absurd (c refl)
-no-data Failed t a b c = refl
+no-data : (k : ItemKind) (t : List ℕ) → (k ≡ Alone) ⊎ ((k ≡ Taken) ⊎ (k ≡ Failed)) → [] ≡ data_of k t
+no-data k t (inl e) = sym (ap (λ (j : ItemKind). data_of j t) e)
+no-data k t (inr (inl e)) = sym (ap (λ (j : ItemKind). data_of j t) e)
+no-data k t (inr (inr e)) = sym (ap (λ (j : ItemKind). data_of j t) e)
 
 one : (c : In-Setting) → 1 ≤ length c.args.tail.now
 one c = setting-long c.args.tail.now (sym c.requires ∙ ap kind_number c.in-Setting.is)
@@ -84,7 +82,6 @@ returns-in-SettingTaken c =
 pub returns-in-Value : goal.returns-in-Value
 returns-in-Value c = ap (λ (k : ItemKind). data_of k c.args.tail.now) (sym c.in-Value.is) ∙ by-kind c.args.kind c.args.tail.now c.requires
 
-pub returns-in_default : goal.returns-in_default
-returns-in_default c =
-    let d = c.in_default in
-    no-data c.args.kind c.args.tail.now d.not-Setting d.not-SettingTaken d.not-Value ∙ by-kind c.args.kind c.args.tail.now c.requires
+pub returns-in-Alone : goal.returns-in-Alone
+returns-in-Alone c =
+    no-data c.args.kind c.args.tail.now c.in-Alone.is ∙ by-kind c.args.kind c.args.tail.now c.requires

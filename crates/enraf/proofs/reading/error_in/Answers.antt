@@ -1,12 +1,13 @@
 -- `enraf::reading::error_in` meets its contract: of an error all three digits are there, and are digits. Assumes nothing.
-use mathlib.Core.Path.{◌≡◌, refl, sym, ap, ◌∙◌}
+use mathlib.Core.Path.{◌≡◌, sym, ap, ◌∙◌}
 use mathlib.Core.Bool.{true, false}
+use mathlib.Core.Logic.{◌⊎◌, inl, inr}
 use Prim.Native.Nat.{ℕ, ◌+◌, ◌*◌}
 use borrow.Author.Tests.{eq-eqb}
 use borrow.Author.Rules.{rules}
 use lib.Dec.{eqb}
 use Rattle.enraf.specs.declared.kind.ItemKind.{ItemKind}
-use Rattle.enraf.specs.declared.kind.ItemKind.TheVariants.{Alone, Setting, Taken, SettingTaken, Value, Failed}
+use Rattle.enraf.specs.declared.kind.ItemKind.TheVariants.{Alone, Setting, Taken, SettingTaken, Value}
 use Rattle.enraf.specs.Inside.{kind_number}
 use Rattle.enraf.specs.Item.{failed, digit_at, is_error, kind_in}
 use Rattle.enraf.proofs.ByTests.{number_by, is-error, error-long, error-digits}
@@ -18,13 +19,12 @@ errs : (c : In-Failed) → is_error c.args.tail.now ≡ true
 errs c = is-error c.args.tail.now (sym c.requires ∙ ap kind_number c.in-Failed.is)
 
 -- a kind that is no error has another number
-no-error : (k : ItemKind) → (k ≡ Failed → ⊥) → eqb (kind_number k) failed ≡ false
-no-error Alone h = refl
-no-error Setting h = refl
-no-error Taken h = refl
-no-error SettingTaken h = refl
-no-error Value h = refl
-no-error Failed h = absurd (h refl)
+no-error : (k : ItemKind) → (k ≡ Alone) ⊎ ((k ≡ Setting) ⊎ ((k ≡ Taken) ⊎ ((k ≡ SettingTaken) ⊎ (k ≡ Value)))) → eqb (kind_number k) failed ≡ false
+no-error k (inl e) = ap (λ (j : ItemKind). eqb (kind_number j) failed) e
+no-error k (inr (inl e)) = ap (λ (j : ItemKind). eqb (kind_number j) failed) e
+no-error k (inr (inr (inl e))) = ap (λ (j : ItemKind). eqb (kind_number j) failed) e
+no-error k (inr (inr (inr (inl e)))) = ap (λ (j : ItemKind). eqb (kind_number j) failed) e
+no-error k (inr (inr (inr (inr e)))) = ap (λ (j : ItemKind). eqb (kind_number j) failed) e
 
 pub bounds-tail-1 : goal.bounds-tail-1
 bounds-tail-1 c =
@@ -59,7 +59,7 @@ returns-in-Failed c =
     let same : kind_in t ≡ 6 = sym c.requires ∙ ap kind_number c.in-Failed.is in
     (λ i. one i * 100 + two i * 10 + three i) ∙ sym (number_by t true (eq-eqb _ _ same))
 
-pub returns-in_default : goal.returns-in_default
-returns-in_default c =
+pub returns-in-Alone : goal.returns-in-Alone
+returns-in-Alone c =
     let t = c.args.tail.now in
-    sym (number_by t false (ap (λ (k : ℕ). eqb k failed) (sym c.requires) ∙ no-error c.args.kind c.in_default.not-Failed))
+    sym (number_by t false (ap (λ (k : ℕ). eqb k failed) (sym c.requires) ∙ no-error c.args.kind c.in-Alone.is))
