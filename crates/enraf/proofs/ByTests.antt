@@ -1,4 +1,5 @@
--- Each definition that is a chain of tests, by what the tests give: a function that asks them one after another cites its law at each return. And back:
+-- Each definition that is a chain of tests, by what the tests give. `read` and `sisal_write_item` cite the law of their refusals at each return, and
+-- `characters_in` and `error_in` that of what they take out; those of the frame, of the addresses and of the kind are for the promises. And back:
 -- what the tests gave, by the kind that was found or the record that was accepted. Assumes nothing.
 use mathlib.Core.Path.{◌≡◌, refl, ap}
 use mathlib.Core.Bool.{Bool, true, false, not, ◌&&◌, ◌||◌}
