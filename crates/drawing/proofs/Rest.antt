@@ -101,3 +101,7 @@ module _ (low still : ℕ) (message : List ℕ) where
       ap (drop passed) (bit-first low still b (bits_after (suc before) count message))
       ∙ drop-append-le passed (one low still b) (drawn low still (bits_after (suc before) count message)) (omega (arith, one-long low still b))
       ∙ ap₂ (λ (k n : ℕ). drop passed (one low still b) ++ drawn low still (bits_after k n message)) next left
+
+  pub no_bits : (before count passed : ℕ) → count ≡ 0 → rest_of before count passed ≡ []
+  unfolding drawn bits_after
+  no_bits before count passed e = ap (λ (n : ℕ). rest_of before n passed) e ∙ drop-nil passed

@@ -32,17 +32,18 @@ pub(crate) fn draw(
     ensures { Fills (drop from (drawing low still count message.now)) out.old 0 result out.new }
 {
     let size = low + still;
-    let past = from.saturating_add(out.len()).min(count * size);
-    let end = past.saturating_sub(from);
+    let end = (count * size).saturating_sub(from).min(out.len());
     out[..end].fill(0);
+    let mut begin = 0;
+    let mut passed = from % size;
     for bit in from / size..count {
-        let first = bit * size;
-        if past <= first {
+        if end <= begin {
             break;
         }
-        let begin = first.saturating_sub(from);
-        let stop = (first + low).saturating_sub(from).min(end);
+        let stop = (begin + low.saturating_sub(passed)).min(end);
         out[begin..stop].fill(line_of(message, bit));
+        begin += size - passed;
+        passed = 0;
     }
     end
 }

@@ -1,6 +1,6 @@
 -- `drawing::pulses::draw` meets its contract: at each turn, the rest of the drawing put from the place reached makes it whole, and up to its end the
 -- output is idle from there on. Assumes nothing.
-use Rattle.std.proofs.Common.{◌≡◌, ◌+◌, ◌-◌, ◌*◌, ◌/◌, ◌≤◌, length, take, drop}
+use Rattle.std.proofs.Common.{◌≡◌, ◌+◌, ◌-◌, ◌<◌, length, take, drop}
 use lib.Seq.{sets}
 use Rattle.drawing.specs.Pulses.{drawing}
 use Rattle.drawing.proofs.Idle.{Idle}
@@ -10,8 +10,7 @@ use Rattle.drawing.proofs.pulses.draw.Given as goal
 abbrev pub invariant-loop-bit : goal.invariant-loop-bit
 invariant-loop-bit l =
     (length l.out ≡ length l.initial.out)
-    × (sets l.out (l.bit * (l.low + l.still) - l.from)
-    (take (l.end - (l.bit * (l.low + l.still) - l.from)) (rest_of l.low l.still l.message l.bit (l.count - l.bit) (l.from - l.bit * (l.low + l.still))))
+    × (sets l.out l.begin (take (l.end - l.begin) (rest_of l.low l.still l.message l.bit (l.count - l.bit) l.passed))
     ≡ sets l.initial.out 0 (take l.end (drop l.from (drawing l.low l.still l.count l.message))))
-    × Idle l.out (l.bit * (l.low + l.still) - l.from) l.end
-    × (l.from / (l.low + l.still) ≤ l.bit)
+    × Idle l.out l.begin l.end
+    × (l.passed < l.low + l.still)
