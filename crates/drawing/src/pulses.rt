@@ -41,7 +41,10 @@ pub(crate) fn draw(
             break;
         }
         let stop = (begin + low.saturating_sub(passed)).min(end);
-        out[begin..stop].fill(line_of(message, bit));
+        let line = line_of(message, bit);
+        for sample in &mut out[begin..stop] {
+            *sample = line;
+        }
         begin += size - passed;
         passed = 0;
     }

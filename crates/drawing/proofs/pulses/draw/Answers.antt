@@ -1,14 +1,15 @@
 -- `drawing::pulses::draw` meets its contract: at each turn, the rest of the drawing put from the place reached makes it whole, and up to its end the
 -- output is idle from there on. Assumes nothing.
 use mathlib.Core.Path.{◌≡◌, refl, sym, ap, ap₂, ◌∙◌}
-use mathlib.Core.List.{List, [], ◌++◌}
+use mathlib.Core.List.{List, [], ◌∷◌, ◌++◌}
 use Prim.Native.Nat.{ℕ, ◌+◌, ◌-◌, ◌*◌, ◌≤◌, ◌<◌, min}
 use native.Mathlib.Nat.{mod-lt, le_of_lt}
+use native.Mathlib.Numerals.{add-one}
 use native.Mathlib.Omega.{arith}
 use borrow.Author.Rules.{rules}
 use borrow.Rule.Slice.PartMut.{mid_of, put_mid}
-use lib.ListN.{length, get_or, take, drop, replicate, length-take, length-drop, length-replicate, take-append-drop}
-use lib.Seq.{sets, sets-eq, length-sets, length-take-le, take-nil}
+use lib.ListN.{length, get_or, take, drop, set, replicate, length-set, length-take, length-drop, length-replicate, take-append-drop, replicate-append-replicate}
+use lib.Seq.{sets, sets-eq, length-sets, length-take-le, take-nil, take_all, take-suc-set}
 use Rattle.std.proofs.lemmas.Slice.{take-put_mid, drop-put_mid}
 use Rattle.frame.proofs.Fronts.{front}
 use Rattle.drawing.specs.Pulses.{drawing}
@@ -40,6 +41,10 @@ run-put out run a n x h e =
     ∙ ap (λ (k : ℕ). take a out ++ full ++ drop (a + k) out) (sym size)
     ∙ sym (sets-eq full out a (omega arith))
 
+-- a run that was gone through to its end
+run-filled : (part run : List ℕ) (k x : ℕ) → length run ≡ length part → k ≡ length part → take k run ≡ replicate k x → run ≡ replicate (length part) x
+run-filled part run k x long all e = sym (take_all k run (omega arith)) ∙ e ∙ ap (λ (n : ℕ). replicate n x) all
+
 -- once the place reached is the end, or no bit is left
 ended : (low still count from : ℕ) (message out o after : List ℕ) (bit passed begin end : ℕ) → end ≡ min (length out) (count * (low + still) - from)
     → take (end - begin) (rest_of low still message bit (count - bit) passed) ≡ []
@@ -69,8 +74,19 @@ loop-bit-init c =
       mod-lt a.from (omega (arith, c.requires.le_low)),
     )
 
-pub line_of-requires : goal.line_of-requires
-line_of-requires c = omega (arith, c.requires.message_len)
+pub line_of-line-requires : goal.line_of-line-requires
+line_of-line-requires c = omega (arith, c.requires.message_len)
+
+pub loop-sample-preserved : goal.loop-sample-preserved
+loop-sample-preserved c =
+    let l = c.loop-sample in
+    let line = c.line_of-line.result in (
+      length-set l.sample-items l.sample-index line ∙ l.invariant.0,
+      ap (λ (n : ℕ). take n (set l.sample-items l.sample-index line)) (add-one l.sample-index)
+          ∙ take-suc-set l.sample-items l.sample-index line (omega arith)
+          ∙ ap (λ (f : List ℕ). f ++ line ∷ []) l.invariant.1
+          ∙ replicate-append-replicate l.sample-index 1 line,
+    )
 
 pub loop-bit-preserved : goal.loop-bit-preserved
 loop-bit-preserved c =
@@ -79,16 +95,19 @@ loop-bit-preserved c =
     let m = a.message.now in
     let end = c.min-end.result in
     let stop = c.min-stop.result in
-    let line = c.line_of in
+    let line = c.line_of-line in
+    let run = c.loop-sample.sample-items in
+    let part = mid_of l.begin (stop - l.begin) l.out in
+    let full : run ≡ replicate (length part) line.result = run-filled part run c.loop-sample.sample-index line.result c.loop-sample.invariant.0 (omega (arith, c.loop-sample.invariant.0)) c.loop-sample.invariant.1 in
     let more : l.bit < a.count = omega arith in
     let part : l.passed ≤ a.low + a.still = le_of_lt l.invariant.3 in
     let room : l.begin ≤ end = omega arith in
     let long : length l.out ≡ length a.out.now = search rules in
     let ends : stop - l.begin ≡ min end (l.begin + (a.low - l.passed)) - l.begin
     = omega (arith, c.saturating_sub-in-loop-bit.ensures, c.min-stop.ensures) in
-    let mid = put_mid l.begin (stop - l.begin) l.out c.fill-in-loop-bit.new.self in
+    let mid = put_mid l.begin (stop - l.begin) l.out run in
     let put : mid ≡ sets l.out l.begin (replicate (min end (l.begin + (a.low - l.passed)) - l.begin) line.result)
-    = run-put l.out c.fill-in-loop-bit.new.self l.begin (stop - l.begin) line.result (omega (arith, c.min-stop.ensures)) (c.fill-in-loop-bit.ensures.after (λ y e. search rules))
+    = run-put l.out run l.begin (stop - l.begin) line.result (omega (arith, c.min-stop.ensures)) full
     ∙ ap (λ (n : ℕ). sets l.out l.begin (replicate n line.result)) ends in (
       ap length put ∙ length-sets l.out l.begin (replicate (min end (l.begin + (a.low - l.passed)) - l.begin) line.result) ∙ l.invariant.0,
       sym (turn a.low a.still m a.count l.out mid l.bit l.passed l.begin end line.result more part room l.invariant.2 line.ensures put) ∙ l.invariant.1,
