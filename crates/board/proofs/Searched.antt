@@ -4,13 +4,14 @@
 use mathlib.Core.Path.{◌≡◌, refl, sym, ◌∙◌, ap, subst}
 use mathlib.Core.Bool.{Bool, true, false, ◌&&◌}
 use mathlib.Core.List.{List, [], ◌∷◌, ◌++◌}
-use Prim.Native.Nat.{ℕ, zero, suc, ◌+◌, ◌-◌, ◌<◌, ◌≤◌}
+use Prim.Native.Nat.{ℕ, zero, suc, ◌+◌, ◌-◌, ◌*◌, ◌/◌, ◌<◌, ◌≤◌}
 use native.Mathlib.Omega.{arith}
 use native.Mathlib.Numerals.{add-one}
 use Rattle.std.specs.Prelude.{Option, None, Some, is_some}
 use lib.Dec.{eqb, leb, ltb}
 use lib.ListN.{length, get_or, drop, replicate, length-append, length-replicate, drop_of_length-le, get_or-append}
-use lib.Seq.{drop-cons}
+use lib.Seq.{drop-cons, get_or-take, get_or-drop}
+use Rattle.std.specs.Simd.{first_chunks}
 use borrow.Author.Tests.{ltb-true, ltb-false, le-leb, lt-leb, le-ltb, ne_eqb, eqb-true, eqb-false}
 use Rattle.frame.specs.Pick.{pick}
 use Rattle.frame.proofs.Both.{both_left, both_right}
@@ -259,6 +260,32 @@ passes_on a held s r i l e so = (
     words j m false f =
         let same : i ≡ j = omega (arith, ltb-false j i f) in
         subst (λ (k : ℕ). (get_or held k free_row).address < 0x10000) same e.1
+
+-- Rows taken two by two are the same rows, and each of the two is one row more.
+abbrev pub one_of : List (List Row) → (i j : ℕ) → Row
+one_of twos i j = get_or (get_or twos i []) j free_row
+
+two-at : (k i j : ℕ) (held : List Row) → i < k → j < 2 → one_of (first_chunks 2 k held) i j ≡ get_or held (i * 2 + j) free_row
+two-at zero i j held l h = absurd (omega arith)
+two-at (suc k) zero j held l h =
+    let here : j ≡ zero * 2 + j = omega arith in get_or-take 2 held j free_row h ∙ ap (λ (n : ℕ). get_or held n free_row) here
+two-at (suc k) (suc i) j held l h =
+    let on : 2 + (i * 2 + j) ≡ suc i * 2 + j = omega arith in
+    two-at k i j (drop 2 held) (omega arith) h ∙ get_or-drop 2 held (i * 2 + j) free_row ∙ ap (λ (n : ℕ). get_or held n free_row) on
+
+module _ (a : ℕ) (held : List Row) (twos : List (List Row)) (are : twos ≡ first_chunks 2 (length held / 2) held) (i : ℕ) (l : i < length held / 2) where
+  passes-one : (j n m : ℕ) (s r : Passed) → j < 2 → i * 2 + j ≡ n → n + 1 ≡ m → (r ≡ over_row a s (one_of twos i j)) × ((one_of twos i j).address < 0x10000) → Passing a held s n → Passing a held r m
+  passes-one j n m s r h at next e so =
+      subst (Passing a held r) next (passes_on a held s r n (omega arith) (e.0 ∙ ap (over_row a s) same, subst (λ (z : Row). z.address < 0x10000) same e.1) so)
+    where
+      same : one_of twos i j ≡ get_or held n free_row
+      same = ap (λ (xs : List (List Row)). one_of xs i j) are ∙ two-at (length held / 2) i j held l h ∙ ap (λ (k : ℕ). get_or held k free_row) at
+
+  pub passes-first : (s r : Passed) → (r ≡ over_row a s (one_of twos i 0)) × ((one_of twos i 0).address < 0x10000) → Passing a held s (i * 2) → Passing a held r (i * 2 + 1)
+  passes-first s r = passes-one 0 (i * 2) (i * 2 + 1) s r (omega arith) (omega arith) refl
+
+  pub passes-second : (s r : Passed) → (r ≡ over_row a s (one_of twos i 1)) × ((one_of twos i 1).address < 0x10000) → Passing a held s (i * 2 + 1) → Passing a held r ((i + 1) * 2)
+  passes-second s r = passes-one 1 (i * 2 + 1) ((i + 1) * 2) s r (omega arith) refl (omega arith)
 
 length-filled : (board : List Row) → length board ≤ 30 → length (filled board) ≡ 30
 length-filled board l =

@@ -76,13 +76,13 @@ impl Search {
 }
 
 // Passes over all 30 places, of which those behind the rows lent are free, and ends at the first row that is out of order: then nothing is
-// found.
+// found. Two rows are passed in a turn.
 pub fn find(held: [Row; 30], len: usize, address: u16) -> Option<Found>
     ensures { FindsOn held len address result }
 {
     let mut s = Search::default();
-    for row in &held {
-        s = s.pass(*row, address)?;
+    for two in held.as_chunks::<2>().0 {
+        s = s.pass(two[0], address)?.pass(two[1], address)?;
     }
     let free = 30 - s.vacant;
     let own = s.below < free && held[s.below].address == address;

@@ -1,6 +1,6 @@
--- `board::value::find` meets its contract: each row is one more of the pass. After the loop nothing is left to pass, and what it comes to is told by
+-- `board::value::find` meets its contract: each of the two rows of a turn is one more of the pass. After the loop nothing is left to pass, and what it comes to is told by
 -- `told-filled`; where a row was out of order it is `found-low`.
-use Rattle.std.proofs.Common.{◌≡◌, ◌∙◌, ℕ, ◌+◌, ◌-◌, true, false, List, Option, None, Some, length, drop, refl, sym, ap, subst, arith, rules}
+use Rattle.std.proofs.Common.{◌≡◌, ◌∙◌, ℕ, ◌+◌, ◌-◌, ◌*◌, ◌/◌, ◌<◌, true, false, List, Option, None, Some, length, drop, refl, sym, ap, subst, arith}
 use lib.ListN.{get_or}
 use borrow.Author.Tests.{eqb-true, eq-eqb, le-ltb}
 use Rattle.board.specs.declared.Row.{Row}
@@ -8,7 +8,7 @@ use Rattle.board.specs.declared.value.Found.{Found}
 use Rattle.board.specs.Row.{free_row}
 use Rattle.board.specs.Inside.ByValue.{filled, Passed, passed, over_row, searched, unsearched, Stands, RowAt, Finds, rows_that_count, FindsOn}
 use Rattle.board.proofs.Order.{neither}
-use Rattle.board.proofs.Searched.{Low, Passing, passes_on, search-end, Told, told-filled, found-low, row-own, row-none}
+use Rattle.board.proofs.Searched.{Low, Passing, one_of, passes-first, passes-second, search-end, Told, told-filled, found-low, row-own, row-none}
 use Rattle.board.proofs.value.find.Goals as goal
 use Rattle.board.proofs.value.find.Goals.{then-s-free, else-s-free}
 
@@ -19,17 +19,55 @@ low a len held s i r is k so = record {
       (found-low a board s i (subst (λ (xs : List Row). searched a s (drop i xs) ≡ searched a unsearched xs) same so.1.1) k);
 }
 
+pub loop-two-init : goal.loop-two-init
+loop-two-init c =
+    let e = c.default-s.ensures in
+    let start : passed c.default-s.result ≡ unsearched = λ i. record { vacant = e.0 i; below = e.1.0 i; least = e.1.1 i; kept = true } in
+    (omega (arith, e.0, e.1.0), (λ j l. absurd (omega arith), ap (λ (z : Passed). searched c.args.address z c.args.held) start))
+
+pub pass-requires : goal.pass-requires
+pass-requires c =
+    let so = c.loop-two.invariant.0 in
+    let on = c.loop-two-test.true in
+    (omega (arith, so, on, c.as_chunks.ensures.front_len), omega (arith, so, on, c.as_chunks.ensures.front_len))
+
+pub pass-requires-in-loop-two : goal.pass-requires-in-loop-two
+pass-requires-in-loop-two c =
+    let l = c.loop-two in
+    let on : l.two-index < length c.args.held / 2 = omega (arith, c.as_chunks.ensures.front_len, c.loop-two-test.true) in
+    let first = c.in_ok-pass in
+    let so = passes-first c.args.address c.args.held c.as_chunks.result.0.now c.as_chunks.ensures.front l.two-index on (passed l.s) (passed first.field-0) (sym first.ensures.passes, first.ensures.word) l.invariant in
+    (omega (arith, so.0, on), omega (arith, so.0, on))
+
+pub overflow_sub-free : goal.overflow_sub-free
+overflow_sub-free c = omega (arith, c.loop-two.invariant.0, c.loop-two.auto.two-index-end, c.as_chunks.ensures.front_len)
+
+pub returns-in_err-pass : goal.returns-in_err-pass
+returns-in_err-pass c =
+    let l = c.loop-two in
+    let on : l.two-index < length c.args.held / 2 = omega (arith, c.as_chunks.ensures.front_len, c.loop-two-test.true) in
+    let first = over_row c.args.address (passed l.s) (one_of c.as_chunks.result.0.now l.two-index 0) in
+    low c.args.address c.args.len c.args.held first (l.two-index * 2 + 1) c.from_residual.result c.from_residual.ensures c.in_err-pass.ensures.passes
+    (passes-first c.args.address c.args.held c.as_chunks.result.0.now c.as_chunks.ensures.front l.two-index on (passed l.s) first (refl, c.in_err-pass.ensures.word) l.invariant)
+
 pub returns-in_err-s : goal.returns-in_err-s
 returns-in_err-s c =
-    let l = c.loop-row in
-    let row = get_or c.args.held l.row-index free_row in
-    low c.args.address c.args.len c.args.held (over_row c.args.address (passed l.s) row) (l.row-index + 1) c.from_residual.result (search rules) c.in_err-s.ensures.passes
-    (passes_on c.args.address c.args.held (passed l.s) (over_row c.args.address (passed l.s) row) l.row-index (omega arith) (refl, c.in_err-s.ensures.word) l.invariant)
+    let l = c.loop-two in
+    let on : l.two-index < length c.args.held / 2 = omega (arith, c.as_chunks.ensures.front_len, c.loop-two-test.true) in
+    let first = c.in_ok-pass in
+    let so = passes-first c.args.address c.args.held c.as_chunks.result.0.now c.as_chunks.ensures.front l.two-index on (passed l.s) (passed first.field-0) (sym first.ensures.passes, first.ensures.word) l.invariant in
+    let second = over_row c.args.address (passed first.field-0) (one_of c.as_chunks.result.0.now l.two-index 1) in
+    low c.args.address c.args.len c.args.held second ((l.two-index + 1) * 2) c.from_residual-in_err-s.result c.from_residual-in_err-s.ensures c.in_err-s.ensures.passes
+    (passes-second c.args.address c.args.held c.as_chunks.result.0.now c.as_chunks.ensures.front l.two-index on (passed first.field-0) second (refl, c.in_err-s.ensures.word) so)
 
-pub loop-row-preserved : goal.loop-row-preserved
-loop-row-preserved c =
-    let l = c.loop-row in
-    passes_on c.args.address c.args.held (passed l.s) (passed c.in_ok-s.s) l.row-index (omega arith) (sym c.in_ok-s.ensures.passes, c.in_ok-s.ensures.word) l.invariant
+pub loop-two-preserved : goal.loop-two-preserved
+loop-two-preserved c =
+    let l = c.loop-two in
+    let on : l.two-index < length c.args.held / 2 = omega (arith, c.as_chunks.ensures.front_len, c.loop-two-test.true) in
+    let first = c.in_ok-pass in
+    let second = c.in_ok-s in
+    let so = passes-first c.args.address c.args.held c.as_chunks.result.0.now c.as_chunks.ensures.front l.two-index on (passed l.s) (passed first.field-0) (sym first.ensures.passes, first.ensures.word) l.invariant in
+    passes-second c.args.address c.args.held c.as_chunks.result.0.now c.as_chunks.ensures.front l.two-index on (passed first.field-0) (passed second.s) (sym second.ensures.passes, second.ensures.word) so
 
 -- all rows were passed, and none was out of order
 all : (a len : ℕ) (held : List Row) (s : Passed) (i n : ℕ) (row : Option Row) → length held ≡ 30 → i ≡ 30 → s.kept ≡ true → Passing a held s i → n ≡ rows_that_count len
@@ -52,9 +90,9 @@ all a len held s i n row thirty end sound so count own =
 
 pub returns-then-own : goal.returns-then-own
 returns-then-own c =
-    let l = c.loop-row in
+    let l = c.loop-two in
     let a = c.args.address in
-    all a c.args.len c.args.held (passed l.s) l.row-index c.min.result _ (omega arith) (omega arith) refl l.invariant c.min.ensures
+    all a c.args.len c.args.held (passed l.s) (l.two-index * 2) c.min.result _ (omega arith) (omega arith) refl l.invariant c.min.ensures
     (λ board same told.
     subst (λ (xs : List Row). Stands board a l.s.below (get_or xs l.s.below free_row)) (sym same)
     (elim c.if-s-free.branch [
@@ -64,9 +102,9 @@ returns-then-own c =
 
 pub returns-else-own : goal.returns-else-own
 returns-else-own c =
-    let l = c.loop-row in
+    let l = c.loop-two in
     let a = c.args.address in
-    all a c.args.len c.args.held (passed l.s) l.row-index c.min.result None (omega arith) (omega arith) refl l.invariant c.min.ensures
+    all a c.args.len c.args.held (passed l.s) (l.two-index * 2) c.min.result None (omega arith) (omega arith) refl l.invariant c.min.ensures
     (λ board same told.
     row-none a board (passed l.s) told
     (λ less is.
