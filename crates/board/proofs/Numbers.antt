@@ -108,6 +108,10 @@ module _ (board : List Row) (address : ℕ) where
   unfolding find_number
   find-0 a b = simp (le-ltb 999 address a, lt-ltb (place_of address board) (length board) b)
 
+  pub find-small : find_number board address ≤ 38
+  unfolding find_number
+  find-small = first_small (ltb 999 address gives 11 ∷ not (on_board address board) gives 17 ∷ []) tt
+
 -- A number that refused already, or what writing the poll answers.
 abbrev pub or_poll : (number address : ℕ) → List ℕ → ℕ
 or_poll number address out = pick (eqb number 0) (write_poll_fault address out) number

@@ -51,7 +51,11 @@ module _ (found : Option Found) (address : ℕ) (number : List Row → ℕ) (aft
   changes-some f some made =
       record { on = λ board finds. let sees = subst (Finds board address) some finds in so-kept board _ _ n c sees.order (made board sees) }
 
--- And of what is answered by value, where something was.
+-- And of what is answered by value, where nothing was, and where something was.
+pub answers-none : {A : Type 0} (found : Option Found) (address : ℕ) (answer y : A) (x : List Row → A) → found ≡ None → answer ≡ y → (board : List Row) → Finds board address found → answer ≡ if_in_order board (x board) y
+answers-none found address answer y x none is board finds =
+    is ∙ sym (ap (λ (t : Bool). pick t (x board) y) (subst (Finds board address) none finds))
+
 pub answers-some : {A : Type 0} (found : Option Found) (f : Found) (address : ℕ) (answer y : A) (x : List Row → A) → found ≡ Some f → ((board : List Row) → Sees board address f → answer ≡ x board) → (board : List Row) → Finds board address found → answer ≡ if_in_order board (x board) y
 answers-some found f address answer y x some is board finds =
     let sees = subst (Finds board address) some finds in is board sees ∙ sym (ap (λ (t : Bool). pick t (x board) y) sees.order)

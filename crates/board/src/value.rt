@@ -252,9 +252,7 @@ pub fn remove(found: Option<Found>, address: u16) -> Result<Change, Fault>
 pub fn look(found: Option<Found>, address: u16) -> Result<Looked, Fault>
     ensures { LooksOn found address result }
 {
-    let Some(f) = found else {
-        return Err(Fault::OutOfOrder);
-    };
+    let f = found.ok_or(Fault::OutOfOrder)?;
     if 999 < address {
         return Err(Fault::BadAddress);
     }

@@ -19,7 +19,7 @@ use Rattle.board.specs.Gauge.{outside_by, unmarked, at_once}
 use Rattle.board.specs.Row.{is_free, free_row, with_reading, with_fault, sets_fault}
 use Rattle.board.specs.Rows.{place_by, place_of, on_board, row_of, place_free}
 use Rattle.board.specs.Order.{in_address_order, if_in_order}
-use Rattle.board.specs.Calls.{enrol_number, enrol_rows, hear_number, hear_place, hear_rows, heard_as, find_number, remove_rows, looked_at, refused_look, row_poll_number, row_poll_bytes}
+use Rattle.board.specs.Calls.{enrol_number, enrol_rows, hear_number, hear_place, hear_rows, heard_as, find_number, remove_rows, row_told, looked_at, refused_look, row_poll_number, row_poll_bytes}
 
 -- A board by value: its rows, and free ones behind them up to thirty.
 abbrev pub filled : List Row → List Row
@@ -213,8 +213,10 @@ abbrev pub told_look : Result Looked Fault → Looked
 told_look (Ok told) = told
 told_look (Err f) = refused_look (number_of f)
 
--- The answer is that of looking, on every such board.
+-- The answer is that of looking, on every such board: whole, what is told of the row or the fault that refuses, and as it is told.
 pub record LooksOn (f : Option Found) (address : ℕ) (answer : Result Looked Fault) : Type 0 where
+  pub whole : (board : List Row) → Finds board address f
+      → answer ≡ if_in_order board (verdict (find_number board address) (row_told (row_of address board))) (Err OutOfOrder)
   pub on : (board : List Row) → Finds board address f → told_look answer ≡ if_in_order board (looked_at board address) (refused_look 38)
 
 -- Whether a row may be polled so: 11, 17, 28, and 0 where it may.
@@ -231,8 +233,11 @@ may_poll board address raise reset =
 pub record MayPollOn (f : Option Found) (address raise reset : ℕ) (answer : Result ⊤ Fault) : Type 0 where
   pub on : (board : List Row) → Finds board address f → answer ≡ if_in_order board (verdict (may_poll board address raise reset) tt) (Err OutOfOrder)
 
--- What writing a row's poll answers and leaves of the output, on every such board.
+-- What writing a row's poll answers and leaves of the output, on every such board. It answers the two bytes that it wrote, or the fault that
+-- refuses.
 pub record PollsOn (f : Option Found) (address raise reset : ℕ) (out : List ℕ) (answer : Result ℕ Fault) (after : List ℕ) : Type 0 where
+  pub whole : (board : List Row) → Finds board address f
+      → answer ≡ if_in_order board (verdict (row_poll_number board address raise reset out) 2) (Err OutOfOrder)
   pub on : (board : List Row) → Finds board address f
       → (number_in answer ≡ if_in_order board (row_poll_number board address raise reset out) 38)
       × (after ≡ if_in_order board (row_poll_bytes board address raise reset out) out)
