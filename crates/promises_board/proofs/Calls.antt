@@ -8,12 +8,12 @@ use Prim.Native.Nat.{ℕ, ◌<◌, ◌≤◌}
 use native.Mathlib.Omega.{arith}
 use lib.Dec.{eqb}
 use lib.ListN.{length, take, drop, set}
-use borrow.Author.Tests.{eqb-false, ne_eqb, lt-ltb, le-ltb}
+use borrow.Author.Tests.{eqb-false, lt-ltb, le-ltb}
 use Rattle.frame.specs.declared.Reading.{Reading}
 use Rattle.std.specs.Prelude.{Ok, Err}
 use Rattle.frame.specs.declared.faults.Fault.{Fault}
 use Rattle.frame.specs.declared.faults.Fault.TheVariants.{InNoChart}
-use Rattle.frame.specs.Faults.{number_of, verdict}
+use Rattle.frame.specs.Faults.{number_of, place_named, verdict}
 use Rattle.frame.specs.Kinds.{is_set}
 use Rattle.frame.specs.Line.{line, first_bytes, formed}
 use Rattle.frame.specs.Pick.{pick}
@@ -109,12 +109,12 @@ module _ (rows : List Row) (minute address count : ℕ) (reply : List ℕ) (answ
       (ap (λ (r : Row). with_fault (heard_at r minute) number (hear_place board address count reply)) (row_is rows address i w) ∙ ap (λ (m : ℕ). with_fault (heard_at (row_at rows i) minute) m (hear_place board address count reply)) is ∙ ap (with_fault (heard_at (row_at rows i) minute) n) named) (row_on rows address i w)
       (e.leaves ∙ ap (λ (b : List Row). b ++ beyond rows) (hear-faults (board_of rows) minute address count reply (ap (λ (m : ℕ). eqb m 0) is ∙ z) (ap (λ (m : ℕ). sets_fault m) is ∙ f)))
 
-  hear-faulty : address ≤ 999 → formed count reply ≡ true → (i : ℕ) → IsRowOf rows address i → (row_at rows i).settings ≤ 15 → (f : Fault) → ReadsReply (row_at rows i).settings address count reply (Err f) → (number_of f ≡ 7 → ⊥)
+  -- of a fault that names no place
+  fault-alone : address ≤ 999 → formed count reply ≡ true → (i : ℕ) → IsRowOf rows address i → (row_at rows i).settings ≤ 15 → (f : Fault) → ReadsReply (row_at rows i).settings address count reply (Err f) → eqb (number_of f) 7 ≡ false
       → (answer ≡ heard_as (number_of f) 0) × (1 ≤ number_of f) × (number_of f ≤ 9) × OnlyRow rows i (with_fault (heard_at (row_at rows i) minute) (number_of f) 0) after
-  hear-faulty a w i p s f read other =
+  fault-alone a w i p s f read not-seven =
       let n = number_of f in
       let is = refused-is (row_at rows i).settings address count reply f read in
-      let not-seven : eqb n 7 ≡ false = ne_eqb n 7 other in
       let same : number ≡ n = by-frame a w i p n is.0 is.1 in
       let most : n ≤ 9 = subst (λ (k : ℕ). k ≤ 9) is.0 (at-most-9 (row_at rows i).settings address count reply s a w) in
       let some : 1 ≤ n = positive n is.1 in
@@ -131,6 +131,14 @@ module _ (rows : List Row) (minute address count : ℕ) (reply : List ℕ) (answ
       let named : hear_place board address count reply ≡ place
       = its-place board minute address count reply same ∙ ap (λ (r : Row). place_lost (level_of (mode_in r.settings) (line reply))) (row_is rows address i p) ∙ sym is.1 in
       (said 7 place same named, fault-set i p 7 place same named refl sets-7)
+
+  -- number 7 alone names a place, and of each other fault the place named is 0
+  hear-faulty : address ≤ 999 → formed count reply ≡ true → (i : ℕ) → IsRowOf rows address i → (row_at rows i).settings ≤ 15 → (f : Fault) → ReadsReply (row_at rows i).settings address count reply (Err f)
+      → (answer ≡ heard_as (number_of f) (place_named f)) × (1 ≤ number_of f) × (number_of f ≤ 9) × OnlyRow rows i (with_fault (heard_at (row_at rows i) minute) (number_of f) (place_named f)) after
+  hear-faulty a w i p s (InNoChart place) read =
+      let lost = hear-unreadable a w i p place read in
+      (lost.0, omega arith, omega arith, lost.1)
+  hear-faulty a w i p s f read = fault-alone a w i p s f read refl
 
   -- the temperature that is tested is that of the reading
   tested : (i : ℕ) (r : Reading) → r ≡ reading_at (row_at rows i).settings count (line reply) → outside_at (row_at rows i) count reply ≡ outside_by (row_at rows i).settings (row_at rows i).gauge r.temperature

@@ -22,7 +22,7 @@ use Rattle.promises_order.specs.Order.{SoKept, Front, IsPlaceFor, Inserted, Clos
 use Rattle.promises_board.specs.Profiles.{OutOfRange, Checked}
 use Rattle.std.specs.Prelude.{Ok, Err}
 use Rattle.frame.specs.declared.faults.Fault.TheVariants.{InNoChart}
-use Rattle.frame.specs.Faults.{number_of}
+use Rattle.frame.specs.Faults.{number_of, place_named}
 use Rattle.frame.specs.declared.faults.Fault.{Fault}
 
 -- A row in use holds this address.
@@ -92,9 +92,9 @@ pub record HearPromise (rows : List Row) (minute address count : ℕ) (reply : L
   pub bad_settings : address ≤ 999 → formed count reply ≡ true → (i : ℕ) → IsRowOf rows address i → 15 < (row_at rows i).settings
       → (answer ≡ heard_as 10 0) × (after ≡ rows)
   pub faulty : address ≤ 999 → formed count reply ≡ true → (i : ℕ) → IsRowOf rows address i → (row_at rows i).settings ≤ 15
-      → (f : Fault) → ReadsReply (row_at rows i).settings address count reply (Err f) → (number_of f ≡ 7 → ⊥)
-      → (answer ≡ heard_as (number_of f) 0) × (1 ≤ number_of f) × (number_of f ≤ 9)
-      × OnlyRow rows i (with_fault (heard_at (row_at rows i) minute) (number_of f) 0) after
+      → (f : Fault) → ReadsReply (row_at rows i).settings address count reply (Err f)
+      → (answer ≡ heard_as (number_of f) (place_named f)) × (1 ≤ number_of f) × (number_of f ≤ 9)
+      × OnlyRow rows i (with_fault (heard_at (row_at rows i) minute) (number_of f) (place_named f)) after
   pub unreadable : address ≤ 999 → formed count reply ≡ true → (i : ℕ) → IsRowOf rows address i
       → (place : ℕ) → ReadsReply (row_at rows i).settings address count reply (Err (InNoChart place))
       → (answer ≡ heard_as 7 place) × OnlyRow rows i (with_fault (heard_at (row_at rows i) minute) 7 place) after

@@ -10,11 +10,8 @@ use lib.Dec.{eqb}
 use lib.ListN.{length}
 use Rattle.frame.specs.declared.Reading.{Reading}
 use Rattle.frame.specs.Pick.{pick}
-use Rattle.frame.specs.Line.{line, formed}
-use Rattle.frame.specs.Level.{Level, level_of, place_lost}
-use Rattle.frame.specs.Reply.{ReadsReply, mode_in, reading_at, refused_by, reply_fault, reply_of}
-use Rattle.frame.proofs.Numbers.{reply-small}
-use Rattle.board.proofs.Named.{named-number, named-place}
+use Rattle.frame.specs.Line.{formed}
+use Rattle.frame.specs.Reply.{ReadsReply, reply_of}
 use Rattle.sheet.specs.Record.{Entry}
 use Rattle.board.specs.declared.Heard as board
 use Rattle.board.specs.declared.Looked.{Looked}
@@ -23,7 +20,6 @@ use Rattle.board.specs.Gauge.{outside_by}
 use Rattle.board.specs.Row.{good, at, more, sets_fault, heard_at, with_reading, with_fault}
 use Rattle.board.specs.Calls.{Hears, LooksUp, heard_as, last_told}
 use Rattle.promises_frame.proofs.Cases.{by-lt}
-use Rattle.promises_frame.proofs.Unreadable.{unreadable-digit}
 use Rattle.promises_order.specs.Places.{row_at}
 use Rattle.promises_order.specs.Order.{SoKept}
 use Rattle.promises_order.specs.Calls.{hear}
@@ -44,7 +40,6 @@ use Rattle.promises_wire.specs.TankToDesk.{BySettings, no-poll, one_poll}
 use Rattle.promises_wire.proofs.Polled.{heard-so, same-held, read_held}
 use Rattle.std.specs.Prelude.{Result, Ok, Err}
 use Rattle.frame.specs.declared.faults.Fault.{Fault}
-use Rattle.frame.specs.declared.faults.Fault.TheVariants.{InNoChart}
 use Rattle.frame.specs.Faults.{number_of, place_named}
 
 -- A row whose owner is the same.
@@ -98,32 +93,6 @@ row_stays d address i r =
       first = λ j l h. r.first j l (holds-back (owners d j) h);
     }
 
--- A fault of number 7 names its place, and any other names none.
-names-place : (settings address count : ℕ) (bytes : List ℕ) (f : Fault) → ReadsReply settings address count bytes (Err f) → number_of f ≡ 7
-    → ReadsReply settings address count bytes (Err (InNoChart (place_named f)))
-names-place settings address count bytes f reads seven =
-    subst (λ (g : Fault). ReadsReply settings address count bytes (Err g)) (unreadable-digit.others settings address count bytes f reads seven) reads
-
-names_none : (settings address count : ℕ) (bytes : List ℕ) (f : Fault) → ReadsReply settings address count bytes (Err f) → (number_of f ≡ 7 → ⊥) → place_named f ≡ 0
-unfolding reply_of
-names_none settings address count bytes f reads other = go (eqb number 0) refl reads.answers
-  where
-    number : ℕ
-    number = reply_fault settings address count bytes
-
-    level : Level
-    level = level_of (mode_in settings) (line bytes)
-
-    small : number ≤ 38
-    small = reply-small settings address count bytes
-
-    go : (b : Bool) → eqb number 0 ≡ b → Err f ≡ pick b (Ok (reading_at settings count (line bytes))) (Err (refused_by level number)) → place_named f ≡ 0
-    go true e is = absurd (cc)
-    go false e is =
-        let same : f ≡ refused_by level number = cc in
-        let its_own = ap number_of same ∙ named-number level number (eqb-false number 0 e) small in
-        ap place_named same ∙ named-place level number small ∙ ap (λ (b : Bool). pick b (place_lost level) 0) (ne_eqb number 7 (λ q. other (its_own ∙ q)))
-
 -- one hearing
 module _ (rows : List Row) (kept : SoKept rows) (minute address count : ℕ) (bytes : List ℕ) (answer : board.Heard) (after : List Row) (small : address ≤ 999)
     (shaped : formed count bytes ≡ true) (call : Hears rows minute address count bytes answer after) where
@@ -139,17 +108,9 @@ module _ (rows : List Row) (kept : SoKept rows) (minute address count : ℕ) (by
       go : Checked (row_at rows i) x.temperature → Did rows after
       go (out o) = one_heard i (with_fault (heard_at (row_at rows i) minute) 26 0) (promise.outside small shaped i r x reads o).1 (fault-owner (row_at rows i) minute 26 0)
       go (not_out o) = one_heard i (with_reading (heard_at (row_at rows i) minute) x minute) (promise.heard small shaped i r x reads o).1 (good-owner (row_at rows i) minute x)
-  by-reading i r fine (Err f) reads = go (eqb (number_of f) 7) refl
-    where
-      go : (b : Bool) → eqb (number_of f) 7 ≡ b → Did rows after
-      go true e =
-          let place = place_named f in
-          one_heard i (with_fault (heard_at (row_at rows i) minute) 7 place)
-          (promise.unreadable small shaped i r place (names-place (row_at rows i).settings address count bytes f reads (eqb-true (number_of f) 7 e))).1
-          (fault-owner (row_at rows i) minute 7 place)
-      go false e =
-          one_heard i (with_fault (heard_at (row_at rows i) minute) (number_of f) 0)
-          (promise.faulty small shaped i r fine f reads (eqb-false (number_of f) 7 e)).3 (fault-owner (row_at rows i) minute (number_of f) 0)
+  by-reading i r fine (Err f) reads =
+      one_heard i (with_fault (heard_at (row_at rows i) minute) (number_of f) (place_named f)) (promise.faulty small shaped i r fine f reads).3
+      (fault-owner (row_at rows i) minute (number_of f) (place_named f))
 
   did : Did rows after
   did = go (board-cases.address rows address)
@@ -238,20 +199,9 @@ module _ (rows : List Row) (minute address count : ℕ) (bytes : List ℕ) (answ
           (k.0, λ n. record { last = last n; fault = k.1 n; place = k.2 n; faulty = k.3 n; minute = k.4 n })
 
       by-says : (y : Result Reading Fault) → ReadsReply settings address count bytes y → (told.number ≡ 0) × (shows_in told ≡ after_reply settings gauge minute y s)
-      by-says (Err f) reads = go (eqb (number_of f) 7) refl
-        where
-          go : (b : Bool) → eqb (number_of f) 7 ≡ b → (told.number ≡ 0) × (shows_in told ≡ after_fault minute (number_of f) (place_named f) s)
-          go true e =
-              let place = place_named f in
-              let seven = eqb-true (number_of f) 7 e in
-              let named = names-place settings address count bytes f reads seven in
-              let r = by-fault 7 place (said_of.unreadable small shaped i st.row place (read-there (Err (InNoChart place)) named)).0 (set-by 7 (omega arith) (omega arith)) in
-              (r.0, r.1 ∙ ap (λ (k : ℕ). after_fault minute k place s) (sym seven))
-          go false e =
-              let other = eqb-false (number_of f) 7 e in
-              let p = said_of.faulty small shaped i st.row (subst (λ (k : ℕ). k ≤ 15) (sym st.settings_are) fine) f (read-there (Err f) reads) other in
-              let r = by-fault (number_of f) 0 p.0 (set-by (number_of f) p.1 p.2) in
-              (r.0, r.1 ∙ ap (λ (k : ℕ). after_fault minute (number_of f) k s) (sym (names_none settings address count bytes f reads other)))
+      by-says (Err f) reads =
+          let p = said_of.faulty small shaped i st.row (subst (λ (k : ℕ). k ≤ 15) (sym st.settings_are) fine) f (read-there (Err f) reads) in
+          by-fault (number_of f) (place_named f) p.0 (set-by (number_of f) p.1 p.2)
       by-says (Ok x) reads = go (board-cases.range (row_at rows i) x.temperature)
         where
           go : Checked (row_at rows i) x.temperature → (told.number ≡ 0) × (shows_in told ≡ after_reply settings gauge minute (Ok x) s)
