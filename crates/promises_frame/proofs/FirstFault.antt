@@ -14,7 +14,7 @@ use Rattle.frame.specs.Line.{line, bit, three_decimal}
 use Rattle.frame.specs.Faults.{Test, ◌gives◌, first_of, number_of, fault}
 use Rattle.frame.specs.Poll.{poll_fault, poll_at, poll_of, write_poll_fault, poll_number, written_number}
 use Rattle.frame.specs.Level.{Level, level_of, place_lost}
-use Rattle.frame.specs.Reply.{mode_in, refused_by, reply_fault, reply_tests, reading_at, reply_of, write_reply_fault, size_for, reply_number}
+use Rattle.frame.specs.Reply.{mode_in, refused_by, reply_fault, reading_at, reply_of, write_reply_fault, size_for, reply_number}
 use Rattle.frame.proofs.Numbers.{own_number, verdict_number, reply-small, write-small, poll-small, write-poll-small}
 use Rattle.promises_frame.specs.FirstFault.{applies, FirstThatApplies, reply_table, reply_order, write_table, poll_table, FirstFault}
 use Rattle.std.specs.Prelude.{Ok, Err}

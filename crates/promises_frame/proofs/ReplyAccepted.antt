@@ -12,7 +12,7 @@ use Rattle.frame.specs.declared.Temperature.{Temperature}
 use Rattle.frame.specs.declared.Temperature.TheVariants.{Absent}
 use Rattle.frame.specs.Pick.{pick}
 use Rattle.frame.specs.Line.{line, bit, marks, formed, bytes_for, pad_clear, three_decimal, three_digits}
-use Rattle.frame.specs.Level.{Level, Mode, known, lost, level_of, fill_clear, no_chart, value_of, place_lost, above_largest}
+use Rattle.frame.specs.Level.{Level, Mode, known, lost, level_of, fill_clear, no_chart, value_of, above_largest}
 use Rattle.frame.specs.Temperature.{Heat, told, bad, is_bad, temperature_of, heat_of}
 use Rattle.frame.specs.Reply.{mode_in, is1800, odd_parity, heat_in, parity_right, reply_fault, refused_by}
 use Rattle.frame.proofs.Both.{both}
@@ -21,8 +21,6 @@ use Rattle.promises_frame.proofs.Cases.{not-0}
 use Rattle.promises_frame.proofs.Digits.{bit-lt}
 use Rattle.promises_frame.proofs.FirstFault.{all-clear, reply-asks}
 use Rattle.std.specs.Prelude.{Ok, Err}
-use Rattle.frame.specs.declared.faults.Fault.TheVariants.{InNoChart}
-use Rattle.frame.specs.Faults.{fault}
 
 -- The facts that an accepted reply of 40 bits (`short`) or 56 has, at its line n.
 pub record Accepted (settings address : ℕ) (s : List ℕ) (n : ℕ) (short : Bool) (v : ℕ) (t : Temperature) : Type 0 where

@@ -1,5 +1,6 @@
 -- The place that fault 7 names. Of any row it goes by induction on the row, with the test of the first digit's chart taken apart; a reply is then
--- opened at its number. Which charts have every code is computed, mode by mode, and so is a line for each place that remains.
+-- opened at its number, and since no reply is read as the last fault of the table, to which every number outside it falls, a fault that is read by its number
+-- has that number. Which charts have every code is computed, mode by mode, and so is a line for each place that remains.
 use mathlib.Core.Path.{◌≡◌, refl, sym, ◌∙◌, ap, subst}
 use mathlib.Core.Bool.{Bool, true, false, not, ◌&&◌, ◌||◌}
 use mathlib.Core.List.{List, [], ◌∷◌}
@@ -7,12 +8,12 @@ use Prim.Native.Nat.{ℕ, zero, suc, ◌+◌, ◌*◌, ◌/◌, ◌%◌, ◌^◌
 use native.Mathlib.Omega.{arith}
 use native.Mathlib.Nat.{mod-lt}
 use lib.Dec.{T, eqb, leb, ltb, ltb→lt}
-use lib.ListN.{length, get_or}
+use lib.ListN.{length, get_or, get_or-eq_default}
 use lib.Pow.{pow_pos}
-use borrow.Author.Tests.{eqb-true, eqb-false, leb-true, ltb-true, lt-ltb}
+use borrow.Author.Tests.{eqb-true, eqb-false, leb-true, ltb-true, ltb-false, lt-ltb}
 use Rattle.frame.specs.Pick.{pick}
 use Rattle.frame.specs.Charts.{Chart, size_of, is_odd, turned, place_in, one_bit, two_bits, feet_tens, decimal, inches, sixteenths}
-use Rattle.frame.specs.Faults.{Test, first_of, number_of, place_named, fault}
+use Rattle.frame.specs.Faults.{Test, first_of, number_of, place_named, table, fault}
 use Rattle.frame.specs.Level.{Level, Mode, known, lost, no_chart, place_lost, width_of, read_row, level_of, last_bit_of, mode_of, fractional_mode, decimal_mode, twenty_metre_mode, thirty_metre_mode}
 use Rattle.frame.specs.Line.{line, field, put}
 use Rattle.frame.specs.Reply.{ReadsReply, mode_in, reading_at, reply_tests, reply_fault, reply_of, reply_number}
@@ -23,7 +24,7 @@ use Rattle.promises_frame.specs.Unreadable.{InChart, chart_at, code_at, FirstUnr
 use Rattle.promises_frame.proofs.Rows.{at_place}
 use Rattle.std.specs.Prelude.{Result, Ok, Err}
 use Rattle.frame.specs.declared.faults.Fault.{Fault}
-use Rattle.frame.specs.declared.faults.Fault.TheVariants.{InNoChart}
+use Rattle.frame.specs.declared.faults.Fault.TheVariants.{InNoChart, OutOfOrder}
 use Rattle.frame.specs.declared.Reading.{Reading}
 
 -- A code is in its chart exactly where its place is below the chart's size.
@@ -171,11 +172,39 @@ module _ (settings address count : ℕ) (reply : List ℕ) where
   place-names p r = place-by (eqb number 0) (eqb number 7) refl refl p r.answers
 
   -- a fault that has number 7 names that place
-  others-name : (f : Fault) → ReadsReply settings address count reply (Err f) → number_of f ≡ 7 → f ≡ InNoChart (place_named f)
-  others-name f r n =
-      let named = (seven-names (Err f) r n).named in
-      let same : f ≡ InNoChart (seven-names (Err f) r n).place = cc in
-      same ∙ ap InNoChart (sym (ap place_named same))
+  names-lost : (f : Fault) → ReadsReply settings address count reply (Err f) → number_of f ≡ 7 → (f ≡ InNoChart (place_named f)) × (level ≡ lost (place_named f))
+  names-lost f r n =
+      let it = seven-names (Err f) r n in
+      let named = it.named in
+      let same : f ≡ InNoChart it.place = cc in
+      let place : place_named f ≡ it.place = ap place_named same in
+      (same ∙ ap InNoChart (sym place), it.level ∙ ap lost (sym place))
+
+  -- the number of a fault that is read is the one that the tests give
+  number-by : (none seven : Bool) → eqb number 0 ≡ none → eqb number 7 ≡ seven → (f : Fault) → Err f ≡ by none seven number → number_of f ≡ number
+  number-by true seven z v f e = let bad : ◌≡◌ {A = ℕ} 0 1 = cc in absurd (omega arith)
+  number-by false true z v f e = let same : f ≡ InNoChart (place_lost level) = cc in ap number_of same ∙ sym (eqb-true number 7 v)
+  number-by false false z v f e =
+      let same : f ≡ fault number = cc in
+      ap number_of same ∙ own_number number (eqb-false number 0 z) (reply-small settings address count reply)
+
+  given-number : (f : Fault) → ReadsReply settings address count reply (Err f) → number_of f ≡ number
+  unfolding reply_of
+  given-number f r = number-by (eqb number 0) (eqb number 7) refl refl f r.answers
+
+  -- no test of a reply has number 38, and 0 and the numbers above 38 have its fault
+  never-last : (f : Fault) → ReadsReply settings address count reply (Err f) → f ≡ OutOfOrder → ⊥
+  unfolding reply_fault
+  never-last f r e =
+      not-given 38 (reply_tests settings address count reply) tt (λ z. omega arith) (sym (given-number f r) ∙ ap number_of e)
+
+  pub told-number : (n : ℕ) → ReadsReply settings address count reply (Err (fault n)) → number_of (fault n) ≡ n
+  told-number n r = go (ltb n 39) (eqb n 0) refl refl
+    where
+      go : (a b : Bool) → ltb n 39 ≡ a → eqb n 0 ≡ b → number_of (fault n) ≡ n
+      go true true l z = absurd (never-last (fault n) r (ap fault (eqb-true n 0 z)))
+      go true false l z = let within : n < 39 = ltb-true n 39 l in own_number n (eqb-false n 0 z) (omega arith)
+      go false b l z = absurd (never-last (fault n) r (get_or-eq_default table OutOfOrder {n = n} (ltb-false n 39 l)))
 
 -- A digit's code has its chart's width, so a chart with every code of it has this one too.
 code_lt : (row : List Chart) (bits k : ℕ) → k < length row → code_at row bits k < 2 ^ (chart_at row k).width
@@ -290,6 +319,12 @@ module _ (settings address count : ℕ) (reply : List ℕ) (p : ℕ) (r : ReadsR
   not_first : (1 ≤ p) × (p < length row)
   not_first = (place-possible.0, omega (arith, digit-of.place, digit-of.first.within))
 
+-- The table's own fault 7 names place 0, where no digit is named.
+others-not : (settings address count : ℕ) (reply : List ℕ) → (n : ℕ) → ReadsReply settings address count reply (Err (fault n)) → n ≡ 7 → ⊥
+others-not settings address count reply n r seven =
+    let place = not_first settings address count reply 0 (subst (λ (k : ℕ). ReadsReply settings address count reply (Err (fault k))) seven r) in
+    omega (arith, place.0)
+
 pub unreadable-digit : UnreadableDigit
 unreadable-digit =
     record {
@@ -298,7 +333,8 @@ unreadable-digit =
       seven = seven-names;
       place = λ settings address count reply got r p e.
           (ap reply_number e, place-names settings address count reply p (subst (ReadsReply settings address count reply) e r));
-      others = others-name;
+      others = others-not;
+      names = names-lost;
       never_the_first = not_first;
       every_code = never-named;
       possible = place-possible;

@@ -9,7 +9,7 @@ use Rattle.std.specs.Prelude.{Result, Err}
 use Rattle.frame.specs.declared.faults.Fault.{Fault}
 use Rattle.frame.specs.declared.faults.Fault.TheVariants.{InNoChart}
 use Rattle.frame.specs.declared.Reading.{Reading}
-use Rattle.frame.specs.Faults.{number_of, place_named}
+use Rattle.frame.specs.Faults.{number_of, place_named, fault}
 
 -- A code stands in a chart, at some place.
 pub record InChart (c : Chart) (code : ℕ) : Type 0 where
@@ -65,13 +65,15 @@ pub record UnreadableDigit : Type 0 where
   -- Of any row of charts, whatever stood above it: the place named is that of the first digit in no chart, and of no other.
   pub first : (row : List Chart) (bits : ℕ) (odd : Bool) (sofar at k : ℕ) → FirstUnreadable row bits k → read_row row bits odd sofar at ≡ lost (at + k)
   pub only : (row : List Chart) (bits : ℕ) (odd : Bool) (sofar at p : ℕ) → read_row row bits odd sofar at ≡ lost p → Named row bits at p
-  -- A reply with fault 7 names its place, one that names a place has fault 7 and such a level, and no other refusal is 7.
+  -- A reply with fault 7 names its place, one that names a place has fault 7 and such a level, and no other refusal is 7: a refusal by the number alone, whose
+  -- place is 0, is none by 7, and one whose number is 7 names the very place at which its level is lost.
   pub seven : (settings address count : ℕ) (reply : List ℕ) (got : Result Reading Fault) → ReadsReply settings address count reply got → reply_number got ≡ 7
       → NamesPlace settings reply got
   pub place : (settings address count : ℕ) (reply : List ℕ) (got : Result Reading Fault) → ReadsReply settings address count reply got → (p : ℕ) → got ≡ Err (InNoChart p)
       → (reply_number got ≡ 7) × (level_of (mode_in settings) (line reply) ≡ lost p)
-  pub others : (settings address count : ℕ) (reply : List ℕ) → (f : Fault) → ReadsReply settings address count reply (Err f) → number_of f ≡ 7
-      → f ≡ InNoChart (place_named f)
+  pub others : (settings address count : ℕ) (reply : List ℕ) → (n : ℕ) → ReadsReply settings address count reply (Err (fault n)) → n ≡ 7 → ⊥
+  pub names : (settings address count : ℕ) (reply : List ℕ) → (f : Fault) → ReadsReply settings address count reply (Err f) → number_of f ≡ 7
+      → (f ≡ InNoChart (place_named f)) × (level_of (mode_in settings) (line reply) ≡ lost (place_named f))
   -- The first digit of every mode has all codes, so it is never named, and the place is one of the mode's digits.
   pub never_the_first : (settings address count : ℕ) (reply : List ℕ) (p : ℕ) → ReadsReply settings address count reply (Err (InNoChart p))
       → (1 ≤ p) × (p < length (mode_in settings).row)
