@@ -1,5 +1,5 @@
 -- Nothing is lost on the way to the host, and only one outcome is allowed: what an answer stands for is an answer of the call below, by that call's own
--- contract, and two outcomes that one contract allows are equal. Both follow from the laws of `export`.
+-- contract, the number in it is the paper's number of that answer, and two outcomes that one contract allows are equal. All follow from the laws of `export`.
 use mathlib.Core.Path.{◌≡◌, sym, ◌∙◌}
 use mathlib.Core.Bool.{Bool, true, ◌&&◌}
 use mathlib.Core.List.{List}
@@ -9,11 +9,13 @@ use lib.ListN.{length}
 use Rattle.sheet.specs.Slots.{size_allowed, slots}
 use Rattle.listing.specs.Lines.{head_line, slot_line, last_line, listing_of}
 use Rattle.listing.specs.Calls.{Writes, WritesHead, WritesSlot, WritesLast, WritesListing, write_fault, room_for}
+use Rattle.frame.specs.Poll.{written_number}
 use Rattle.export_told.specs.declared.Done.{Done}
 use Rattle.export.specs.Calls.{Tells}
 use Rattle.export_told.specs.Told.{written_told, written_meant}
 use Rattle.export.proofs.Back.{written_back}
 use Rattle.export.proofs.Kept.{from, kept}
+use Rattle.export.proofs.ToldNumbers.{written-told, meant-number}
 use Rattle.export.proofs.OneOutcome.{one}
 use Rattle.export_listing.specs.Calls.{SisalHeadLine, SisalSlotLine, SisalLastLine, SisalListing}
 
@@ -34,6 +36,25 @@ last-line-kept sheet out answer after = text-kept (size_allowed sheet) (length (
 
 pub listing-kept : (sheet out : List ℕ) (answer : Done) (after : List ℕ) → SisalListing sheet out answer after → WritesListing sheet out (written_meant answer) after
 listing-kept sheet out answer after = text-kept true (room_for sheet) (listing_of sheet) out answer after
+
+-- The number among the integers is that of the answer that they stand for, whatever a call tells.
+text-number : (there : Bool) (needed : ℕ) (text out : List ℕ) (answer : Done) (after : List ℕ) → Tells written_told (λ b. Writes there needed text out b after) answer → written_number (written_meant answer) ≡ answer.number
+text-number there needed text out answer after =
+    meant-number written_told written_meant written_number (λ d. d.number) written-told (λ b. Writes there needed text out b after)
+    (λ b r. from written_told written_meant r.answers (written_back (length text) (write_fault there needed out)))
+
+pub head-line-number : (sheet out : List ℕ) (answer : Done) (after : List ℕ) → SisalHeadLine sheet out answer after → written_number (written_meant answer) ≡ answer.number
+head-line-number sheet out answer after = text-number (size_allowed sheet) (length (head_line sheet)) (head_line sheet) out answer after
+
+pub slot-line-number : (sheet : List ℕ) (slot : ℕ) (out : List ℕ) (answer : Done) (after : List ℕ) → SisalSlotLine sheet slot out answer after → written_number (written_meant answer) ≡ answer.number
+slot-line-number sheet slot out answer after =
+    text-number (size_allowed sheet && ltb slot (slots sheet)) (length (slot_line sheet slot)) (slot_line sheet slot) out answer after
+
+pub last-line-number : (sheet out : List ℕ) (answer : Done) (after : List ℕ) → SisalLastLine sheet out answer after → written_number (written_meant answer) ≡ answer.number
+last-line-number sheet out answer after = text-number (size_allowed sheet) (length (last_line sheet)) (last_line sheet) out answer after
+
+pub listing-number : (sheet out : List ℕ) (answer : Done) (after : List ℕ) → SisalListing sheet out answer after → written_number (written_meant answer) ≡ answer.number
+listing-number sheet out answer after = text-number true (room_for sheet) (listing_of sheet) out answer after
 
 pub head-line-one : (sheet out : List ℕ) (a b : Done) (s t : List ℕ) → SisalHeadLine sheet out a s → SisalHeadLine sheet out b t → (a ≡ b) × (s ≡ t)
 head-line-one sheet out a b s t x y =
