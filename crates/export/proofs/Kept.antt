@@ -1,5 +1,6 @@
 -- Nothing is lost on the way to the host: what an answer stands for is an answer of the call below, by that call's own contract, and the number in it is
--- the paper's number.
+-- the paper's number. Of any integers the number is that of what is read of them, and this, with its fault named, is what they stand for: both by the cases of
+-- the number.
 use mathlib.Core.Path.{◌≡◌, refl, sym, ap, subst, ◌∙◌}
 use mathlib.Core.Bool.{Bool, true, false}
 use mathlib.Core.List.{List}
@@ -9,8 +10,10 @@ use lib.Dec.{eqb}
 use lib.IntN.{ℤ}
 use Rattle.frame.specs.Pick.{pick}
 use Rattle.frame.specs.Poll.{ReadsPoll, WritesPoll, poll_number, written_number, write_poll_fault}
+use Rattle.frame.specs.declared.Reading.{Reading}
 use Rattle.frame.specs.Reply.{ReadsReply, WritesReply, reply_number, write_reply_fault, size_for}
 use Rattle.sheet.specs.declared.Head.{Head}
+use Rattle.sheet.specs.declared.Looked.{Looked}
 use Rattle.sheet.specs.declared.Found.TheVariants as found
 use Rattle.sheet.specs.Record.{entry_of, length_of}
 use Rattle.sheet.specs.Save.{Saves, save_fault, saved_number}
@@ -22,9 +25,11 @@ use Rattle.export_told.specs.declared.ReplyTold.{ReplyTold}
 use Rattle.export_told.specs.declared.Done.{Done}
 use Rattle.export_told.specs.declared.SlotTold.{SlotTold}
 use Rattle.export_told.specs.Told.{poll_told, poll_meant, reply_told, reply_meant, written_told, written_meant, saved_told, saved_meant, counted_told, counted_meant, slot_told, slot_meant, state_meant, head_meant, poll_said}
+use Rattle.export_told.specs.Told.{number_read, named, poll_read, refused_at, reply_read, reply_number_read, reply_named, written_read, saved_read, counted_read, slot_read, found_number_read, found_named}
 use Rattle.export.specs.Calls.{Tells, SisalReadPoll, SisalWritePoll, SisalReadReply, SisalWriteReply, SisalSave, SisalLook, SisalSlots}
 use Rattle.export.proofs.Back.{poll-back, reply-back, written_back, saved-back, counted_back, look-back}
-use Rattle.std.specs.Prelude.{Ok, Err}
+use Rattle.std.specs.Prelude.{Result, Ok, Err}
+use Rattle.frame.specs.declared.faults.Fault.{Fault}
 use Rattle.frame.specs.declared.faults.Fault.TheVariants.{InNoChart}
 use Rattle.frame.specs.Faults.{fault}
 use Rattle.frame.proofs.Numbers.{own_number}
@@ -77,8 +82,8 @@ numbered number good bad g b n h = go (eqb n 0) refl
     go true e = g ∙ sym (eqb-true n 0 e)
     go false e = b n (eqb-false n 0 e) h
 
-pub poll-number : (t : PollTold) → t.number ≤ 38 → poll_number (poll_meant t) ≡ t.number
-poll-number t = numbered poll_number (Ok (poll_said t)) (λ n. Err (fault n)) refl own_number t.number
+pub poll-meant-number : (t : PollTold) → t.number ≤ 38 → poll_number (poll_meant t) ≡ t.number
+poll-meant-number t = numbered poll_number (Ok (poll_said t)) (λ n. Err (fault n)) refl own_number t.number
 
 refused-number : (place n : ℕ) → (n ≡ 0 → ⊥) → n ≤ 38 → reply_number (pick (eqb n 7) (Err (InNoChart place)) (Err (fault n))) ≡ n
 refused-number place n some h = go (eqb n 7) refl
@@ -87,18 +92,18 @@ refused-number place n some h = go (eqb n 7) refl
     go true e = sym (eqb-true n 7 e)
     go false e = own_number n some h
 
-pub reply-number : (t : ReplyTold) → t.number ≤ 38 → reply_number (reply_meant t) ≡ t.number
-reply-number t =
+pub reply-meant-number : (t : ReplyTold) → t.number ≤ 38 → reply_number (reply_meant t) ≡ t.number
+reply-meant-number t =
     numbered reply_number (Ok (reading_by t.kind t.tenths t.level t.alarm1 t.alarm0)) (λ n. pick (eqb n 7) (Err (InNoChart t.place)) (Err (fault n))) refl (refused-number t.place) t.number
 
-pub written-number : (d : Done) → d.number ≤ 38 → written_number (written_meant d) ≡ d.number
-written-number d = numbered written_number (Ok d.count) (λ n. Err (fault n)) refl own_number d.number
+pub written-meant-number : (d : Done) → d.number ≤ 38 → written_number (written_meant d) ≡ d.number
+written-meant-number d = numbered written_number (Ok d.count) (λ n. Err (fault n)) refl own_number d.number
 
-pub saved-number : (d : Done) → d.number ≤ 38 → saved_number (saved_meant d) ≡ d.number
-saved-number d = numbered saved_number (Ok d.count) (λ n. Err (fault n)) refl own_number d.number
+pub saved-meant-number : (d : Done) → d.number ≤ 38 → saved_number (saved_meant d) ≡ d.number
+saved-meant-number d = numbered saved_number (Ok d.count) (λ n. Err (fault n)) refl own_number d.number
 
-pub counted-number : (d : Done) → d.number ≤ 38 → counted_number (counted_meant d) ≡ d.number
-counted-number d = numbered counted_number (Ok d.count) (λ n. Err (fault n)) refl own_number d.number
+pub counted-meant-number : (d : Done) → d.number ≤ 38 → counted_number (counted_meant d) ≡ d.number
+counted-meant-number d = numbered counted_number (Ok d.count) (λ n. Err (fault n)) refl own_number d.number
 
 -- No state but a refusal's has a number.
 state-number : (state : ℕ) (head : Head) → found_number (state_meant state head) ≡ 0
@@ -110,6 +115,74 @@ state-number state head = go (eqb state 1) (eqb state 2) (eqb state 3)
     go false false true = refl
     go false false false = refl
 
-pub slot-number : (t : SlotTold) → t.number ≤ 38 → found_number (slot_meant t).found ≡ t.number
-slot-number t =
+pub slot-meant-number : (t : SlotTold) → t.number ≤ 38 → found_number (slot_meant t).found ≡ t.number
+slot-meant-number t =
     numbered found_number (state_meant t.state (head_meant t)) (λ n. found.Refused (fault n)) (state-number t.state (head_meant t)) own_number t.number
+
+-- The number among any integers is that of what is read of them, whether the table has it or not.
+any-numbered : {A : Type 0} (number : A → ℕ) (good : A) (bad : ℕ → A) → number good ≡ 0 → ((n : ℕ) → number (bad n) ≡ n) → (n : ℕ) → number (pick (eqb n 0) good (bad n)) ≡ n
+any-numbered number good bad g b n = go (eqb n 0) refl
+  where
+    go : (t : Bool) → eqb n 0 ≡ t → number (pick t good (bad n)) ≡ n
+    go true e = g ∙ sym (eqb-true n 0 e)
+    go false e = b n
+
+-- So of an answer that is a value or a number alone.
+read-number : {A : Type 0} (a : A) (n : ℕ) → number_read (pick (eqb n 0) (Ok a) (Err n)) ≡ n
+read-number a = any-numbered number_read (Ok a) (λ n. Err n) refl (λ n. refl)
+
+pub poll-number : (t : PollTold) → number_read (poll_read t) ≡ t.number
+poll-number t = read-number (poll_said t) t.number
+
+pub reply-number : (t : ReplyTold) → reply_number_read (reply_read t) ≡ t.number
+reply-number t =
+    any-numbered reply_number_read (Ok (reading_by t.kind t.tenths t.level t.alarm1 t.alarm0)) (λ n. Err (refused_at n t.place)) refl (λ n. refl) t.number
+
+pub written-number : (d : Done) → number_read (written_read d) ≡ d.number
+written-number d = read-number d.count d.number
+
+pub saved-number : (d : Done) → number_read (saved_read d) ≡ d.number
+saved-number d = read-number d.count d.number
+
+pub counted-number : (d : Done) → number_read (counted_read d) ≡ d.number
+counted-number d = read-number d.count d.number
+
+pub slot-number : (t : SlotTold) → found_number_read (slot_read t) ≡ t.number
+slot-number t =
+    any-numbered found_number_read (Ok (state_meant t.state (head_meant t))) (λ n. Err n) (state-number t.state (head_meant t)) (λ n. refl) t.number
+
+-- With its fault named, what is read of any integers is what they stand for.
+named-read : {A : Type 0} (t : Bool) (a : A) (n : ℕ) → pick t (Ok a) (Err (fault n)) ≡ named (pick t (Ok a) (Err n))
+named-read true a n = refl
+named-read false a n = refl
+
+pub poll-named : (t : PollTold) → poll_meant t ≡ named (poll_read t)
+poll-named t = named-read (eqb t.number 0) (poll_said t) t.number
+
+pub reply-named : (t : ReplyTold) → reply_meant t ≡ reply_named (reply_read t)
+reply-named t = go (eqb t.number 0)
+  where
+    refused : (s : Bool) → ◌≡◌ {A = Result Reading Fault} (pick s (Err (InNoChart t.place)) (Err (fault t.number))) (Err (pick s (InNoChart (pick s t.place 0)) (fault t.number)))
+    refused true = refl
+    refused false = refl
+
+    go : (b : Bool) → let good = reading_by t.kind t.tenths t.level t.alarm1 t.alarm0 in pick b (Ok good) (pick (eqb t.number 7) (Err (InNoChart t.place)) (Err (fault t.number))) ≡ reply_named (pick b (Ok good) (Err (refused_at t.number t.place)))
+    go true = refl
+    go false = refused (eqb t.number 7)
+
+pub written-named : (d : Done) → written_meant d ≡ named (written_read d)
+written-named d = named-read (eqb d.number 0) d.count d.number
+
+pub saved-named : (d : Done) → saved_meant d ≡ named (saved_read d)
+saved-named d = named-read (eqb d.number 0) d.count d.number
+
+pub counted-named : (d : Done) → counted_meant d ≡ named (counted_read d)
+counted-named d = named-read (eqb d.number 0) d.count d.number
+
+-- Of a slot, the reply bytes stand beside what is read.
+pub slot-named : (t : SlotTold) → slot_meant t ≡ record { found = found_named (slot_read t); reply = t.reply }
+slot-named t = go (eqb t.number 0)
+  where
+    go : (b : Bool) → let state = state_meant t.state (head_meant t) in ◌≡◌ {A = Looked} (record { found = pick b state (found.Refused (fault t.number)); reply = t.reply }) (record { found = found_named (pick b (Ok state) (Err t.number)); reply = t.reply })
+    go true = refl
+    go false = refl

@@ -8,6 +8,7 @@ use Rattle.sheet.specs.declared.Found.{Found}
 use Rattle.sheet.specs.declared.Found.TheVariants as found
 use Rattle.sheet.specs.declared.Head.{Head}
 use Rattle.sheet.specs.declared.Looked.{Looked}
+use Rattle.sheet.specs.Look.{found_number}
 use Rattle.frame.specs.Kinds.{is_set, kind_of, tenths_of, reading_by}
 use Rattle.export_told.specs.declared.PollTold.{PollTold}
 use Rattle.export_told.specs.declared.ReplyTold.{ReplyTold}
@@ -107,6 +108,63 @@ state_meant state head =
 abbrev pub slot_meant : SlotTold → Looked
 slot_meant t =
     record { found = pick (eqb t.number 0) (state_meant t.state (head_meant t)) (found.Refused (fault t.number)); reply = t.reply }
+
+-- Integers are also read by their number alone: they are what is good, or a refusal by that number. So every number keeps a meaning of its own, one above 38
+-- too, which has no fault. With the fault of the number named, what is read is what the integers stand for: `proofs/Kept.antt` of `export` has both laws.
+abbrev pub number_read : {A : Type 0} → Result A ℕ → ℕ
+number_read (Ok a) = 0
+number_read (Err n) = n
+
+abbrev pub named : {A : Type 0} → Result A ℕ → Result A Fault
+named (Ok a) = Ok a
+named (Err n) = Err (fault n)
+
+abbrev pub poll_read : PollTold → Result Poll ℕ
+poll_read t = pick (eqb t.number 0) (Ok (poll_said t)) (Err t.number)
+
+-- What a reply is refused by: a number, and the place beside 7; beside any other number 0.
+pub record RefusedAt : Type 0 where
+  pub number : ℕ
+  pub place : ℕ
+
+abbrev pub refused_at : ℕ → ℕ → RefusedAt
+refused_at number place = record { number = number; place = pick (eqb number 7) place 0 }
+
+abbrev pub fault_at : RefusedAt → Fault
+fault_at r = pick (eqb r.number 7) (InNoChart r.place) (fault r.number)
+
+abbrev pub reply_read : ReplyTold → Result Reading RefusedAt
+reply_read t =
+    pick (eqb t.number 0) (Ok (reading_by t.kind t.tenths t.level t.alarm1 t.alarm0)) (Err (refused_at t.number t.place))
+
+abbrev pub reply_number_read : Result Reading RefusedAt → ℕ
+reply_number_read (Ok a) = 0
+reply_number_read (Err r) = r.number
+
+abbrev pub reply_named : Result Reading RefusedAt → Result Reading Fault
+reply_named (Ok a) = Ok a
+reply_named (Err r) = Err (fault_at r)
+
+abbrev pub written_read : Done → Result ℕ ℕ
+written_read d = pick (eqb d.number 0) (Ok d.count) (Err d.number)
+
+abbrev pub saved_read : Done → Result ℕ ℕ
+saved_read d = pick (eqb d.number 0) (Ok d.count) (Err d.number)
+
+abbrev pub counted_read : Done → Result ℕ ℕ
+counted_read d = pick (eqb d.number 0) (Ok d.count) (Err d.number)
+
+-- Of a slot what was found is read; the reply bytes stand beside it as they are.
+abbrev pub slot_read : SlotTold → Result Found ℕ
+slot_read t = pick (eqb t.number 0) (Ok (state_meant t.state (head_meant t))) (Err t.number)
+
+abbrev pub found_number_read : Result Found ℕ → ℕ
+found_number_read (Ok f) = found_number f
+found_number_read (Err n) = n
+
+abbrev pub found_named : Result Found ℕ → Found
+found_named (Ok f) = f
+found_named (Err n) = found.Refused (fault n)
 
 -- The bit count of what was found fits one byte. It does whenever `look` finds a record.
 abbrev pub count_fits : Found → Type 0
