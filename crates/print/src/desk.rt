@@ -2,6 +2,7 @@
 ghost use Rattle.std.specs.Prelude.{◌≡◌, ◌≤◌, IfOk, IfSome};
 ghost use Rattle.calendar.specs.Days.{days_in};
 ghost use Rattle.cards.specs.Tally.{tally_of};
+ghost use Rattle.print.specs.declared.desk.Stop.TheVariants.{Failed};
 
 use calendar::Day;
 use cards::Tally;
@@ -37,6 +38,8 @@ pub enum Stop {
 }
 
 impl From<io::Error> for Stop {
+    ghost from_gives = { λ why s. s ≡ Failed why };
+
     fn from(why: io::Error) -> Stop {
         Stop::Failed(why)
     }
