@@ -21,6 +21,7 @@ use Rattle.forms.specs.Days.{moment_text}
 use Rattle.forms.specs.Words.{fault_text}
 use Rattle.layers.specs.Drawing as drawing
 use Rattle.layers.specs.Drawing.{nothing, stands, heat_value, value_in, point_text, alarm_mark, fault_mark, part_text, line_goes_on, layer_text}
+use Rattle.promises_picture.proofs.EachFault as each
 use Rattle.promises_picture.specs.Drawn.{Point, point_in, heat_at, heat_in, points_by, onto, parted, runs_by, on_to, line_text, lines_text, all_points, faulty_mark_text, mark_in, faulty_marks, joined, alarm_in, alarms, DrawnAsListed}
 use Rattle.std.specs.Prelude.{Option, Result, Ok, Err}
 use Rattle.frame.specs.declared.faults.Fault.{Fault}
@@ -158,7 +159,8 @@ no-mark m r = refl
 mark-step : (b : Option Day) (m : ℕ) (reply : Result Reading Fault) (ts : List (List ℕ)) → drawing.mark_text b 2 m reply ++ joined ts ≡ joined (mark_in b m reply ++ ts)
 unfolding joined
 mark-step b m (Ok r) ts = ap (λ (t : List ℕ). t ++ joined ts) (no-mark m r)
-mark-step b m (Err f) ts = ap (λ (t : List ℕ). t ++ joined ts) (fault-mark b m (number_of f) (place_named f))
+mark-step b m (Err f) ts =
+    ap (λ (t : List ℕ). t ++ joined ts) (fault-mark b m (number_of f) (place_named f)) ∙ ap (λ (s : List (List ℕ)). joined (s ++ ts)) (sym (each.mark-of b m f))
 
 marks-opened : (b : Option Day) (j : Bool) (e : Entry) (l : List Entry) → layer_text b 2 j (e ∷ l) ≡ drawing.mark_text b 2 e.minute (reply_in e) ++ layer_text b 2 false l
 unfolding layer_text part_text line_goes_on
@@ -172,7 +174,7 @@ marks-of b j (e ∷ l) =
 
 each_step : (b : Option Day) (m : ℕ) (reply : Result Reading Fault) (ts : List (List ℕ)) → length (mark_in b m reply ++ ts) ≡ fault_in reply + length ts
 each_step b m (Ok r) ts = omega arith
-each_step b m (Err f) ts = omega arith
+each_step b m (Err f) ts = ap (λ (s : List (List ℕ)). length (s ++ ts)) (each.mark-of b m f) ∙ omega arith
 
 each_of : (b : Option Day) (l : List Entry) → length (faulty_marks b l) ≡ faults l
 unfolding faulty_marks faults

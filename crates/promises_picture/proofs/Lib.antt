@@ -1,4 +1,5 @@
 -- The theorems of the promises.
+mod EachFault
 pub mod DrawnAsListed
 pub mod Read
 pub mod PlainWords

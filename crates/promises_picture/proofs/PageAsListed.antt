@@ -1,6 +1,6 @@
 -- The page of a sheet, read: each part of it in turn, and then the whole. A part is a tag with plain words behind it, or some tags that are passed over; what the
 -- call leaves begins with the page. Assumes nothing.
-use mathlib.Core.Path.{◌≡◌, refl, sym, ap, ◌∙◌}
+use mathlib.Core.Path.{◌≡◌, refl, sym, ap, subst, ◌∙◌}
 use mathlib.Core.Bool.{Bool, true, false}
 use mathlib.Core.List.{List, [], ◌∷◌, ◌++◌, map, append-nil, append_assoc}
 use Prim.Native.Nat.{ℕ, ◌+◌, ◌-◌}
@@ -35,6 +35,7 @@ use Rattle.picture.specs.Page.{heading_text, value_text, label_text, scale_text,
 use Rattle.promises_picture.specs.Drawn.{point_in, heat_in, runs_by, lines_text, faulty_mark_text, mark_in, faulty_marks, joined, alarm_in, alarms}
 use Rattle.promises_picture.specs.Reader.{up_to, name_of, alike, one_of, closes, passed_over, read_of, plain}
 use Rattle.promises_picture.specs.OnPage.{titled, drawn, bar_of, bar_in, bars, words_of, words_in, in_words, dot_in, dots, section_of, sections_of, above_of, PageAsListed}
+use Rattle.promises_picture.proofs.EachFault as each
 use Rattle.promises_picture.proofs.Read.{Part, nothing_said, then, text-is, says_is, a-tag, quiet-tag, lacks, words-first, form-next, all_words, one_number}
 use Rattle.promises_picture.proofs.PlainWords.{Plain, join, either, none, number, filled, chosen, a-year, a-month-day, a-moment, a-level, degrees, a-mode, a-type, a-fault, a-bound, a-last, a-heat, off-scale, all_kinds, all_lines}
 use Rattle.promises_picture.proofs.DrawnAsListed.{whole-line, whole-heat, marks-of, alarm1-of, alarm0-of}
@@ -652,7 +653,10 @@ bar-part b m n place =
 mark-part : (b : Option Day) (m : ℕ) (reply : Result Reading Fault) → Part (joined (mark_in b m reply)) (bar_in b m reply)
 unfolding joined
 mark-part b m (Ok r) = nothing_said
-mark-part b m (Err f) = text-is (sym (append-nil (faulty_mark_text b m (number_of f) (place_named f)))) (bar-part b m (number_of f) (place_named f))
+mark-part b m (Err f) =
+    let text = faulty_mark_text b m (number_of f) (place_named f) in
+    subst (λ (t : List (List ℕ)). Part (joined t) (bar_in b m (Err f))) (sym (each.mark-of b m f))
+    (subst (λ (s : List (List ℕ)). Part (joined (text ∷ [])) s) (sym (each.bar-is b m f)) (text-is (sym (append-nil text)) (bar-part b m (number_of f) (place_named f))))
 
 joined-none : [] ≡ joined []
 unfolding joined
