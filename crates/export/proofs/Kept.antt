@@ -73,17 +73,17 @@ pub slots_kept : (sheet : List ℕ) (answer : Done) → SisalSlots sheet answer 
 slots_kept sheet answer =
     kept counted_told counted_meant (Counts sheet) (λ b r. from counted_told counted_meant r.answers (counted_back sheet))
 
--- The number in an answer is the paper's number of what it stands for, where the table has it.
-numbered : {A : Type 0} (number : A → ℕ) (good : A) (bad : ℕ → A) → number good ≡ 0 → ((n : ℕ) → (n ≡ 0 → ⊥) → n ≤ 38 → number (bad n) ≡ n)
-    → (n : ℕ) → n ≤ 38 → number (pick (eqb n 0) good (bad n)) ≡ n
-numbered number good bad g b n h = go (eqb n 0) refl
+-- What is good has number 0, and what is refused by a number has that number: so has the one of the two that the number picks.
+numbered : {A : Type 0} (number : A → ℕ) (good bad : A) (n : ℕ) → number good ≡ 0 → ((n ≡ 0 → ⊥) → number bad ≡ n) → number (pick (eqb n 0) good bad) ≡ n
+numbered number good bad n g b = go (eqb n 0) refl
   where
-    go : (t : Bool) → eqb n 0 ≡ t → number (pick t good (bad n)) ≡ n
+    go : (t : Bool) → eqb n 0 ≡ t → number (pick t good bad) ≡ n
     go true e = g ∙ sym (eqb-true n 0 e)
-    go false e = b n (eqb-false n 0 e) h
+    go false e = b (eqb-false n 0 e)
 
+-- The number in an answer is the paper's number of what it stands for, where the table has it.
 pub poll-meant-number : (t : PollTold) → t.number ≤ 38 → poll_number (poll_meant t) ≡ t.number
-poll-meant-number t = numbered poll_number (Ok (poll_said t)) (λ n. Err (fault n)) refl own_number t.number
+poll-meant-number t h = numbered poll_number (Ok (poll_said t)) (Err (fault t.number)) t.number refl (λ some. own_number t.number some h)
 
 refused-number : (place n : ℕ) → (n ≡ 0 → ⊥) → n ≤ 38 → reply_number (pick (eqb n 7) (Err (InNoChart place)) (Err (fault n))) ≡ n
 refused-number place n some h = go (eqb n 7) refl
@@ -93,17 +93,18 @@ refused-number place n some h = go (eqb n 7) refl
     go false e = own_number n some h
 
 pub reply-meant-number : (t : ReplyTold) → t.number ≤ 38 → reply_number (reply_meant t) ≡ t.number
-reply-meant-number t =
-    numbered reply_number (Ok (reading_by t.kind t.tenths t.level t.alarm1 t.alarm0)) (λ n. pick (eqb n 7) (Err (InNoChart t.place)) (Err (fault n))) refl (refused-number t.place) t.number
+reply-meant-number t h =
+    numbered reply_number (Ok (reading_by t.kind t.tenths t.level t.alarm1 t.alarm0)) (pick (eqb t.number 7) (Err (InNoChart t.place)) (Err (fault t.number))) t.number refl
+    (λ some. refused-number t.place t.number some h)
 
 pub written-meant-number : (d : Done) → d.number ≤ 38 → written_number (written_meant d) ≡ d.number
-written-meant-number d = numbered written_number (Ok d.count) (λ n. Err (fault n)) refl own_number d.number
+written-meant-number d h = numbered written_number (Ok d.count) (Err (fault d.number)) d.number refl (λ some. own_number d.number some h)
 
 pub saved-meant-number : (d : Done) → d.number ≤ 38 → saved_number (saved_meant d) ≡ d.number
-saved-meant-number d = numbered saved_number (Ok d.count) (λ n. Err (fault n)) refl own_number d.number
+saved-meant-number d h = numbered saved_number (Ok d.count) (Err (fault d.number)) d.number refl (λ some. own_number d.number some h)
 
 pub counted-meant-number : (d : Done) → d.number ≤ 38 → counted_number (counted_meant d) ≡ d.number
-counted-meant-number d = numbered counted_number (Ok d.count) (λ n. Err (fault n)) refl own_number d.number
+counted-meant-number d h = numbered counted_number (Ok d.count) (Err (fault d.number)) d.number refl (λ some. own_number d.number some h)
 
 -- No state but a refusal's has a number.
 state-number : (state : ℕ) (head : Head) → found_number (state_meant state head) ≡ 0
@@ -116,27 +117,20 @@ state-number state head = go (eqb state 1) (eqb state 2) (eqb state 3)
     go false false false = refl
 
 pub slot-meant-number : (t : SlotTold) → t.number ≤ 38 → found_number (slot_meant t).found ≡ t.number
-slot-meant-number t =
-    numbered found_number (state_meant t.state (head_meant t)) (λ n. found.Refused (fault n)) (state-number t.state (head_meant t)) own_number t.number
+slot-meant-number t h =
+    numbered found_number (state_meant t.state (head_meant t)) (found.Refused (fault t.number)) t.number (state-number t.state (head_meant t))
+    (λ some. own_number t.number some h)
 
--- The number among any integers is that of what is read of them, whether the table has it or not.
-any-numbered : {A : Type 0} (number : A → ℕ) (good : A) (bad : ℕ → A) → number good ≡ 0 → ((n : ℕ) → number (bad n) ≡ n) → (n : ℕ) → number (pick (eqb n 0) good (bad n)) ≡ n
-any-numbered number good bad g b n = go (eqb n 0) refl
-  where
-    go : (t : Bool) → eqb n 0 ≡ t → number (pick t good (bad n)) ≡ n
-    go true e = g ∙ sym (eqb-true n 0 e)
-    go false e = b n
-
--- So of an answer that is a value or a number alone.
+-- The number among any integers is that of what is read of them, whether the table has it or not: first where that is a value or a number alone.
 read-number : {A : Type 0} (a : A) (n : ℕ) → number_read (pick (eqb n 0) (Ok a) (Err n)) ≡ n
-read-number a = any-numbered number_read (Ok a) (λ n. Err n) refl (λ n. refl)
+read-number a n = numbered number_read (Ok a) (Err n) n refl (λ some. refl)
 
 pub poll-number : (t : PollTold) → number_read (poll_read t) ≡ t.number
 poll-number t = read-number (poll_said t) t.number
 
 pub reply-number : (t : ReplyTold) → reply_number_read (reply_read t) ≡ t.number
 reply-number t =
-    any-numbered reply_number_read (Ok (reading_by t.kind t.tenths t.level t.alarm1 t.alarm0)) (λ n. Err (refused_at n t.place)) refl (λ n. refl) t.number
+    numbered reply_number_read (Ok (reading_by t.kind t.tenths t.level t.alarm1 t.alarm0)) (Err (refused_at t.number t.place)) t.number refl (λ some. refl)
 
 pub written-number : (d : Done) → number_read (written_read d) ≡ d.number
 written-number d = read-number d.count d.number
@@ -149,7 +143,7 @@ counted-number d = read-number d.count d.number
 
 pub slot-number : (t : SlotTold) → found_number_read (slot_read t) ≡ t.number
 slot-number t =
-    any-numbered found_number_read (Ok (state_meant t.state (head_meant t))) (λ n. Err n) (state-number t.state (head_meant t)) (λ n. refl) t.number
+    numbered found_number_read (Ok (state_meant t.state (head_meant t))) (Err t.number) t.number (state-number t.state (head_meant t)) (λ some. refl)
 
 -- With its fault named, what is read of any integers is what they stand for.
 named-read : {A : Type 0} (t : Bool) (a : A) (n : ℕ) → pick t (Ok a) (Err (fault n)) ≡ named (pick t (Ok a) (Err n))

@@ -656,7 +656,7 @@ mark-part b m (Ok r) = nothing_said
 mark-part b m (Err f) =
     let text = faulty_mark_text b m (number_of f) (place_named f) in
     subst (λ (t : List (List ℕ)). Part (joined t) (bar_in b m (Err f))) (sym (each.mark-of b m f))
-    (subst (λ (s : List (List ℕ)). Part (joined (text ∷ [])) s) (sym (each.bar-is b m f)) (text-is (sym (append-nil text)) (bar-part b m (number_of f) (place_named f))))
+    (subst (λ (s : List (List ℕ)). Part (joined (text ∷ [])) s) (sym (each.bar-read-of b m f)) (text-is (sym (append-nil text)) (bar-part b m (number_of f) (place_named f))))
 
 joined-none : [] ≡ joined []
 unfolding joined
